@@ -1,8 +1,6 @@
 -- The lines identify the names.
 use Rattle.std.proofs.Common.{eqb, ◌≡◌, ℕ, Bool, true, false, List, [], ◌∷◌, ◌++◌, refl, sym, ap, ◌∙◌, append_assoc}
-use Rattle.std.specs.List.{list_any}
-use Rattle.std.proofs.lemmas.Bool.{eq-eqb, or_parts, true≢false}
-use Rattle.kt_text.specs.Words.{Text}
+use Rattle.kati.proofs.Common.{list_any, eq-eqb, or_parts, true≢false, Text}
 use Rattle.kati.specs.Names.{LinesTellNames, has_newline, names_text}
 
 abbrev first_of : List ℕ → ℕ

@@ -1,21 +1,11 @@
 -- The names that are asked for up to the end of a step, or until it was stopped.
 use Rattle.std.proofs.Common.{◌≡◌, ℕ, List, [], Result, Ok, Err, refl, sym, ap, ◌∙◌, subst, inl, inr}
-use Rattle.kt_text.specs.Words.{Text}
-use Rattle.kt_eval.specs.declared.stop.Stop.{Stop}
+use Rattle.kati.proofs.Common.{Text, Stop, Store, IsPrefix, ComesBefore, Read, Trace, predefined, read_of, traced, Gives, IfCut, Outcome, Gave, Stopped, left_of, then_do, Plan, front_same, Args, Meaning, MeansAfter, MeansGoals, Wanted, meaning_of, prepared, wanted_by, planned}
 use Rattle.kt_eval.specs.declared.stop.Stop.TheVariants as stops
-use Rattle.kt_eval.specs.files.Files.{Store}
-use Rattle.kt_list.specs.Prefixes.{IsPrefix}
-use Rattle.kt_eval.specs.reading.Machine.{ComesBefore, Read, Trace, predefined, read_of, traced}
-use Rattle.kt_eval.specs.Outcome.{Gives, IfCut, Outcome, Gave, Stopped, left_of, then_do}
-use Rattle.kt_ninja.specs.declared.plan.Plan.{Plan}
-use Rattle.kt_eval.proofs.lemmas.GrowingLemmas.{front_same}
 use Rattle.kt_eval.proofs.lemmas.reading.MachineLemmas.{before_reading}
-use Rattle.kati_args.specs.declared.args.Args.{Args}
 use Rattle.kati.specs.Asked.{NamesAreAsked, names_asked}
 use Rattle.kati.specs.Listing.{listed}
 use Rattle.kati.specs.Makefile.{command_line_table, makefile_names, makefile_read}
-use Rattle.kati.specs.Meaning.{Meaning, MeansAfter, MeansGoals, Wanted, meaning_of, prepared, wanted_by}
-use Rattle.kati.specs.Planning.{planned}
 use Rattle.kati.specs.Steps.{telling}
 use Rattle.kati.proofs.OutcomeLemmas.{asked_then, telling_asks}
 

@@ -1,12 +1,8 @@
 -- What caused a refusal, if no file was asked for.
-use Rattle.std.proofs.Common.{◌≡◌, ℕ, List, Result, Ok, Err}
-use Rattle.std.specs.Prelude.{OnErr, OnOk}
-use Rattle.kt_text.specs.Words.{Text}
+use Rattle.std.proofs.Common.{◌≡◌, ℕ, List, Result, Ok, Err, OnErr, OnOk}
+use Rattle.kati.proofs.Common.{Text, Stop, AsksNothing, BlamesBy}
 use Rattle.kt_eval.proofs.lemmas.AgreementLemmas.{last_held, no_fewer}
-use Rattle.kt_eval.specs.declared.stop.Stop.{Stop}
 use Rattle.kt_eval.specs.declared.stop.Stop.TheVariants as stops
-use Rattle.kt_eval.specs.Outcome.{AsksNothing}
-use Rattle.kt_eval.specs.Step.{BlamesBy}
 
 pub asks_blames : {A : Type 0} (result : Result A Stop) (old new : ℕ) (names : List Text) → new ≡ old → AsksNothing result → BlamesBy result old new names
 asks_blames (Ok x) old new names same h = same

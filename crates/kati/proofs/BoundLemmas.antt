@@ -1,26 +1,9 @@
 -- A list that holds all names that goals may need: those that rules name, and texts of bounded length.
-use Rattle.std.proofs.Common.{◌≡◌, ◌⊎◌, ◌≤◌, ℕ, Bool, true, false, not, List, [], ◌∷◌, ◌++◌, length, filter, flat_map, Option, Some, None, refl, sym, ap, subst, ⊎_elim, inl, inr, if◌then◌else◌}
-use Rattle.std.specs.Prelude.{option_map, slice_get}
-use Rattle.std.specs.List.{Contains, after_last, before_last, last_or, list_any}
-use Rattle.std.specs.Option.{option_and_then}
-use Rattle.std.proofs.lemmas.List.Elements.{Contains-append_cases, Contains-append_left, Contains-append_right}
-use Rattle.std.proofs.lemmas.Option.{none-some, same_Some}
-use Rattle.kt_text.specs.Words.{Text}
+use Rattle.std.proofs.Common.{◌≡◌, ◌⊎◌, ◌≤◌, ℕ, Bool, true, false, not, List, [], ◌∷◌, ◌++◌, length, filter, flat_map, Option, Some, None, refl, sym, ap, subst, ⊎_elim, inl, inr, if◌then◌else◌, option_map, slice_get}
+use Rattle.kati.proofs.Common.{Contains, after_last, before_last, last_or, list_any, option_and_then, Contains-append_cases, Contains-append_left, Contains-append_right, none-some, same_Some, Text, Target, Rule, needs_for, is_among, without_repeats, all_needs, is_suffix_rule, suffixes_of, Candidate, Part, bare_part, chosen_rule, double_node, inputs_of, joined_needs, needs_after, node_by, node_of, order_only_of, other_rules, own_part, searched, used_rule, HasInput, first_or_rest, from_flat_map, in_first, in_flat_map, in_rest, chosen_is, Contains-from_map, Contains-none, from_filter, from_without_repeats}
 use Rattle.kt_rules.specs.declared.entry.Needs.{Needs}
-use Rattle.kt_rules.specs.declared.entry.Target.{Target}
-use Rattle.kt_rules.specs.Entry.{Rule, needs_for}
-use Rattle.kt_rules.specs.Names.{is_among, without_repeats}
-use Rattle.kt_rules.specs.Suffixes.{all_needs, is_suffix_rule, suffixes_of}
 use Rattle.kt_rules.specs.Book.{explicit_rules, has_recipe, is_double, is_made, is_phony, patterns_of, rules_of, target_rules}
-use Rattle.kt_graph.specs.search.Candidates.{Candidate}
-use Rattle.kt_graph.specs.nodes.Node.{Part, bare_part, chosen_rule, double_node, inputs_of, joined_needs, needs_after, node_by, node_of, order_only_of, other_rules, own_part, searched, used_rule}
-use Rattle.kt_graph.specs.Reach.{HasInput}
 use Rattle.kt_graph.specs.search.Search.{choice_of}
-use Rattle.kt_list.proofs.general.Elements.{first_or_rest, from_flat_map, in_first, in_flat_map, in_rest}
-use Rattle.kt_graph.proofs.lemmas.nodes.MadeLemmas.{chosen_is}
-use Rattle.kt_graph.proofs.lemmas.MemberLemmas.{Contains-from_map, Contains-none}
-use Rattle.kt_graph.proofs.lemmas.faults.TroubleLemmas.{from_filter}
-use Rattle.kt_graph.proofs.lemmas.search.UnknownLemmas.{from_without_repeats}
 use Rattle.kati.proofs.ClosingLemmas.{IsClosed}
 use Rattle.kati.proofs.FitLemmas.{Below, bound, chosen_fits, from_drop, from_take, from_texts, in_bound, in_texts, least_bound, texts}
 

@@ -1,16 +1,6 @@
 -- Lists that are closed under steps, and what can be decided of their members.
 use Rattle.std.proofs.Common.{◌≡◌, ◌⊎◌, ◌≤◌, ℕ, zero, suc, Bool, true, false, List, [], ◌∷◌, ◌++◌, length, refl, sym, ap, ◌∙◌, subst, ⊎_elim, inl, inr, arith}
-use Rattle.std.specs.List.{Contains}
-use Rattle.std.specs.Str.{bytes_eq}
-use Rattle.std.proofs.lemmas.Bool.{true≢false}
-use Rattle.std.proofs.lemmas.List.{length-append}
-use Rattle.std.proofs.lemmas.List.Elements.{Contains-append_cases, Contains-append_left, Contains-append_right}
-use Rattle.std.proofs.lemmas.Slice.Eq.{bytes_eq-Decides}
-use Rattle.kt_list.proofs.general.Elements.{first_or_rest, in_first, in_rest}
-use Rattle.kt_text.specs.Words.{Text}
-use Rattle.kt_rules.specs.Entry.{Rule}
-use Rattle.kt_graph.specs.Reach.{HasInput}
-use Rattle.kt_graph.proofs.lemmas.MemberLemmas.{Contains-none}
+use Rattle.kati.proofs.Common.{Contains, bytes_eq, true≢false, length-append, Contains-append_cases, Contains-append_left, Contains-append_right, bytes_eq-Decides, first_or_rest, in_first, in_rest, Text, Rule, HasInput, Contains-none}
 
 -- whether something holds can be decided
 abbrev pub Decided : Type 0 → Type 0

@@ -1,20 +1,8 @@
 -- The statements read from a sketch are those of the plan.
-use Rattle.std.proofs.Common.{◌≡◌, ◌<◌, ℕ, ◌+◌, Bool, true, false, not, List, [], ◌∷◌, ◌++◌, length, drop, get_or, Option, Some, None, Result, Ok, Err, refl, sym, ap, ◌∙◌, append-nil, arith, zero, suc, ◌&&◌, ◌||◌}
-use Rattle.std.specs.Prelude.{IfOk, is_some, min, slice_get}
-use Rattle.std.specs.List.{list_any}
-use Rattle.std.proofs.lemmas.List.{append_assoc, drop_more, length-append}
-use Rattle.kt_text.specs.Words.{Text}
-use Rattle.kt_rules.specs.Entry.{Rule}
-use Rattle.kt_rules.specs.Names.{without_repeats}
-use Rattle.kt_eval.specs.Outcome.{Outcome, Gave, Stopped, Fails, Gives, done, then_do}
-use Rattle.kt_eval.specs.macros.Macros.{Table}
-use Rattle.kt_eval.specs.declared.stop.Stop.{Stop}
+use Rattle.std.proofs.Common.{◌≡◌, ◌<◌, ℕ, ◌+◌, Bool, true, false, not, List, [], ◌∷◌, ◌++◌, length, drop, get_or, Option, Some, None, Result, Ok, Err, refl, sym, ap, ◌∙◌, append-nil, arith, zero, suc, ◌&&◌, ◌||◌, IfOk, is_some, min, slice_get}
+use Rattle.kati.proofs.Common.{list_any, append_assoc, drop_more, length-append, Text, Rule, without_repeats, Outcome, Gave, Stopped, Fails, Gives, done, then_do, Table, Stop, Node, order_only_of, Statement, is_empty, command_for, has_implicit, has_phony, implicit_of, joined_inputs, made_by, outs_of, plan_groups, statement_of, with_always_built}
 use Rattle.kt_eval.specs.declared.stop.Stop.TheVariants as stops
-use Rattle.kt_graph.specs.nodes.Node.{Node, order_only_of}
 use Rattle.kt_ninja.specs.declared.plan.Made.{Made}
-use Rattle.kt_ninja.specs.declared.plan.Statement.{Statement}
-use Rattle.kt_ninja.specs.Writable.{is_empty}
-use Rattle.kati.specs.Planning.{command_for, has_implicit, has_phony, implicit_of, joined_inputs, made_by, outs_of, plan_groups, statement_of, with_always_built}
 use Rattle.kati.specs.inner.Drawn.{AlwaysFirst, Drawn, always_drawn, draw_groups, drawn_of, statement_drawn, statements_drawn}
 use Rattle.kati.proofs.SingleLemmas.{own_inputs, own_order_only}
 

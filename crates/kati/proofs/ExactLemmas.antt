@@ -1,29 +1,7 @@
 -- Each plan that a run means is the graph of what its goals need.
 use Rattle.std.proofs.Common.{◌≡◌, ◌≢◌, ◌⊎◌, ℕ, zero, suc, Bool, true, false, not, cond, List, [], ◌∷◌, ◌++◌, map, Option, Ok, refl, sym, ap, ◌∙◌, subst, ⊎_elim, inl, inr, arith}
-use Rattle.std.specs.List.{AllPairs, Contains, list_any}
-use Rattle.std.specs.List.Sorted.{IsStrictlySortedBy}
-use Rattle.std.proofs.lemmas.Bool.{false≢true}
-use Rattle.std.proofs.lemmas.List.Concat.{flat_map-cons}
-use Rattle.std.proofs.lemmas.List.Elements.{Contains-append_cases, Contains-append_right}
-use Rattle.kt_text.specs.Words.{Text}
-use Rattle.kt_rules.specs.Entry.{Rule}
-use Rattle.kt_eval.specs.reading.Machine.{Read, Trace, traced}
-use Rattle.kt_eval.specs.Outcome.{Gave}
-use Rattle.kt_graph.specs.faults.Faults.{IsSoundGraph}
-use Rattle.kt_graph.specs.nodes.Groups.{groups_of, leader_name, made_nodes}
-use Rattle.kt_graph.specs.nodes.Node.{Node, is_leaf, node_of}
-use Rattle.kt_graph.specs.Reach.{IsGraph, IsMade}
-use Rattle.kt_graph.proofs.lemmas.MemberLemmas.{Contains-from_map, Contains-map, Contains-none}
-use Rattle.kt_graph.proofs.lemmas.faults.TroubleLemmas.{filter_there, from_filter}
-use Rattle.kt_ninja.specs.Plan.{outputs}
-use Rattle.kt_ninja.specs.Writable.{IsWritable}
-use Rattle.kt_ninja.specs.declared.plan.Plan.{Plan}
-use Rattle.kt_ninja.specs.declared.plan.Statement.{Statement}
+use Rattle.kati.proofs.Common.{AllPairs, Contains, list_any, IsStrictlySortedBy, false≢true, flat_map-cons, Contains-append_cases, Contains-append_right, Text, Rule, Read, Trace, traced, Gave, IsSoundGraph, groups_of, leader_name, made_nodes, Node, is_leaf, node_of, IsGraph, IsMade, Contains-from_map, Contains-map, Contains-none, filter_there, from_filter, outputs, IsWritable, Plan, Statement, Meaning, MeansGoals, Wanted, prepared, always_build, always_built, command_for, first_output, has_implicit, outs_of, plan_groups, plan_of, statement_of, with_always_built, gave_both, first_or_rest, from_flat_map, in_first, in_flat_map, in_rest}
 use Rattle.kati.specs.Exact.{IsAlwaysBuilt, IsMadeOnce, IsOfGroup, PlansAreGraphs, StandInOrder, TellsGraph}
-use Rattle.kati.specs.Meaning.{Meaning, MeansGoals, Wanted, prepared}
-use Rattle.kati.specs.Planning.{always_build, always_built, command_for, first_output, has_implicit, outs_of, plan_groups, plan_of, statement_of, with_always_built}
-use Rattle.kt_recipe.proofs.CommandLemmas.{gave_both}
-use Rattle.kt_list.proofs.general.Elements.{first_or_rest, from_flat_map, in_first, in_flat_map, in_rest}
 use Rattle.kati.proofs.PlanLemmas.{law, name_in, name_reached, node_is, order, outs_in, outs_told, statements_in}
 use Rattle.kati.proofs.ReadBackLemmas.{has_plan, plan_given, read_back, went_on}
 

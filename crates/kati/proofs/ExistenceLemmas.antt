@@ -1,32 +1,11 @@
 -- Each run has a meaning: the result of its goals can be decided, since the names that they may need are in a list.
 use Rattle.std.proofs.Common.{◌≡◌, ◌⊎◌, ℕ, Bool, true, false, List, [], ◌∷◌, ◌++◌, map, filter, find, flat_map, Option, Some, None, refl, sym, ap, ◌∙◌, subst, ⊎_elim, inl, inr}
-use Rattle.std.specs.List.{Contains, list_any}
-use Rattle.std.specs.List.Sorted.{IsStrictlySortedBy}
-use Rattle.std.specs.Ordering.{nat_cmp}
-use Rattle.std.specs.Cmp.Lexicographic.{slice_cmp}
-use Rattle.std.proofs.lemmas.Bool.{false≢true}
-use Rattle.kt_text.specs.Words.{Text}
-use Rattle.kt_text.specs.Functions.{word_set}
+use Rattle.kati.proofs.Common.{Contains, list_any, IsStrictlySortedBy, nat_cmp, slice_cmp, false≢true, Text, word_set, Rule, IsSoundGraph, fault_number, fault_words, is_one_making, Instance, Node, all_inputs, node_of, is_reserved, AreOneMaking, ComesFirst, HasEdge, HasInput, IsCyclic, IsFirst, IsGraph, IsInGroup, IsReached, Leads, Reaches, Trouble, beside, itself, circular, no_rule, one_file, reserved_name, unmade_goal, first_or_rest, from_flat_map, in_first, in_flat_map, in_rest, input_reached, node_name, comes_first, file_trouble, filter_there, from_filter, is_reserved_there, none_below, group_cases, Trace, traced, Gave, Outcome, Stopped, fault_at, Meaning, MeansAfter, MeansGoals, Wanted, meaning_of, prepared, planned}
 use Rattle.kt_text.proofs.SortLemmas.{word_set-sorts}
-use Rattle.kt_rules.specs.Entry.{Rule}
-use Rattle.kt_graph.specs.faults.Faults.{IsSoundGraph, fault_number, fault_words}
-use Rattle.kt_graph.specs.nodes.Groups.{is_one_making}
-use Rattle.kt_graph.specs.nodes.Node.{Instance, Node, all_inputs, node_of}
-use Rattle.kt_graph.specs.faults.Paths.{is_reserved}
-use Rattle.kt_graph.specs.Reach.{AreOneMaking, ComesFirst, HasEdge, HasInput, IsCyclic, IsFirst, IsGraph, IsInGroup, IsReached, Leads, Reaches, Trouble, beside, itself, circular, no_rule, one_file, reserved_name, unmade_goal}
 use Rattle.kt_graph.specs.inner.faults.Files.{is_repeated, made_names}
 use Rattle.kt_graph.proofs.lemmas.nodes.GroupLemmas.{one_itself, one_same}
-use Rattle.kt_list.proofs.general.Elements.{first_or_rest, from_flat_map, in_first, in_flat_map, in_rest}
-use Rattle.kt_graph.proofs.lemmas.nodes.MadeLemmas.{input_reached, node_name}
 use Rattle.kt_graph.proofs.lemmas.nodes.ReachLemmas.{goal_reached}
-use Rattle.kt_graph.proofs.lemmas.faults.TroubleLemmas.{comes_first, file_trouble, filter_there, from_filter, is_reserved_there, none_below}
-use Rattle.kt_graph.proofs.lemmas.nodes.WholeLemmas.{group_cases}
-use Rattle.kt_eval.specs.reading.Machine.{Trace, traced}
-use Rattle.kt_eval.specs.Outcome.{Gave, Outcome, Stopped}
-use Rattle.kt_eval.specs.Step.{fault_at}
-use Rattle.kati.specs.Meaning.{Meaning, MeansAfter, MeansGoals, Wanted, meaning_of, prepared}
 use Rattle.kati.specs.Once.{HasAMeaning}
-use Rattle.kati.specs.Planning.{planned}
 use Rattle.kati.specs.Steps.{telling}
 use Rattle.kati.proofs.BoundLemmas.{closed_names}
 use Rattle.kati.proofs.ClosingLemmas.{Closed, Decided, FirstOf, IsClosed, closing, decide_in, first_or_none}

@@ -1,10 +1,8 @@
 -- What stands next in a text.
 use Rattle.std.proofs.Common.{◌≡◌, ◌≤◌, ◌+◌, ◌∙◌, ℕ, Bool, true, List, ◌++◌, ap, arith, drop, length, nat_eq, sym, take}
 use Rattle.std.proofs.lemmas.Bool.Decides.{Decides-eqb}
-use Rattle.std.proofs.lemmas.List.{length-append, length-drop}
-use Rattle.std.proofs.lemmas.Slice.Eq.{starts_is}
+use Rattle.kati.proofs.Common.{length-append, length-drop, starts_is, pointwise}
 use Rattle.std.proofs.Math.Seq.{take-add, take-append_seam}
-use Rattle.std.specs.Cmp.Lexicographic.{pointwise}
 
 pub taken_next : (text rest piece : List ℕ) (taken : ℕ) (r : Bool) → rest ≡ drop taken text → taken ≤ length text
     → r ≡ pointwise nat_eq piece (take (length piece) rest) → r ≡ true

@@ -1,26 +1,8 @@
 -- What pattern rules make of names: texts of bounded length, of the symbols that are there.
-use Rattle.std.proofs.Common.{◌≡◌, ◌⊎◌, ◌≤◌, ◌<◌, ◌+◌, ◌-◌, ◌==◌, ◌&&◌, ◌||◌, ℕ, zero, suc, Bool, true, false, not, List, [], ◌∷◌, ◌++◌, length, map, filter, flat_map, take, drop, Option, Some, None, refl, sym, ap, subst, ⊎_elim, arith, if◌then◌else◌}
-use Rattle.std.specs.Prelude.{fold, nat_le, option_map, filter_map}
-use Rattle.std.specs.List.{Contains, list_any, slice_range}
-use Rattle.std.specs.Option.{option_and_then, option_to_list}
-use Rattle.std.proofs.lemmas.Bool.{leb-true}
-use Rattle.std.proofs.lemmas.List.{take-append-drop}
-use Rattle.std.proofs.lemmas.List.Elements.{Contains-append_cases, Contains-append_left, Contains-append_right}
-use Rattle.std.proofs.lemmas.Option.{none-some, same_Some}
-use Rattle.kt_text.specs.Words.{Text}
-use Rattle.kt_text.specs.Functions.{name_part, with_stem}
+use Rattle.std.proofs.Common.{◌≡◌, ◌⊎◌, ◌≤◌, ◌<◌, ◌+◌, ◌-◌, ◌==◌, ◌&&◌, ◌||◌, ℕ, zero, suc, Bool, true, false, not, List, [], ◌∷◌, ◌++◌, length, map, filter, flat_map, take, drop, Option, Some, None, refl, sym, ap, subst, ⊎_elim, arith, if◌then◌else◌, fold, nat_le, option_map, filter_map}
+use Rattle.kati.proofs.Common.{Contains, list_any, slice_range, option_and_then, option_to_list, leb-true, take-append-drop, Contains-append_cases, Contains-append_left, Contains-append_right, none-some, same_Some, Text, name_part, with_stem, Target, Rule, after_dots, without_dots, all_needs, Candidate, are_short, candidate_by, candidate_of, candidate_with, candidates_for, directory_of, fit_of, has_slash, left_out, matched_part, matching_from, needed_name, needed_names, nonempty, shorter, shortest, size_of, spelled_out, stem_of, unless_long, without_any, first_or_rest, from_flat_map, in_first, in_flat_map, in_rest, Contains-from_map, Contains-map, Contains-none, each_passes, from_filter, Contains-from_filter_map}
 use Rattle.kt_text.specs.Match.{has_percent, pattern_back, pattern_front}
-use Rattle.kt_rules.specs.declared.entry.Target.{Target}
-use Rattle.kt_rules.specs.Entry.{Rule}
-use Rattle.kt_rules.specs.Names.{after_dots, without_dots}
-use Rattle.kt_rules.specs.Suffixes.{all_needs}
-use Rattle.kt_graph.specs.search.Candidates.{Candidate, are_short, candidate_by, candidate_of, candidate_with, candidates_for, directory_of, fit_of, has_slash, left_out, matched_part, matching_from, needed_name, needed_names, nonempty, shorter, shortest, size_of, spelled_out, stem_of, unless_long, without_any}
-use Rattle.kt_list.proofs.general.Elements.{first_or_rest, from_flat_map, in_first, in_flat_map, in_rest}
 use Rattle.kt_graph.proofs.lemmas.search.GrowthLemmas.{from_by_size}
-use Rattle.kt_graph.proofs.lemmas.MemberLemmas.{Contains-from_map, Contains-map, Contains-none}
-use Rattle.kt_graph.proofs.lemmas.Membership.{each_passes}
-use Rattle.kt_graph.proofs.lemmas.faults.TroubleLemmas.{from_filter}
-use Rattle.kt_graph.proofs.lemmas.nodes.WholeLemmas.{Contains-from_filter_map}
 
 -- ---- parts of lists
 

@@ -1,8 +1,6 @@
 -- Statements and names of a plan that is read from the graph, by their places.
-use Rattle.std.proofs.Common.{◌≡◌, ℕ, ◌+◌, Bool, true, false, List, [], ◌∷◌, ◌++◌, length, Option, Some, None, refl, sym, ap, ◌∙◌, arith, suc}
-use Rattle.std.specs.Prelude.{min, slice_get}
-use Rattle.std.proofs.lemmas.List.{append_assoc}
-use Rattle.kt_graph.specs.nodes.Node.{Node}
+use Rattle.std.proofs.Common.{◌≡◌, ℕ, ◌+◌, Bool, true, false, List, [], ◌∷◌, ◌++◌, length, Option, Some, None, refl, sym, ap, ◌∙◌, arith, suc, min, slice_get}
+use Rattle.kati.proofs.Common.{append_assoc, Node}
 use Rattle.kati.specs.inner.Drawn.{Drawn, always_drawn, statement_drawn, statements_drawn}
 use Rattle.kati.proofs.DrawnLemmas.{drawn_found, told_at, told_size}
 

@@ -1,3 +1,4 @@
+pub mod Common
 pub mod DrawnLemmas
 pub mod RangeLemmas
 pub mod SketchLemmas

@@ -1,30 +1,17 @@
 -- A result that isn't too deep with a limit is the same with a larger one.
-use Rattle.std.proofs.Common.{ℕ, zero, suc, ◌+◌, ◌-◌, true, false, List, [], ◌∷◌, ◌++◌, None, refl, sym, ap, ◌∙◌, subst, inl, inr, arith}
-use Rattle.std.specs.Prelude.{codes}
-use Rattle.kt_text.specs.Words.{Text}
-use Rattle.kt_rules.specs.Entry.{Rule}
+use Rattle.std.proofs.Common.{ℕ, zero, suc, ◌+◌, ◌-◌, true, false, List, [], ◌∷◌, ◌++◌, None, refl, sym, ap, ◌∙◌, subst, inl, inr, arith, codes}
+use Rattle.kati.proofs.Common.{Text, Rule, Store, Read, Trace, first_read, first_world, predefined, read_of, trace_of, traced, Outcome, Gave, Stopped, leaving, Table, groups_of, Node, Plan, Statement, Args, Meaning, Means, MeansAfter, MeansGoals, Wanted, meaning_of, prepared, wanted_by, command_for, plan_groups, planned, statement_of}
 use Rattle.kt_eval.specs.expanding.Expansion.{expanded}
-use Rattle.kt_eval.specs.files.Files.{Store}
 use Rattle.kt_eval.specs.Growing as growing
 use Rattle.kt_eval.specs.expanding.Levels.{evaluator}
-use Rattle.kt_eval.specs.reading.Machine.{Read, Trace, first_read, first_world, predefined, read_of, trace_of, traced}
-use Rattle.kt_eval.specs.Outcome.{Outcome, Gave, Stopped, leaving}
 use Rattle.kt_eval.specs.reading.Reading.{read_first}
 use Rattle.kt_eval.specs.State.{frozen_world}
-use Rattle.kt_eval.specs.macros.Macros.{Table}
 use Rattle.kt_eval.proofs.lemmas.GrowingReads.{expanding_stays, reading_stays}
-use Rattle.kt_graph.specs.nodes.Groups.{groups_of}
-use Rattle.kt_graph.specs.nodes.Node.{Node}
-use Rattle.kt_ninja.specs.declared.plan.Plan.{Plan}
-use Rattle.kt_ninja.specs.declared.plan.Statement.{Statement}
 use Rattle.kt_recipe.proofs.DeeperLemmas.{Stays, command_stays, leaving_stays, then_stays}
-use Rattle.kati_args.specs.declared.args.Args.{Args}
 use Rattle.kati.specs.Goals.{chosen_goals, default_goal_text}
 use Rattle.kati.specs.Limits.{IsRunTooDeep, OnlyCuts, OnlyCutsRuns, with_limit}
 use Rattle.kati.specs.Listing.{listed}
 use Rattle.kati.specs.Makefile.{command_line_table, makefile_names, makefile_read}
-use Rattle.kati.specs.Meaning.{Meaning, Means, MeansAfter, MeansGoals, Wanted, meaning_of, prepared, wanted_by}
-use Rattle.kati.specs.Planning.{command_for, plan_groups, planned, statement_of}
 use Rattle.kati.specs.Steps.{telling}
 use Rattle.kati.proofs.RunLemmas.{graph_if_plan}
 

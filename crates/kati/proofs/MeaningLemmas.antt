@@ -1,22 +1,9 @@
 -- The meaning of a call that comes to goals and their plan, from its result.
 use Rattle.std.proofs.Common.{◌≡◌, ℕ, List, [], None, Result, Ok, Err, refl, sym, ap, ◌∙◌, subst, inl, inr}
-use Rattle.kt_text.specs.Words.{Text}
-use Rattle.kt_rules.specs.Entry.{Rule}
-use Rattle.kt_eval.specs.declared.fault.Fault.{Fault}
-use Rattle.kt_eval.specs.declared.stop.Stop.{Stop}
+use Rattle.kati.proofs.Common.{Text, Rule, Fault, Stop, Trace, traced, Store, Ends, IsOfNoDevice, Gives, Outcome, Gave, Stopped, fault_at, IsSoundGraph, ReportsFirst, fault_number, Node, Plan, Args, Meaning, MeansAfter, Wanted, meaning_of, prepared, planned}
 use Rattle.kt_eval.specs.declared.stop.Stop.TheVariants as stops
-use Rattle.kt_eval.specs.reading.Machine.{Trace, traced}
-use Rattle.kt_eval.specs.files.Files.{Store}
-use Rattle.kt_eval.specs.Outcome.{Ends, IsOfNoDevice, Gives, Outcome, Gave, Stopped}
-use Rattle.kt_eval.specs.Step.{fault_at}
 use Rattle.kt_graph.specs.declared.faults.fault.GraphFault.{GraphFault}
 use Rattle.kt_graph.specs.declared.faults.fault.GraphFault.TheVariants as graphs
-use Rattle.kt_graph.specs.faults.Faults.{IsSoundGraph, ReportsFirst, fault_number}
-use Rattle.kt_graph.specs.nodes.Node.{Node}
-use Rattle.kt_ninja.specs.declared.plan.Plan.{Plan}
-use Rattle.kati_args.specs.declared.args.Args.{Args}
-use Rattle.kati.specs.Meaning.{Meaning, MeansAfter, Wanted, meaning_of, prepared}
-use Rattle.kati.specs.Planning.{planned}
 use Rattle.kati.specs.inner.Stops.{IsFirstStop, IsStopOf}
 use Rattle.kati.specs.inner.Views.{EndMeans, GoalsEnd}
 

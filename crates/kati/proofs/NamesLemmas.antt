@@ -1,12 +1,7 @@
 -- How the program ends after a run.
 use Rattle.std.proofs.Common.{Result, Ok, Err, subst, sym, ◌∙◌}
-use Rattle.kt_list.specs.Counters.{Rises}
-use Rattle.kt_ninja.specs.Written.{SinkSeen}
-use Rattle.kati.specs.declared.faults.RunFault.{RunFault}
+use Rattle.kati.proofs.Common.{Rises, SinkSeen, RunFault, Status, devices, FilesSeen}
 use Rattle.kati.specs.declared.faults.RunFault.TheVariants as faults
-use Rattle.kati.specs.declared.status.Status.{Status}
-use Rattle.kati.specs.Devices.{devices}
-use Rattle.kt_eval.specs.files.Files.{FilesSeen}
 use Rattle.kati.specs.AfterRun.{BlamesDevice}
 use Rattle.kati.specs.Names.{NamesAfter}
 

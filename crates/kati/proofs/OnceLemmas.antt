@@ -1,30 +1,9 @@
 -- A run has one meaning.
 use Rattle.std.proofs.Common.{◌≡◌, List, [], ◌∷◌, map, Some, None, refl, sym, ap, ◌∙◌, ⊎_elim, inl, inr}
-use Rattle.std.specs.List.{Contains}
-use Rattle.std.specs.List.Sorted.{IsStrictlySortedBy}
-use Rattle.std.specs.Ordering.{is_lt, ordering_reverse}
-use Rattle.std.specs.declared.cmp.Ordering.{Ordering}
-use Rattle.std.specs.declared.cmp.Ordering.TheVariants.{Less, Equal, Greater}
-use Rattle.std.proofs.lemmas.Bool.{true≢false}
+use Rattle.kati.proofs.Common.{Contains, IsStrictlySortedBy, is_lt, ordering_reverse, Ordering, Less, Equal, Greater, true≢false, All-contains, sorted_tail, All-after_first, none-some, same_Some, first_or_rest, in_first, in_rest, Text, Rule, Trace, traced, Outcome, Gave, Stopped, fault_at, fault_number, fault_words, Node, node_of, ComesFirst, IsFirst, IsGraph, IsSound, Trouble, no_rule, circular, reserved_name, one_file, Contains-none, Meaning, MeansAfter, MeansGoals, Wanted, meaning_of, prepared, planned}
 use Rattle.std.proofs.lemmas.Cmp.{nat_list_cmp_total}
-use Rattle.std.proofs.lemmas.List.Elements.{All-contains}
-use Rattle.std.proofs.lemmas.Map.Keys.{sorted_tail}
 use Rattle.std.proofs.lemmas.Map.Lookups.{exact_bytes}
-use Rattle.std.proofs.lemmas.Map.Views.{All-after_first}
-use Rattle.std.proofs.lemmas.Option.{none-some, same_Some}
-use Rattle.kt_list.proofs.general.Elements.{first_or_rest, in_first, in_rest}
-use Rattle.kt_text.specs.Words.{Text}
-use Rattle.kt_rules.specs.Entry.{Rule}
-use Rattle.kt_eval.specs.reading.Machine.{Trace, traced}
-use Rattle.kt_eval.specs.Outcome.{Outcome, Gave, Stopped}
-use Rattle.kt_eval.specs.Step.{fault_at}
-use Rattle.kt_graph.specs.faults.Faults.{fault_number, fault_words}
-use Rattle.kt_graph.specs.nodes.Node.{Node, node_of}
-use Rattle.kt_graph.specs.Reach.{ComesFirst, IsFirst, IsGraph, IsSound, Trouble, no_rule, circular, reserved_name, one_file}
-use Rattle.kt_graph.proofs.lemmas.MemberLemmas.{Contains-none}
-use Rattle.kati.specs.Meaning.{Meaning, MeansAfter, MeansGoals, Wanted, meaning_of, prepared}
 use Rattle.kati.specs.Once.{HasOneMeaning}
-use Rattle.kati.specs.Planning.{planned}
 use Rattle.kati.specs.Steps.{telling}
 use Rattle.kati.proofs.PlanLemmas.{name_in, not_less, order}
 

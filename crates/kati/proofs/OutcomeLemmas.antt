@@ -1,17 +1,9 @@
 -- What a step leaves, and what comes after it.
 use Rattle.std.proofs.Common.{◌≡◌, List, [], Result, Ok, Err, refl}
-use Rattle.kt_text.specs.Words.{Text}
-use Rattle.kt_eval.specs.declared.stop.Stop.{Stop}
+use Rattle.kati.proofs.Common.{Text, Stop, Store, IsPrefix, Read, Trace, traced, Gives, Outcome, Gave, Stopped, StepOver, leaving, left_of, then_do, front_next, Args, Wanted, prepared, wanted_by}
 use Rattle.kt_eval.specs.declared.stop.Stop.TheVariants as stops
-use Rattle.kt_eval.specs.files.Files.{Store}
-use Rattle.kt_list.specs.Prefixes.{IsPrefix}
-use Rattle.kt_eval.specs.reading.Machine.{Read, Trace, traced}
-use Rattle.kt_eval.specs.Outcome.{Gives, Outcome, Gave, Stopped, StepOver, leaving, left_of, then_do}
-use Rattle.kt_eval.proofs.lemmas.GrowingLemmas.{front_next}
-use Rattle.kati_args.specs.declared.args.Args.{Args}
 use Rattle.kati.specs.Listing.{listed}
 use Rattle.kati.specs.Makefile.{makefile_read}
-use Rattle.kati.specs.Meaning.{Wanted, prepared, wanted_by}
 use Rattle.kati.specs.Steps.{telling}
 
 pub telling_asks : {A : Type 0} (trace : Trace) (step : StepOver (List Text) A) → (left_of (telling step trace)).asked ≡ trace.asked

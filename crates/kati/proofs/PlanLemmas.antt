@@ -1,50 +1,13 @@
 -- The plan of what goals need can be written, if its names and commands can.
-use Rattle.std.proofs.Common.{◌≡◌, ◌≢◌, ℕ, ◌+◌, Bool, true, false, not, ◌&&◌, if◌then◌else◌, cond, List, [], ◌∷◌, ◌++◌, map, filter, find, flat_map, Option, Some, None, refl, sym, ap, ◌∙◌, subst, ⊎_elim, append-nil, arith, ◌||◌}
-use Rattle.std.specs.Prelude.{IfOk, MatchOption, Result, Ok, Err, slice_get}
-use Rattle.std.specs.Option.{option_and_then, option_map_or}
-use Rattle.std.specs.List.{All, AllPairs, Contains, list_all, list_any}
-use Rattle.std.specs.List.Sorted.{IsStrictlySortedBy}
-use Rattle.std.specs.Ordering.{is_eq, nat_cmp}
-use Rattle.std.specs.declared.cmp.Ordering.{Ordering}
-use Rattle.std.specs.declared.cmp.Ordering.TheVariants.{Less}
-use Rattle.std.specs.Cmp.Lexicographic.{slice_cmp}
-use Rattle.std.proofs.lemmas.Bool.{false≢true, true≢false}
-use Rattle.std.proofs.lemmas.List.{append_assoc, map-append}
-use Rattle.std.proofs.lemmas.List.Concat.{flat_map-cons}
-use Rattle.std.proofs.lemmas.List.Elements.{All-contains, All-cons, All-nil, Contains-append_cases}
-use Rattle.std.proofs.lemmas.List.Folds.{flat_map-map}
+use Rattle.std.proofs.Common.{◌≡◌, ◌≢◌, ℕ, ◌+◌, Bool, true, false, not, ◌&&◌, if◌then◌else◌, cond, List, [], ◌∷◌, ◌++◌, map, filter, find, flat_map, Option, Some, None, refl, sym, ap, ◌∙◌, subst, ⊎_elim, append-nil, arith, ◌||◌, IfOk, MatchOption, Result, Ok, Err, slice_get}
+use Rattle.kati.proofs.Common.{option_and_then, option_map_or, All, AllPairs, Contains, list_all, list_any, IsStrictlySortedBy, is_eq, nat_cmp, Ordering, Less, slice_cmp, false≢true, true≢false, append_assoc, map-append, flat_map-cons, All-contains, All-cons, All-nil, Contains-append_cases, flat_map-map, sorted_tail, All-after_first, bytes_eq-Decides, Text, from_flat_map, in_first, in_flat_map, in_rest, Rule, Fault, Stop, Outcome, Gave, Stopped, Table, IsSoundGraph, AreGroups, are_together, groups_among, groups_of, is_leading, leader_name, made_nodes, Node, is_leaf, node_of, canon_of, is_reserved, parts_of, IsGraph, IsReached, unmade_goal, Contains-from_map, Contains-map, Contains-none, filter_there, found_nowhere, from_filter, mapped_itself, Plan, Statement, outputs, IsWritable, HasWritableTexts, Obstacle, bad_name, bad_command, is_empty, is_made, is_name, obstacle_of_statements, always_build, always_built, command_for, first_output, has_implicit, outs_of, plan_groups, plan_of, statement_of, text_fault, unwritable_in, with_always_built, gave_both, none-some, same_Some}
 use Rattle.std.proofs.lemmas.List.Kept.{AllPairs-cons}
-use Rattle.std.proofs.lemmas.Map.Keys.{sorted_tail}
 use Rattle.std.proofs.lemmas.Map.Text.{is_eq-slice_cmp}
-use Rattle.std.proofs.lemmas.Map.Views.{All-after_first}
-use Rattle.std.proofs.lemmas.Slice.Eq.{bytes_eq-Decides}
-use Rattle.kt_text.specs.Words.{Text}
-use Rattle.kt_list.proofs.general.Elements.{from_flat_map, in_first, in_flat_map, in_rest}
-use Rattle.kt_rules.specs.Entry.{Rule}
-use Rattle.kt_eval.specs.declared.fault.Fault.{Fault}
-use Rattle.kt_eval.specs.declared.stop.Stop.{Stop}
-use Rattle.kt_eval.specs.Outcome.{Outcome, Gave, Stopped}
-use Rattle.kt_eval.specs.macros.Macros.{Table}
-use Rattle.kt_graph.specs.faults.Faults.{IsSoundGraph}
-use Rattle.kt_graph.specs.nodes.Groups.{AreGroups, are_together, groups_among, groups_of, is_leading, leader_name, made_nodes}
-use Rattle.kt_graph.specs.nodes.Node.{Node, is_leaf, node_of}
-use Rattle.kt_graph.specs.faults.Paths.{canon_of, is_reserved, parts_of}
-use Rattle.kt_graph.specs.Reach.{IsGraph, IsReached, unmade_goal}
 use Rattle.kt_graph.proofs.lemmas.nodes.GroupLaw.{are_groups}
-use Rattle.kt_graph.proofs.lemmas.MemberLemmas.{Contains-from_map, Contains-map, Contains-none}
-use Rattle.kt_graph.proofs.lemmas.faults.TroubleLemmas.{filter_there, found_nowhere, from_filter}
-use Rattle.kt_graph.proofs.lemmas.nodes.WholeLemmas.{mapped_itself}
-use Rattle.kt_ninja.specs.declared.plan.Plan.{Plan}
-use Rattle.kt_ninja.specs.declared.plan.Statement.{Statement}
-use Rattle.kt_ninja.specs.Plan.{outputs}
 use Rattle.kt_ninja.specs.Plan as plans
 use Rattle.kt_ninja.specs.View.{names_at}
-use Rattle.kt_ninja.specs.Writable.{IsWritable, HasWritableTexts, Obstacle, bad_name, bad_command, is_empty, is_made, is_name, obstacle_of_statements}
-use Rattle.kati.specs.Planning.{always_build, always_built, command_for, first_output, has_implicit, outs_of, plan_groups, plan_of, statement_of, text_fault, unwritable_in, with_always_built}
 use Rattle.kati.specs.inner.Stops.{IsFaultOf}
-use Rattle.kt_recipe.proofs.CommandLemmas.{gave_both}
 use Rattle.kati.specs.inner.Views.{is_text_trouble}
-use Rattle.std.proofs.lemmas.Option.{none-some, same_Some}
 
 abbrev pub order : Text → Text → Ordering
 order = slice_cmp nat_cmp

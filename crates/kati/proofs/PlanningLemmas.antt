@@ -1,11 +1,6 @@
 -- The names of the nodes of a group, one after another.
 use Rattle.std.proofs.Common.{◌≡◌, ℕ, ◌+◌, ◌<◌, List, ◌∷◌, length, get_or, drop, flat_map, fold, sym, ap, ◌∙◌}
-use Rattle.std.proofs.lemmas.List.{drop_more}
-use Rattle.std.proofs.lemmas.List.Concat.{flat_map-cons}
-use Rattle.std.proofs.lemmas.List.Sums.{fold-append}
-use Rattle.kt_text.specs.Words.{Text}
-use Rattle.kt_rules.specs.Names.{with_name}
-use Rattle.kt_graph.specs.nodes.Node.{Node}
+use Rattle.kati.proofs.Common.{drop_more, flat_map-cons, fold-append, Text, with_name, Node}
 
 -- the names of one node more
 pub names_more : (names : Node → List Text) (old new : List Text) (group : List Node) (i : ℕ) (node : Node) → i < length group → node ≡ get_or group i node

@@ -1,6 +1,5 @@
 -- Parts of a list between two places.
-use Rattle.std.proofs.Common.{◌≡◌, ℕ, ◌≤◌, List, [], ◌∷◌, ◌++◌, length, Option, Some, None, sym, ap, arith, zero, suc, subst}
-use Rattle.std.specs.Prelude.{slice_get}
+use Rattle.std.proofs.Common.{◌≡◌, ℕ, ◌≤◌, List, [], ◌∷◌, ◌++◌, length, Option, Some, None, sym, ap, arith, zero, suc, subst, slice_get}
 use Rattle.std.proofs.lemmas.List.{length-append}
 use Rattle.kati.specs.inner.Drawn.{AreRanges}
 

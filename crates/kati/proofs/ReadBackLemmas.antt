@@ -1,26 +1,9 @@
 -- Each plan that a run means can be written, and is read back.
 use Rattle.std.proofs.Common.{◌≡◌, ℕ, Bool, true, false, List, [], Option, Some, None, Result, Ok, Err, refl, sym, ap, ◌∙◌, subst, inl, inr}
-use Rattle.std.specs.Option.{option_and_then}
-use Rattle.std.proofs.lemmas.Bool.{false≢true}
-use Rattle.kt_text.specs.Words.{Text}
-use Rattle.kt_eval.specs.declared.fault.Fault.{Fault}
-use Rattle.kt_eval.specs.files.Files.{Store}
-use Rattle.kt_eval.specs.reading.Machine.{Trace, traced}
-use Rattle.kt_eval.specs.Outcome.{Outcome, Gave, Stopped, leaving}
-use Rattle.kt_graph.specs.nodes.Groups.{groups_of}
-use Rattle.kt_graph.specs.nodes.Node.{Node}
-use Rattle.kt_ninja.specs.declared.plan.Plan.{Plan}
-use Rattle.kt_ninja.specs.declared.plan.Statement.{Statement}
-use Rattle.kt_ninja.specs.Writable.{IsWritable, Obstacle, no_output, bad_name, bad_command, repeated, not_an_output, obstacle_of_statements}
-use Rattle.kt_ninja.proofs.Deciding.{texts_exactly}
-use Rattle.kt_ninja_reader.proofs.PrintThenRead.{printed_is_read}
-use Rattle.kati_args.specs.declared.args.Args.{Args}
-use Rattle.kati.specs.Meaning.{Meaning, Means, MeansAfter, MeansGoals, Wanted, meaning_of, prepared}
-use Rattle.kati.specs.Planning.{plan_groups, plan_of, plan_unless, planned, text_fault, unwritable_in, written}
+use Rattle.kati.proofs.Common.{option_and_then, false≢true, Text, Fault, Store, Trace, traced, Outcome, Gave, Stopped, leaving, groups_of, Node, Plan, Statement, IsWritable, Obstacle, no_output, bad_name, bad_command, repeated, not_an_output, obstacle_of_statements, texts_exactly, printed_is_read, Args, Meaning, Means, MeansAfter, MeansGoals, Wanted, meaning_of, prepared, plan_groups, plan_of, plan_unless, planned, text_fault, unwritable_in, written, gave_both}
 use Rattle.kati.specs.Once.{PlansReadBack}
 use Rattle.kati.specs.Steps.{telling}
 use Rattle.kati.specs.inner.Views.{is_text_trouble}
-use Rattle.kt_recipe.proofs.CommandLemmas.{gave_both}
 use Rattle.kati.proofs.PlanLemmas.{can_be_written, outs_told, text_troubles}
 
 abbrev pub plan_in : Result Plan Fault → Plan → Plan

@@ -1,22 +1,10 @@
 -- How a run ends.
-use Rattle.std.proofs.Common.{◌≡◌, ◌∙◌, List, [], ◌∷◌, ◌++◌, Option, Some, None, Result, Ok, Err, refl, sym, ap, subst, inr}
-use Rattle.std.specs.Prelude.{IfErr, IfOk, OnOk}
-use Rattle.kt_text.specs.Words.{Text}
-use Rattle.kt_eval.specs.declared.fault.Fault.{Fault}
-use Rattle.kt_eval.specs.files.Files.{Store, look}
-use Rattle.kt_ninja.specs.declared.plan.Plan.{Plan}
-use Rattle.kt_ninja.specs.Writable.{IsWritable}
-use Rattle.kt_ninja.specs.Written.{Takes}
-use Rattle.kt_ninja_reader.proofs.PrintThenRead.{printed_is_read}
-use Rattle.kati_args.specs.declared.args.Args.{Args}
-use Rattle.kati.specs.declared.faults.RunFault.{RunFault}
+use Rattle.std.proofs.Common.{◌≡◌, ◌∙◌, List, [], ◌∷◌, ◌++◌, Option, Some, None, Result, Ok, Err, refl, sym, ap, subst, inr, IfErr, IfOk, OnOk}
+use Rattle.kati.proofs.Common.{Text, Fault, Store, look, Plan, IsWritable, Takes, printed_is_read, Args, RunFault, Status, Devices, Meaning, Means}
 use Rattle.kati.specs.declared.faults.RunFault.TheVariants as faults
-use Rattle.kati.specs.declared.status.Status.{Status}
 use Rattle.kati.specs.Checking.{AskedAtCheck, HasStatus, IsChecked, names_with_check}
-use Rattle.kati.specs.Devices.{Devices}
 use Rattle.kati.specs.Exact.{IsGraphOf}
 use Rattle.kati.specs.AfterRun.{HasOutput, IsUntouched, Leaves}
-use Rattle.kati.specs.Meaning.{Meaning, Means}
 use Rattle.kati.specs.Messages.{err_text}
 use Rattle.kati.specs.Sound.{IsSoundPlan}
 use Rattle.kati.specs.inner.Delivered.{Writes}

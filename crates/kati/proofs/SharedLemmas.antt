@@ -1,19 +1,7 @@
 -- Groups whose members share their inputs.
-use Rattle.std.proofs.Common.{◌≡◌, ℕ, zero, suc, Bool, true, false, not, ◌||◌, List, [], ◌∷◌, ◌++◌, take, filter, flat_map, fold, get_or, refl, sym, ◌∙◌, ap, append-nil}
-use Rattle.std.specs.List.{Contains}
-use Rattle.std.specs.Prelude.{nat_eq}
-use Rattle.std.specs.Cmp.Lexicographic.{pointwise}
-use Rattle.std.proofs.lemmas.Bool.{false≢true, or_right}
-use Rattle.std.proofs.lemmas.Slice.Eq.{bytes_eq-Decides}
-use Rattle.std.proofs.lemmas.List.Concat.{flat_map-cons}
-use Rattle.std.proofs.lemmas.List.Sums.{fold-append}
-use Rattle.kt_list.proofs.general.Elements.{in_first, in_rest}
-use Rattle.kt_text.specs.Words.{Text}
-use Rattle.kt_rules.specs.Names.{is_among, with_name, without_repeats}
+use Rattle.std.proofs.Common.{◌≡◌, ℕ, zero, suc, Bool, true, false, not, ◌||◌, List, [], ◌∷◌, ◌++◌, take, filter, flat_map, fold, get_or, refl, sym, ◌∙◌, ap, append-nil, nat_eq}
+use Rattle.kati.proofs.Common.{Contains, pointwise, false≢true, or_right, bytes_eq-Decides, flat_map-cons, fold-append, in_first, in_rest, Text, is_among, with_name, without_repeats, Node, inputs_of, order_only_of, ShareInputs, joined_inputs, joined_order_only}
 use Rattle.kt_rules.proofs.BookLemmas.{among_fold}
-use Rattle.kt_graph.specs.nodes.Node.{Node, inputs_of, order_only_of}
-use Rattle.kt_graph.specs.nodes.Groups.{ShareInputs}
-use Rattle.kati.specs.Planning.{joined_inputs, joined_order_only}
 use Rattle.kati.specs.inner.Shared.{AreShared, MayShare}
 
 pub shared_at : (groups : List (List Node)) (shared : List Bool) (place : ℕ) → AreShared groups shared

@@ -1,15 +1,6 @@
 -- The inputs of a single name are those of its statement as they are.
-use Rattle.std.proofs.Common.{◌≡◌, Bool, true, false, not, cond, if◌then◌else◌, List, [], ◌∷◌, ◌++◌, filter, flat_map, refl, sym, ap, ◌∙◌, append-nil}
-use Rattle.std.specs.Prelude.{fold}
-use Rattle.std.specs.Cmp.Lexicographic.{pointwise}
-use Rattle.std.specs.Prelude.{nat_eq}
-use Rattle.std.proofs.lemmas.Bool.{or_from, or_parts}
-use Rattle.std.proofs.lemmas.List.{append_assoc}
-use Rattle.std.proofs.lemmas.List.Folds.{list_any-append}
-use Rattle.kt_text.specs.Words.{Text}
-use Rattle.kt_rules.specs.Names.{is_among, with_name, without_repeats}
-use Rattle.kt_graph.specs.nodes.Node.{Node, inputs_of, order_only_of}
-use Rattle.kati.specs.Planning.{joined_inputs, joined_order_only}
+use Rattle.std.proofs.Common.{◌≡◌, Bool, true, false, not, cond, if◌then◌else◌, List, [], ◌∷◌, ◌++◌, filter, flat_map, refl, sym, ap, ◌∙◌, append-nil, nat_eq, fold}
+use Rattle.kati.proofs.Common.{pointwise, or_from, or_parts, append_assoc, list_any-append, Text, is_among, with_name, without_repeats, Node, inputs_of, order_only_of, joined_inputs, joined_order_only}
 
 -- none of the names is among those before it
 abbrev AreNew : List Text → List Text → Type 0

@@ -1,14 +1,7 @@
 -- A sketch as the code holds it.
-use Rattle.std.proofs.Common.{◌≡◌, ℕ, ◌-◌, ◌≤◌, Bool, true, List, [], ◌∷◌, ◌++◌, length, map, take, drop, Some, None, refl, sym, ap, ◌∙◌, zero, suc, ◌||◌}
-use Rattle.std.specs.Prelude.{option_map, slice_get}
-use Rattle.std.specs.List.{list_all, list_any, slice_range}
-use Rattle.std.proofs.lemmas.Bool.{and_from, and_parts}
-use Rattle.std.proofs.lemmas.Option.{slice_get-map}
-use Rattle.kt_text.specs.Words.{Text}
+use Rattle.std.proofs.Common.{◌≡◌, ℕ, ◌-◌, ◌≤◌, Bool, true, List, [], ◌∷◌, ◌++◌, length, map, take, drop, Some, None, refl, sym, ap, ◌∙◌, zero, suc, ◌||◌, option_map, slice_get}
+use Rattle.kati.proofs.Common.{list_all, list_any, slice_range, and_from, and_parts, slice_get-map, Text, Mark, is_command_byte, is_made, made_by}
 use Rattle.kt_recipe.specs.Views.{command_in}
-use Rattle.kati.specs.declared.sketch.Mark.{Mark}
-use Rattle.kt_ninja.specs.Writable.{is_command_byte, is_made}
-use Rattle.kati.specs.Planning.{made_by}
 use Rattle.kati.specs.inner.Drawn.{AreMarksWithin, Drawn, drawn_view, joined_view}
 use Rattle.kt_list.proofs.general.Ranges.{last_range, same_range}
 

@@ -1,37 +1,11 @@
 -- No plan that a run means has a cycle, two outputs of one file or a reserved name.
-use Rattle.std.proofs.Common.{◌≡◌, ◌≢◌, ◌⊎◌, ℕ, Bool, true, false, not, List, [], ◌∷◌, ◌++◌, flat_map, Option, Result, Ok, Err, refl, sym, ap, ◌∙◌, subst, ⊎_elim, inl, inr}
-use Rattle.std.specs.Prelude.{IfOk}
-use Rattle.std.specs.List.{Contains}
-use Rattle.std.specs.Str.{bytes_eq}
-use Rattle.std.proofs.lemmas.Bool.{true≢false}
-use Rattle.std.proofs.lemmas.List.Elements.{Contains-append_cases, Contains-append_left, Contains-append_right}
-use Rattle.std.proofs.lemmas.Slice.Eq.{bytes_eq-Decides}
-use Rattle.kt_text.specs.Words.{Text}
-use Rattle.kt_rules.specs.Entry.{Rule}
-use Rattle.kt_rules.specs.Names.{is_among, without_repeats}
-use Rattle.kt_eval.specs.declared.stop.Stop.{Stop}
-use Rattle.kt_eval.specs.reading.Machine.{Read, Trace}
-use Rattle.kt_eval.specs.Outcome.{Ends}
-use Rattle.kt_graph.specs.nodes.Groups.{groups_of}
-use Rattle.kt_graph.specs.nodes.Node.{Node, all_inputs, inputs_of, order_only_of}
-use Rattle.kt_graph.specs.faults.Paths.{always_name, canon_of, is_reserved}
-use Rattle.kt_graph.specs.Reach.{HasEdge, IsInGroup, IsMade, IsReached, Leads}
-use Rattle.kt_graph.proofs.lemmas.nodes.MadeLemmas.{input_reached}
-use Rattle.kt_graph.proofs.lemmas.MemberLemmas.{Contains-from_map, Contains-map, Contains-none}
-use Rattle.kt_graph.proofs.lemmas.faults.TroubleLemmas.{from_filter}
-use Rattle.kt_graph.proofs.lemmas.search.UnknownLemmas.{from_without_repeats}
-use Rattle.kt_ninja.specs.Plan.{outputs}
-use Rattle.kt_ninja.specs.declared.plan.Plan.{Plan}
-use Rattle.kt_ninja.specs.declared.plan.Statement.{Statement}
-use Rattle.kt_ninja.specs.Writable.{IsWritable}
+use Rattle.std.proofs.Common.{◌≡◌, ◌≢◌, ◌⊎◌, ℕ, Bool, true, false, not, List, [], ◌∷◌, ◌++◌, flat_map, Option, Result, Ok, Err, refl, sym, ap, ◌∙◌, subst, ⊎_elim, inl, inr, IfOk}
+use Rattle.kati.proofs.Common.{Contains, bytes_eq, true≢false, Contains-append_cases, Contains-append_left, Contains-append_right, bytes_eq-Decides, Text, Rule, is_among, without_repeats, Stop, Read, Trace, Ends, groups_of, Node, all_inputs, inputs_of, order_only_of, always_name, canon_of, is_reserved, HasEdge, IsInGroup, IsMade, IsReached, Leads, input_reached, Contains-from_map, Contains-map, Contains-none, from_filter, from_without_repeats, outputs, Plan, Statement, IsWritable, Meaning, MeansGoals, Wanted, always_build, always_built, implicit_of, joined_inputs, joined_order_only, outs_of, statement_of, first_or_rest, from_flat_map, in_flat_map}
 use Rattle.kati.specs.Exact.{IsAlwaysBuilt, IsOfGroup, TellsGraph}
-use Rattle.kati.specs.Meaning.{Meaning, MeansGoals, Wanted}
-use Rattle.kati.specs.Planning.{always_build, always_built, implicit_of, joined_inputs, joined_order_only, outs_of, statement_of}
 use Rattle.kati.specs.Sound.{IsSoundPlan, IsUnreserved, NeedsInput, NeedsItself, PlansAreSound}
 use Rattle.kati.specs.inner.Views.{GoalsEnd}
 use Rattle.kati.proofs.ExactLemmas.{are_graphs, goals_told, of_group}
 use Rattle.kati.proofs.MeaningLemmas.{meant}
-use Rattle.kt_list.proofs.general.Elements.{first_or_rest, from_flat_map, in_flat_map}
 use Rattle.kati.proofs.PlanLemmas.{always_reserved, in_nodes, law, name_in, node_is, outs_in}
 
 -- ---- the inputs of a group's statement

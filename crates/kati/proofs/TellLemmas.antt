@@ -1,14 +1,6 @@
 -- What is written to a sink in pieces, and what is reported at the end.
-use Rattle.std.proofs.Common.{◌≡◌, ◌≤◌, ◌++◌, Result, Ok, Err, refl, sym, subst, inl, inr, arith}
-use Rattle.std.specs.Prelude.{IfErr, OnErr, OnOk}
-use Rattle.kt_list.specs.Counters.{Rises}
-use Rattle.kt_text.specs.Words.{Text}
-use Rattle.kt_ninja.specs.Written.{GrowsByFront, SinkSeen, Takes}
-use Rattle.kt_ninja.proofs.Growth.{front_after, front_of_more, takes_twice}
-use Rattle.kati.specs.declared.faults.RunFault.{RunFault}
-use Rattle.kati.specs.declared.status.Status.{Status}
-use Rattle.kati.specs.Devices.{devices}
-use Rattle.kt_eval.specs.files.Files.{FilesSeen}
+use Rattle.std.proofs.Common.{◌≡◌, ◌≤◌, ◌++◌, Result, Ok, Err, refl, sym, subst, inl, inr, arith, IfErr, OnErr, OnOk}
+use Rattle.kati.proofs.Common.{Rises, Text, GrowsByFront, SinkSeen, Takes, front_after, front_of_more, takes_twice, RunFault, Status, devices, FilesSeen}
 use Rattle.kati.specs.ErrorOutput.{WritesOrFails, ReportsEnd, fault_words}
 
 -- the first piece was taken, and the others are written after it

@@ -1,33 +1,8 @@
 -- All texts of a plan can be written, if the names of its graph and its commands can.
-use Rattle.std.proofs.Common.{◌≡◌, ℕ, Bool, true, false, not, ◌&&◌, cond, List, [], ◌∷◌, ◌++◌, flat_map, Option, None, refl, sym, ap, subst}
-use Rattle.std.specs.Prelude.{is_some}
-use Rattle.std.specs.List.{Contains, list_all, list_any}
-use Rattle.std.specs.Option.{option_and_then}
-use Rattle.std.proofs.lemmas.Bool.{and_from, and_parts}
-use Rattle.std.proofs.lemmas.List.Elements.{Contains-append_left, Contains-append_right}
-use Rattle.kt_text.specs.Words.{Text}
-use Rattle.kt_rules.specs.Entry.{Rule}
-use Rattle.kt_rules.specs.Names.{is_among, without_repeats}
-use Rattle.kt_eval.specs.Outcome.{Gave}
-use Rattle.kt_eval.specs.macros.Macros.{Table}
-use Rattle.kt_graph.specs.Reach.{HasInput, IsGraph, IsReached}
-use Rattle.kt_graph.specs.nodes.Groups.{groups_of}
-use Rattle.kt_graph.specs.nodes.Node.{Node, all_inputs, inputs_of, order_only_of}
-use Rattle.kt_graph.proofs.lemmas.Membership.{all_pass, each_passes}
-use Rattle.kt_graph.proofs.lemmas.MemberLemmas.{Contains-from_map, Contains-map}
-use Rattle.kt_graph.proofs.lemmas.faults.TroubleLemmas.{from_filter}
-use Rattle.kt_graph.proofs.lemmas.nodes.MadeLemmas.{input_reached}
-use Rattle.kt_graph.proofs.lemmas.search.UnknownLemmas.{from_without_repeats}
-use Rattle.kt_ninja.specs.declared.plan.Plan.{Plan}
-use Rattle.kt_ninja.specs.declared.plan.Statement.{Statement}
-use Rattle.kt_ninja.specs.Plan.{names_of}
-use Rattle.kt_ninja.specs.Writable.{HasWritableTexts, is_made, is_name}
-use Rattle.kt_ninja.proofs.Deciding.{texts_unobstructed}
+use Rattle.std.proofs.Common.{◌≡◌, ℕ, Bool, true, false, not, ◌&&◌, cond, List, [], ◌∷◌, ◌++◌, flat_map, Option, None, refl, sym, ap, subst, is_some}
+use Rattle.kati.proofs.Common.{Contains, list_all, list_any, option_and_then, and_from, and_parts, Contains-append_left, Contains-append_right, Text, Rule, is_among, without_repeats, Gave, Table, HasInput, IsGraph, IsReached, groups_of, Node, all_inputs, inputs_of, order_only_of, all_pass, each_passes, Contains-from_map, Contains-map, from_filter, input_reached, from_without_repeats, Plan, Statement, names_of, HasWritableTexts, is_made, is_name, texts_unobstructed, always_built, command_for, has_implicit, has_phony, implicit_of, joined_inputs, joined_order_only, made_by, outs_of, plan_groups, plan_of, statement_of, text_fault, unwritable_in, with_always_built, gave_both, from_flat_map, in_first, in_rest}
 use Rattle.kt_ninja_reader.proofs.PrintedPieces.{all_both}
-use Rattle.kati.specs.Planning.{always_built, command_for, has_implicit, has_phony, implicit_of, joined_inputs, joined_order_only, made_by, outs_of, plan_groups, plan_of, statement_of, text_fault, unwritable_in, with_always_built}
 use Rattle.kati.specs.inner.Drawn.{Drawn, statements_drawn}
-use Rattle.kt_recipe.proofs.CommandLemmas.{gave_both}
-use Rattle.kt_list.proofs.general.Elements.{from_flat_map, in_first, in_rest}
 use Rattle.kati.proofs.PlanLemmas.{in_nodes, law, name_in, node_is, statements_in}
 
 implicit_pass : (always : Bool) → list_all is_name (implicit_of always) ≡ true

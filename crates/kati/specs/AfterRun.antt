@@ -1,26 +1,14 @@
 -- The state of the devices after a run, and after the program (kati's own).
 use Rattle.std.specs.Prelude.{◌≡◌, ◌⊎◌, ℕ, List, [], Option, Some, None, Result, Ok, Err, IfOk, IsOk}
-use Rattle.std.specs.Prelude.{string_bytes}
-use Rattle.kt_list.specs.Counters.{Rises}
-use Rattle.kt_text.specs.Words.{Text}
-use Rattle.kt_ninja.specs.declared.plan.Plan.{Plan}
-use Rattle.kt_ninja.specs.Text.{plan_text}
-use Rattle.kt_ninja.specs.Writable.{IsWritable}
-use Rattle.kt_ninja.specs.Written.{GrowsByFront, SinkSeen, Takes}
-use Rattle.kt_eval.specs.declared.fault.Fault.{Fault}
+use Rattle.kati.specs.Prelude.{string_bytes, Rises, Text, Plan, plan_text, IsWritable, GrowsByFront, SinkSeen, Takes}
+use Rattle.kati.specs.Prelude.{Fault, AgreeWith, FilesSeen, Store, Args, ArgFault, RunFault, Status, Devices}
 use Rattle.kt_list.specs.Prefixes.{IsPrefix, last}
-use Rattle.kt_eval.specs.files.Files.{AgreeWith, FilesSeen, Store}
-use Rattle.kati_args.specs.declared.args.Args.{Args}
-use Rattle.kati_args.specs.declared.fault.ArgFault.{ArgFault}
 use Rattle.kati_args.specs.Args.{AnswersWords}
-use Rattle.kati.specs.declared.faults.RunFault.{RunFault}
 use Rattle.kati.specs.declared.faults.RunFault.TheVariants as faults
 use Rattle.kati.specs.declared.outcome.Outcome.{Outcome}
-use Rattle.kati.specs.declared.status.Status.{Status}
 use Rattle.kati.specs.declared.status.Status.TheVariants as statuses
 use Rattle.kati.specs.Asked.{names_asked}
 use Rattle.kati.specs.Checking.{AskedAtCheck, HasStatus, IsReadAs, names_with_check}
-use Rattle.kati.specs.Devices.{Devices}
 use Rattle.kati.specs.Exact.{IsGraphOf}
 use Rattle.kati.specs.Exits.{exit_code}
 use Rattle.kati.specs.Meaning.{Meaning, Means}

@@ -1,10 +1,6 @@
 -- The names that a run asks for (kati's own).
 use Rattle.std.specs.Prelude.{◌≡◌, List, []}
-use Rattle.kt_text.specs.Words.{Text}
-use Rattle.kt_eval.specs.files.Files.{Store}
-use Rattle.kt_eval.specs.reading.Machine.{traced}
-use Rattle.kt_eval.specs.Outcome.{left_of}
-use Rattle.kati_args.specs.declared.args.Args.{Args}
+use Rattle.kati.specs.Prelude.{Text, Store, traced, left_of, Args}
 use Rattle.kati.specs.Meaning.{Meaning, Means, prepared}
 
 -- after the goals are chosen no name is asked for but the file to be checked; these names were asked for before

@@ -1,13 +1,7 @@
 -- The result of `--check`: whether a Ninja file is the plan, however it is spelled (kati's own).
 use Rattle.std.specs.Prelude.{◌≡◌, ◌⊎◌, List, ◌∷◌, [], ◌++◌, Option, Some, None, Result, Ok, Err}
-use Rattle.kt_text.specs.Words.{Text}
-use Rattle.kt_eval.specs.declared.fault.Fault.{Fault}
-use Rattle.kt_eval.specs.files.Files.{Store, look}
-use Rattle.kt_ninja.specs.declared.plan.Plan.{Plan}
-use Rattle.kt_ninja_reader.specs.NinjaRead.{ninja_read}
-use Rattle.kati.specs.declared.faults.RunFault.{RunFault}
+use Rattle.kati.specs.Prelude.{Text, Fault, Store, look, Plan, ninja_read, RunFault, Status}
 use Rattle.kati.specs.declared.faults.RunFault.TheVariants as faults
-use Rattle.kati.specs.declared.status.Status.{Status}
 use Rattle.kati.specs.declared.status.Status.TheVariants as statuses
 
 -- the text is read as the plan

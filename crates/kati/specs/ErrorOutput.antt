@@ -1,14 +1,8 @@
 -- What the outputs get besides a plan's text, the messages and the makefile's fault (kati's own).
 use Rattle.std.specs.Prelude.{◌≡◌, ℕ, ◌++◌, ◌⊎◌, Result, Ok, Err, codes, string_bytes}
-use Rattle.kt_list.specs.Counters.{Rises}
-use Rattle.kt_text.specs.Words.{Text}
-use Rattle.kt_ninja.specs.Written.{GrowsByFront, SinkSeen, Takes}
-use Rattle.kati_args.specs.declared.fault.ArgFault.{ArgFault}
+use Rattle.kati.specs.Prelude.{Rises, Text, GrowsByFront, SinkSeen, Takes, ArgFault, RunFault, Status, Devices}
 use Rattle.kati_args.specs.declared.fault.ArgFault.TheVariants as refusals
-use Rattle.kati.specs.declared.faults.RunFault.{RunFault}
 use Rattle.kati.specs.declared.faults.RunFault.TheVariants as faults
-use Rattle.kati.specs.declared.status.Status.{Status}
-use Rattle.kati.specs.Devices.{Devices}
 use Rattle.kati.specs.Exits.{fault_code, usage_code}
 
 -- why a run didn't come to its end

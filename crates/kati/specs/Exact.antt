@@ -1,23 +1,11 @@
 -- What the statements of a plan are: the graph of what the goals need, and nothing else (kati's own; Ninja manual,
 -- "Build statements").
 use Rattle.std.specs.Prelude.{◌≡◌, ◌≢◌, ◌⊎◌, ℕ, true, List, [], map, Option, Ok}
-use Rattle.std.specs.List.{AllPairs, Contains, list_any}
+use Rattle.kati.specs.Prelude.{AllPairs, Contains, list_any, Text, Store, Read, Trace, traced, Gave, Table}
+use Rattle.kati.specs.Prelude.{IsSoundGraph, groups_of, Node, IsMade, outputs, Plan, Statement, Args}
 use Rattle.std.specs.List.Sorted.{IsStrictlySortedBy}
 use Rattle.std.specs.Ordering.{nat_cmp}
 use Rattle.std.specs.Cmp.Lexicographic.{slice_cmp}
-use Rattle.kt_text.specs.Words.{Text}
-use Rattle.kt_eval.specs.files.Files.{Store}
-use Rattle.kt_eval.specs.reading.Machine.{Read, Trace, traced}
-use Rattle.kt_eval.specs.Outcome.{Gave}
-use Rattle.kt_eval.specs.macros.Macros.{Table}
-use Rattle.kt_graph.specs.faults.Faults.{IsSoundGraph}
-use Rattle.kt_graph.specs.nodes.Groups.{groups_of}
-use Rattle.kt_graph.specs.nodes.Node.{Node}
-use Rattle.kt_graph.specs.Reach.{IsMade}
-use Rattle.kt_ninja.specs.Plan.{outputs}
-use Rattle.kt_ninja.specs.declared.plan.Plan.{Plan}
-use Rattle.kt_ninja.specs.declared.plan.Statement.{Statement}
-use Rattle.kati_args.specs.declared.args.Args.{Args}
 use Rattle.kati.specs.Meaning.{Meaning, Means, Wanted, prepared}
 use Rattle.kati.specs.Planning.{always_build, always_built, command_for, first_output, has_implicit, statement_of}
 use Rattle.kati.specs.Planning.{with_always_built}

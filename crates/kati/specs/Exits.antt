@@ -1,8 +1,6 @@
 -- The exit status of the program (kati's own).
-use Rattle.std.specs.Prelude.{ℕ, Result, Ok, Err}
-use Rattle.kati.specs.declared.faults.RunFault.{RunFault}
+use Rattle.kati.specs.Prelude.{ℕ, Result, Ok, Err, RunFault, Status}
 use Rattle.kati.specs.declared.faults.RunFault.TheVariants as faults
-use Rattle.kati.specs.declared.status.Status.{Status}
 use Rattle.kati.specs.declared.status.Status.TheVariants as statuses
 
 -- of a run that came to its end: written or equal to the plan, different from the plan, or a makefile's fault

@@ -1,11 +1,8 @@
 -- The goals (GNU make manual, "Arguments to Specify the Goals", "Other Special Variables", on `.DEFAULT_GOAL`).
 use Rattle.std.specs.Prelude.{ℕ, List, [], ◌∷◌, None, codes}
-use Rattle.kt_text.specs.Words.{Text}
-use Rattle.kt_rules.specs.declared.fault_kind.FaultKind.TheVariants.{NoTargets}
-use Rattle.kt_eval.specs.reading.Machine.{Read}
+use Rattle.kati.specs.Prelude.{Text, NoTargets, Read, Table}
 use Rattle.kt_eval.specs.Outcome.{StepOver, ◌>>=◌, done, stop_at}
 use Rattle.kt_eval.specs.expanding.Pure.{expanded_pure}
-use Rattle.kt_eval.specs.macros.Macros.{Table}
 use Rattle.kt_graph.specs.Goals.{default_goals, named_goals}
 use Rattle.kati.specs.Steps.{fault_nowhere}
 

@@ -1,12 +1,6 @@
 -- What a larger limit of levels changes (kati's own).
 use Rattle.std.specs.Prelude.{◌≡◌, ℕ, ◌≤◌, List, Result, Ok, Err}
-use Rattle.kt_text.specs.Words.{Text}
-use Rattle.kt_eval.specs.declared.fault.Fault.{Fault}
-use Rattle.kt_eval.specs.files.Files.{Store}
-use Rattle.kt_ninja.specs.declared.plan.Plan.{Plan}
-use Rattle.kati_args.specs.declared.args.Args.{Args}
-use Rattle.kati.specs.declared.status.Status.{Status}
-use Rattle.kati.specs.Devices.{Devices}
+use Rattle.kati.specs.Prelude.{Text, Fault, Store, Plan, Args, Status, Devices}
 use Rattle.kati.specs.AfterRun.{EndsInFull}
 use Rattle.kati.specs.Meaning.{Meaning, Means}
 

@@ -1,12 +1,7 @@
 -- The list of files that exist, which `--files` names (kati's own).
 use Rattle.std.specs.Prelude.{ℕ, [], length, Bool, true, false, nat_lt, Option, Some, None}
-use Rattle.kt_text.specs.Words.{Text}
+use Rattle.kati.specs.Prelude.{Text, FileTooLarge, NoFile, NulByte, Fault, fault_of, Store, look, Trace}
 use Rattle.kt_text.specs.Lines.{nul_line}
-use Rattle.kt_rules.specs.declared.fault_kind.FaultKind.TheVariants.{FileTooLarge, NoFile, NulByte}
-use Rattle.kt_eval.specs.declared.fault.Fault.{Fault}
-use Rattle.kt_eval.specs.Step.{fault_of}
-use Rattle.kt_eval.specs.files.Files.{Store, look}
-use Rattle.kt_eval.specs.reading.Machine.{Trace}
 use Rattle.kt_eval.specs.reading.Reading.{largest_file}
 use Rattle.kt_eval.specs.Outcome.{StepOver, ◌>>◌, done, stop_at}
 use Rattle.kati.specs.Steps.{ask_for, fault_nowhere}

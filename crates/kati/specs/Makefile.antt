@@ -1,15 +1,11 @@
 -- The makefile that is read, and the macros of the command line (POSIX.1-2024 make, "Makefile Syntax", "Macros"; GNU
 -- make manual, "Overriding Variables").
 use Rattle.std.specs.Prelude.{List, [], ◌∷◌, fold, Option, Some, None, codes}
-use Rattle.kt_text.specs.Words.{Text, trimmed_start}
-use Rattle.kt_eval.specs.files.Files.{Store}
-use Rattle.kt_eval.specs.macros.Macros.{Table, put}
+use Rattle.kati.specs.Prelude.{Text, trimmed_start, Store, Table, put, Read, Trace, predefined, read_of, reading, Args}
 use Rattle.kt_eval.specs.declared.macros.Macro.{Macro as Entry}
 use Rattle.kt_eval.specs.declared.macros.Flavour.TheVariants.{Deferred}
 use Rattle.kt_eval.specs.declared.macros.Origin.TheVariants.{CommandLine}
-use Rattle.kt_eval.specs.reading.Machine.{Read, Trace, predefined, read_of, reading}
 use Rattle.kt_eval.specs.Outcome.{StepOver}
-use Rattle.kati_args.specs.declared.args.Args.{Args}
 use Rattle.kati_args.specs.declared.args.Macro.{Macro}
 
 -- `-f FILE`, or the default names of a makefile, in this order

@@ -1,17 +1,8 @@
 -- What a run means: its messages, its plan or its first fault, and the names that it asks for (kati's own).
 use Rattle.std.specs.Prelude.{◌≡◌, ℕ, List, [], Some, None, ◌⊎◌, Result, Ok, Err}
-use Rattle.kt_text.specs.Words.{Text}
-use Rattle.kt_eval.specs.declared.fault.Fault.{Fault}
-use Rattle.kt_eval.specs.files.Files.{Store}
-use Rattle.kt_eval.specs.reading.Machine.{Read, Trace, traced}
+use Rattle.kati.specs.Prelude.{Text, Fault, Store, Read, Trace, traced, fault_at, known_names, Node, Trouble}
+use Rattle.kati.specs.Prelude.{ComesFirst, IsSoundGraph, fault_number, fault_words, Plan, Args}
 use Rattle.kt_eval.specs.Outcome.{Outcome, Gave, Stopped, StepOver, ◌>>=◌, done}
-use Rattle.kt_eval.specs.Step.{fault_at}
-use Rattle.kt_graph.specs.Known.{known_names}
-use Rattle.kt_graph.specs.nodes.Node.{Node}
-use Rattle.kt_graph.specs.Reach.{Trouble, ComesFirst}
-use Rattle.kt_graph.specs.faults.Faults.{IsSoundGraph, fault_number, fault_words}
-use Rattle.kt_ninja.specs.declared.plan.Plan.{Plan}
-use Rattle.kati_args.specs.declared.args.Args.{Args}
 use Rattle.kati.specs.Steps.{telling}
 use Rattle.kati.specs.Listing.{listed}
 use Rattle.kati.specs.Makefile.{makefile_read}

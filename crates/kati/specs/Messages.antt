@@ -1,10 +1,6 @@
 -- What goes to the error output (kati's own).
 use Rattle.std.specs.Prelude.{List, [], ◌++◌, Result, Ok, Err, codes}
-use Rattle.std.specs.List.{flat_map}
-use Rattle.kt_text.specs.Words.{Text}
-use Rattle.kt_eval.specs.declared.fault.Fault.{Fault}
-use Rattle.kt_eval.specs.Faults.{fault_line}
-use Rattle.kt_ninja.specs.declared.plan.Plan.{Plan}
+use Rattle.kati.specs.Prelude.{flat_map, Text, Fault, fault_line, Plan}
 use Rattle.kati.specs.Meaning.{Meaning}
 
 abbrev pub fault_text : Result Plan Fault → Text

@@ -1,15 +1,8 @@
 -- What kati-asked writes, and how it ends (kati's own).
 use Rattle.std.specs.Prelude.{◌≡◌, ℕ, List, ◌∷◌, ◌++◌, Result, Ok, Err, codes, Bool, false, ◌==◌}
-use Rattle.std.specs.List.{flat_map, list_any}
-use Rattle.kt_list.specs.Counters.{Rises}
-use Rattle.kt_text.specs.Words.{Text}
-use Rattle.kt_eval.specs.files.Files.{AgreeWith, Store}
+use Rattle.kati.specs.Prelude.{flat_map, list_any, Rises, Text, AgreeWith, Store, Args, RunFault, Status, Devices}
 use Rattle.kt_ninja.specs.Written.{GrowsByFront, SinkSeen, Takes}
-use Rattle.kati_args.specs.declared.args.Args.{Args}
-use Rattle.kati.specs.declared.faults.RunFault.{RunFault}
 use Rattle.kati.specs.declared.faults.RunFault.TheVariants as faults
-use Rattle.kati.specs.declared.status.Status.{Status}
-use Rattle.kati.specs.Devices.{Devices}
 use Rattle.kati.specs.Exits.{exit_code}
 use Rattle.kati.specs.AfterRun.{BlamesDevice, Exits, Leaves}
 use Rattle.kati.specs.ErrorOutput.{ReportsEnd}

@@ -1,13 +1,7 @@
 -- That a run has a meaning, and only one, and that its plan is read back from its text (kati's own).
 use Rattle.std.specs.Prelude.{◌≡◌, List, Ok}
-use Rattle.kt_text.specs.Words.{Text}
-use Rattle.kt_eval.specs.files.Files.{Store}
-use Rattle.kati_args.specs.declared.args.Args.{Args}
+use Rattle.kati.specs.Prelude.{Text, Store, Args, Plan, ninja_read, plan_text, IsWritable}
 use Rattle.kati.specs.Meaning.{Meaning, Means}
-use Rattle.kt_ninja.specs.declared.plan.Plan.{Plan}
-use Rattle.kt_ninja_reader.specs.NinjaRead.{ninja_read}
-use Rattle.kt_ninja.specs.Text.{plan_text}
-use Rattle.kt_ninja.specs.Writable.{IsWritable}
 
 -- two meanings of one run are equal: messages, plan or fault, and names asked for
 abbrev pub HasOneMeaning : Type 0

@@ -2,26 +2,16 @@
 -- which statements there are, their order and the name `always_build` are kati's own).
 use Rattle.std.specs.Prelude.{ℕ, Bool, not, ◌&&◌, List, [], ◌∷◌, ◌++◌, map, filter, flat_map, Option, Some, None}
 use Rattle.std.specs.Prelude.{is_some, slice_get, if◌then◌else◌}
-use Rattle.std.specs.List.{list_any}
+use Rattle.kati.specs.Prelude.{list_any, Text, Rule, Fault, CommandNotWritable, NameNotWritable, Table, Node, inputs_of}
+use Rattle.kati.specs.Prelude.{order_only_of, groups_of, always_name, Statement, Plan, obstacle_of_statements}
 use Rattle.std.specs.Option.{option_and_then, option_map_or}
-use Rattle.kt_text.specs.Words.{Text}
 use Rattle.kt_rules.specs.Names.{is_among, without_repeats}
-use Rattle.kt_rules.specs.Entry.{Rule}
 use Rattle.kt_rules.specs.Book.{is_phony}
-use Rattle.kt_eval.specs.declared.fault.Fault.{Fault}
-use Rattle.kt_rules.specs.declared.fault_kind.FaultKind.TheVariants.{CommandNotWritable, NameNotWritable}
 use Rattle.kt_eval.specs.Outcome.{StepOver, ◌>>=◌, done, stop_at}
-use Rattle.kt_eval.specs.macros.Macros.{Table}
-use Rattle.kt_graph.specs.nodes.Node.{Node, inputs_of, order_only_of}
-use Rattle.kt_graph.specs.nodes.Groups.{groups_of}
-use Rattle.kt_graph.specs.faults.Paths.{always_name}
 use Rattle.kt_recipe.specs.Shell.{shell_of}
 use Rattle.kt_ninja.specs.declared.plan.Made.{Made}
 use Rattle.kt_ninja.specs.declared.plan.Made.TheVariants.{Command, Phony}
-use Rattle.kt_ninja.specs.declared.plan.Statement.{Statement}
-use Rattle.kt_ninja.specs.declared.plan.Plan.{Plan}
 use Rattle.kt_ninja.specs.Writable.{Obstacle, is_empty, no_output, bad_name, bad_command, repeated, not_an_output}
-use Rattle.kt_ninja.specs.Writable.{obstacle_of_statements}
 use Rattle.kati.specs.Steps.{fault_nowhere}
 
 -- the target that never exists, so that what needs it is always made

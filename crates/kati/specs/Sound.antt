@@ -1,15 +1,7 @@
 -- What no plan has: a name that depends on itself, two outputs that are one file, a name that is reserved for kati
 -- (kati's own; Ninja manual, "Build statements").
 use Rattle.std.specs.Prelude.{◌≡◌, ◌⊎◌, false, List, ◌++◌, Ok}
-use Rattle.std.specs.List.{Contains}
-use Rattle.kt_text.specs.Words.{Text}
-use Rattle.kt_eval.specs.files.Files.{Store}
-use Rattle.kt_graph.specs.faults.Paths.{canon_of, is_reserved}
-use Rattle.kt_graph.specs.Reach.{Reaches}
-use Rattle.kt_ninja.specs.Plan.{outputs}
-use Rattle.kt_ninja.specs.declared.plan.Plan.{Plan}
-use Rattle.kt_ninja.specs.declared.plan.Statement.{Statement}
-use Rattle.kati_args.specs.declared.args.Args.{Args}
+use Rattle.kati.specs.Prelude.{Contains, Text, Store, canon_of, is_reserved, Reaches, outputs, Plan, Statement, Args}
 use Rattle.kati.specs.Meaning.{Meaning, Means}
 use Rattle.kati.specs.Planning.{always_build, always_built}
 

@@ -1,11 +1,7 @@
 -- The steps of a run, which leave its messages and the names asked for (kati's own).
 use Rattle.std.specs.Prelude.{List, ◌∷◌, [], ◌++◌, None}
-use Rattle.kt_text.specs.Words.{Text}
+use Rattle.kati.specs.Prelude.{Text, Fault, Trace, traced, Gave, StepOver, leaving, fault_of}
 use Rattle.kt_rules.specs.declared.fault_kind.FaultKind.{FaultKind}
-use Rattle.kt_eval.specs.declared.fault.Fault.{Fault}
-use Rattle.kt_eval.specs.reading.Machine.{Trace, traced}
-use Rattle.kt_eval.specs.Outcome.{Gave, StepOver, leaving}
-use Rattle.kt_eval.specs.Step.{fault_of}
 
 -- a fault about a name, at no line
 abbrev pub fault_nowhere : FaultKind → Text → Fault

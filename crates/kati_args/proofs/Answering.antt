@@ -1,12 +1,6 @@
 -- What is asked for, put together; and what is answered for an error.
-use Rattle.std.proofs.Common.{◌≡◌, ◌∙◌, List, None, false, Ok, Err, inl, inr, ap, subst, sym, ⊎_elim, [], ◌∷◌, true≢false}
-use Rattle.std.proofs.lemmas.Bool.{cases_Bool}
-use Rattle.std.specs.Prelude.{find, option_map, unwrap_or, codes, Result, string_bytes, ◌≢◌}
-use Rattle.kt_text.specs.Words.{Text}
-use Rattle.clap.specs.Words.{HasKind, IsAmong, Kinds, Row, fault_of, first_of, kind_of, matches_of, takes}
-use Rattle.clap.specs.declared.error.Error.{Error}
-use Rattle.clap.specs.declared.error.kind.ErrorKind.{ErrorKind}
-use Rattle.clap.specs.declared.error.kind.ErrorKind.TheVariants.{DisplayHelp, OutOfMemory}
+use Rattle.std.proofs.Common.{◌≡◌, ◌∙◌, List, None, false, Ok, Err, inl, inr, ap, subst, sym, ⊎_elim, [], ◌∷◌, true≢false, find, option_map, unwrap_or, codes, Result, string_bytes, ◌≢◌}
+use Rattle.kati_args.proofs.Common.{cases_Bool, Text, HasKind, IsAmong, Kinds, Row, fault_of, first_of, kind_of, matches_of, takes, Error, ErrorKind, DisplayHelp, OutOfMemory}
 use Rattle.kati_args.specs.declared.args.Args.{Args}
 use Rattle.kati_args.specs.declared.fault.ArgFault.{ArgFault}
 use Rattle.kati_args.specs.declared.fault.ArgFault.TheVariants.{BadMacro, Help, Memory, Usage}

@@ -1,13 +1,9 @@
 -- Words cut at their first equals sign.
-use Rattle.std.proofs.Common.{◌≡◌, ◌∙◌, ℕ, ◌<◌, List, [], ◌∷◌, length, refl, sym, arith, ⊎_elim, ltb}
-use Rattle.std.proofs.lemmas.Bool.{cases_Bool, le-ltb, lt-ltb}
+use Rattle.std.proofs.Common.{◌≡◌, ◌∙◌, ℕ, ◌<◌, List, [], ◌∷◌, length, refl, sym, arith, ⊎_elim, ltb, true, false, Option, Some, None, MatchOption}
+use Rattle.kati_args.proofs.Common.{cases_Bool, le-ltb, lt-ltb, Bor, position_or_len, after_first, is_equals}
 use Rattle.std.proofs.lemmas.Bool.Decides.{nat_tests}
 use Rattle.std.proofs.lemmas.Str.Pattern.{IsSplitOnceResult, split_once_first}
-use Rattle.std.specs.Prelude.{true, false, Option, Some, None, MatchOption}
-use Rattle.std.specs.Borrow.{Bor}
-use Rattle.std.specs.List.{position_or_len, after_first}
 use Rattle.kati_args.specs.Args.{is_macro, name_in}
-use Rattle.kt_text.specs.Words.{is_equals}
 
 has_equals : (word : List ℕ) → is_macro word ≡ ltb (position_or_len is_equals word) (length word)
 has_equals [] = refl

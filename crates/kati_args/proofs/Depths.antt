@@ -1,21 +1,14 @@
 -- The value of `--depth` that clap takes is a number from 1 to 400.
-use Rattle.std.proofs.Common.{◌≡◌, ◌∙◌, ◌<◌, ◌&&◌, ℕ, zero, suc, Bool, true, false, not, List, [], ◌∷◌, length, map, refl, sym, ap, subst, inl, inr, arith, codes, Option, Some, None}
-use Rattle.std.specs.Prelude.{IfSome, slice_get, option_map, option_and_then}
-use Rattle.std.specs.Borrow.{Bor}
-use Rattle.std.specs.List.{All, list_all, slice_index_or}
-use Rattle.std.specs.Str.{bytes_eq}
+use Rattle.std.proofs.Common.{◌≡◌, ◌∙◌, ◌<◌, ◌&&◌, ℕ, zero, suc, Bool, true, false, not, List, [], ◌∷◌, length, map, refl, sym, ap, subst, inl, inr, arith, codes, Option, Some, None, IfSome, slice_get, option_map, option_and_then}
+use Rattle.kati_args.proofs.Common.{Bor, All, list_all, slice_index_or, bytes_eq, Entry, EntryPasses, PassesArg, args_of, groups_of, parser_of, parser_of_value, has_plain_fields, is_empty, is_simple_arg, App, IsParsedFrom, IsUnsignedIn, Rule, SameRules, app_of, first_value, found_of, rule_of}
 use Rattle.std.proofs.Math.ListN.{get_or-map}
 use Rattle.std.proofs.lemmas.List.{length-map}
 use Rattle.std.proofs.lemmas.List.Folds.{list_all-map}
 use Rattle.std.proofs.lemmas.List.Sums.{AllPass-from_list_all}
 use Rattle.std.proofs.lemmas.Slice.Eq.{bytes_eq-Decides}
-use Rattle.clap.specs.Facts.{Entry, EntryPasses, PassesArg, args_of, groups_of, parser_of, parser_of_value}
 use Rattle.clap.specs.Built.{IsAuto}
 use Rattle.clap.specs.Matches.{matched_of}
 use Rattle.clap.specs.Values.{Accepts}
-use Rattle.clap.specs.Simple.{has_plain_fields}
-use Rattle.clap.specs.Walk.{is_empty, is_simple_arg}
-use Rattle.clap.specs.Words.{App, IsParsedFrom, IsUnsignedIn, Rule, SameRules, app_of, first_value, found_of, rule_of}
 use Rattle.clap.specs.declared.builder.arg.Arg.{Arg}
 use Rattle.clap.specs.declared.builder.command.Command.{Command}
 use Rattle.clap.specs.declared.builder.command.Command.TheViews.{out-Command}

@@ -6,17 +6,13 @@ use Rattle.std.specs.Prelude.{string_bytes, Option}
 use Rattle.std.specs.List.{list_any, before_first, after_first}
 use Rattle.std.specs.Option.{option_map_or}
 use Rattle.std.specs.Str.Parse.{digits_value, without_leading_plus}
-use Rattle.kt_text.specs.Words.{Text, is_separator, is_equals}
+use Rattle.kati_args.specs.Prelude.{Text, is_separator, is_equals, new_rule, takes, with_rule, Args, Macro, ArgFault}
 use Rattle.clap.specs.Words.{App, IsAmong, Row, Rule, all_of, fault_of, first_of, kind_of, matches_of, new_app}
-use Rattle.clap.specs.Words.{new_rule, takes, with_rule}
 use Rattle.clap.specs.declared.builder.action.ArgAction.TheVariants.{Append, Set, SetTrue}
 use Rattle.clap.specs.declared.builder.value_parser.ValueParser.TheVariants as parser
 use Rattle.clap.specs.declared.error.kind.ErrorKind.{ErrorKind}
 use Rattle.clap.specs.declared.error.kind.ErrorKind.TheVariants.{DisplayHelp, OutOfMemory}
 use Rattle.clap.specs.declared.error.Error.{Error}
-use Rattle.kati_args.specs.declared.args.Args.{Args}
-use Rattle.kati_args.specs.declared.args.Macro.{Macro}
-use Rattle.kati_args.specs.declared.fault.ArgFault.{ArgFault}
 use Rattle.kati_args.specs.declared.fault.ArgFault.TheVariants.{BadMacro, Help, Memory, Usage}
 
 -- ---- the command, as clap has it

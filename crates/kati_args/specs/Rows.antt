@@ -1,12 +1,8 @@
 -- Worked command lines, as facts that compute. The forms of options are those of clap.
 use Rattle.std.specs.Prelude.{◌≡◌, ⊤, List, [], ◌∷◌, Option, Some, None, Result, Ok, Err, if◌then◌else◌, codes}
-use Rattle.kt_text.specs.Words.{Text}
-use Rattle.clap.specs.Words.{fault_of, matches_of, takes}
+use Rattle.kati_args.specs.Prelude.{Text, fault_of, matches_of, takes, Args, Macro, ArgFault}
 use Rattle.clap.specs.declared.error.kind.ErrorKind.TheVariants.{ArgumentConflict, DisplayHelp, InvalidValue}
 use Rattle.clap.specs.declared.error.kind.ErrorKind.TheVariants.{TooManyValues, UnknownArgument, ValueValidation}
-use Rattle.kati_args.specs.declared.args.Args.{Args}
-use Rattle.kati_args.specs.declared.args.Macro.{Macro}
-use Rattle.kati_args.specs.declared.fault.ArgFault.{ArgFault}
 use Rattle.kati_args.specs.declared.fault.ArgFault.TheVariants.{Memory, Usage}
 use Rattle.kati_args.specs.Args.{AnswersWords, answer_to, kati_app}
 

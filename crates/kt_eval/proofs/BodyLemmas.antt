@@ -1,13 +1,8 @@
 -- The body of a define, line by line.
 use Rattle.std.proofs.Common.{◌≡◌, ℕ, ◌-◌, List, [], ◌∷◌, ◌++◌, map, take, drop, refl, ap}
-use Rattle.std.specs.List.{join_with_byte, slice_range}
-use Rattle.std.proofs.lemmas.List.{append-nil, take-map, drop-map}
+use Rattle.kt_eval.proofs.Common.{join_with_byte, slice_range, append-nil, take-map, drop-map, Text, condensed_of, line_text, raw_line}
 use Rattle.kt_text.specs.declared.line.Line.{Line}
-use Rattle.kt_text.specs.Words.{Text}
-use Rattle.kt_text.specs.Lines.{condensed_of}
-use Rattle.kt_syntax.specs.Roles.{line_text}
 use Rattle.kt_eval.specs.macros.Assignments.{body_text}
-use Rattle.kt_eval.specs.reading.Reading.{raw_line}
 
 -- the rest of a body, with what comes before its next line
 unfoldable pub left_of_body : Text → List Text → Text

@@ -1,7 +1,6 @@
 -- The levels, one above the other.
 use Rattle.std.proofs.Common.{◌≡◌, ℕ, zero, suc, ◌-◌, ◌<◌, Bool, ap, refl, sym, arith}
-use Rattle.kt_eval.specs.files.Files.{Store}
-use Rattle.kt_eval.specs.expanding.Levels.{evaluator, above, none_left}
+use Rattle.kt_eval.proofs.Common.{Store, evaluator, above, none_left}
 
 -- what the levels are made of, opened under one name
 unfoldable pub opened : Unit {0}

@@ -1,3 +1,4 @@
+pub mod Common
 pub mod lemmas
 pub mod LevelLemmas
 pub mod BodyLemmas

@@ -1,10 +1,8 @@
 -- What remains of blocks after their last line.
 use Rattle.std.proofs.Common.{◌≡◌, ℕ, zero, suc, List, [], ◌∷◌, None, drop, refl, sym}
-use Rattle.std.specs.List.{slice_get}
+use Rattle.kt_eval.proofs.Common.{slice_get, none, levels_from, left_at}
 use Rattle.std.proofs.lemmas.Option.{none-some}
 use Rattle.kt_syntax.specs.declared.step.Step.{Step as Found}
-use Rattle.kt_syntax.specs.Blocks.{none, levels_from}
-use Rattle.kt_syntax.specs.Reading.{left_at}
 
 nothing_left : (steps : List Found) (place : ℕ) → drop place steps ≡ [] → left_at steps place ≡ none
 unfolding left_at levels_from

@@ -1,6 +1,5 @@
 -- The lemmas of each step under one name, for the attributes of functions.
-use Rattle.kt_eval.specs.expanding.Expansion.{referred, body_of, each_term, expanded, term_of}
-use Rattle.kt_eval.specs.State.{lookup}
+use Rattle.kt_eval.proofs.Common.{referred, body_of, each_term, expanded, term_of, lookup}
 use Rattle.kt_eval.specs.inner.Plain.{put_of, still_deferred, put_by, left_by}
 use Rattle.kt_eval.proofs.LevelLemmas.{evaluator_reads}
 use Rattle.kt_eval.proofs.lemmas.AgreementLemmas.{last_held, no_fewer}

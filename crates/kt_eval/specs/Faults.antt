@@ -1,8 +1,6 @@
 -- The line that reports a fault (kati's own).
 use Rattle.std.specs.Prelude.{ℕ, ◌++◌, codes, decimal, nat_lt, if◌then◌else◌}
-use Rattle.kt_text.specs.Words.{Text}
-use Rattle.kt_eval.specs.declared.fault.Fault.{Fault}
-use Rattle.kt_eval.specs.State.{message_place}
+use Rattle.kt_eval.specs.Prelude.{Text, Fault, message_place}
 
 -- a number with at least two digits
 abbrev pub two_digits : ℕ → Text

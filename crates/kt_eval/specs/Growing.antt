@@ -1,9 +1,6 @@
 -- What expanding and reading never remove, and what a larger limit of levels changes.
 use Rattle.std.specs.Prelude.{◌≡◌, ℕ, suc}
-use Rattle.kt_list.specs.Prefixes.{IsPrefix}
-use Rattle.kt_eval.specs.State.{World}
-use Rattle.kt_eval.specs.Outcome.{Outcome, Gave, Stopped, StepOver, left_of}
-use Rattle.kt_eval.specs.Step.{Step}
+use Rattle.kt_eval.specs.Prelude.{IsPrefix, World, Outcome, Gave, Stopped, StepOver, left_of, Step}
 
 -- messages and the names asked for are only added to
 abbrev pub Grows : World → World → Type 0

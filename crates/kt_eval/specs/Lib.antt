@@ -1,3 +1,4 @@
+pub mod Prelude
 pub mod files
 pub mod Values
 pub mod macros

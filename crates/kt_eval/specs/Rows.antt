@@ -1,18 +1,11 @@
 -- Worked values of expansion, as facts that compute. The texts are of the GNU make manual's sections on variables and
 -- functions, and of kati's own rules where it has some.
 use Rattle.std.specs.Prelude.{◌≡◌, ℕ, List, [], ◌∷◌, Option, Some, None, codes}
-use Rattle.kt_text.specs.Words.{Text}
-use Rattle.kt_rules.specs.declared.place.Place.{Place}
+use Rattle.kt_eval.specs.Prelude.{Text, Place, Fault, Deferred, Immediate, Macro, Table, assigning, keeps, defers}
+use Rattle.kt_eval.specs.Prelude.{expands, set_by_makefile, Outcome, Gave, Stopped, fault_at, Store}
 use Rattle.kt_syntax.specs.declared.form.Operator.TheVariants as operator
-use Rattle.kt_eval.specs.declared.fault.Fault.{Fault}
-use Rattle.kt_eval.specs.declared.macros.Flavour.TheVariants.{Deferred, Immediate}
 use Rattle.kt_eval.specs.declared.macros.Origin.TheVariants.{CommandLine}
-use Rattle.kt_eval.specs.declared.macros.Macro.{Macro}
-use Rattle.kt_eval.specs.macros.Macros.{Table, assigning, keeps, defers, expands, set_by_makefile}
-use Rattle.kt_eval.specs.Outcome.{Outcome, Gave, Stopped}
-use Rattle.kt_eval.specs.Step.{fault_at}
 use Rattle.kt_eval.specs.reading.Conditions.{compared_of}
-use Rattle.kt_eval.specs.files.Files.{Store}
 use Rattle.kt_eval.specs.expanding.Pure.{expanded_pure}
 use Rattle.kt_eval.specs.reading.Machine.{Trace, traced, Read, read_of, reading}
 

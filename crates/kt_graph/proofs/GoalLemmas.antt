@@ -1,8 +1,6 @@
 -- The goals of a command line, word by word.
 use Rattle.std.proofs.Common.{◌≡◌, ℕ, List, ◌∷◌, ◌+◌, ◌<◌, length, get_or, drop, fold, map, sym, ap, ◌∙◌}
-use Rattle.std.proofs.lemmas.List.{drop_more}
-use Rattle.kt_text.specs.Words.{Text}
-use Rattle.kt_rules.specs.Names.{with_name, without_dots, without_repeats}
+use Rattle.kt_graph.proofs.Common.{drop_more, Text, with_name, without_dots, without_repeats}
 use Rattle.kt_graph.specs.Goals.{named_goals}
 
 -- what the definition of the named goals is made of, opened under one name

@@ -1,2 +1,3 @@
+pub mod Common
 pub mod lemmas
 pub mod GoalLemmas

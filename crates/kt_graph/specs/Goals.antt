@@ -1,10 +1,7 @@
 -- The goals (GNU make manual, "Arguments to Specify the Goals", "Other Special Variables", on `.DEFAULT_GOAL`; "How
 -- `make` Processes a Makefile").
 use Rattle.std.specs.Prelude.{List, [], ◌∷◌, map, option_to_list, if◌then◌else◌}
-use Rattle.kt_text.specs.Words.{Text, is_nonempty, stripped}
-use Rattle.kt_rules.specs.Names.{without_dots, without_repeats}
-use Rattle.kt_rules.specs.Entry.{Rule}
-use Rattle.kt_rules.specs.Book.{first_goal_of}
+use Rattle.kt_graph.specs.Prelude.{Text, is_nonempty, stripped, without_dots, without_repeats, Rule, first_goal_of}
 
 -- the goals of a command line, each once; an empty word is one, too
 unfoldable pub named_goals : List Text → List Text

@@ -1,3 +1,4 @@
+pub mod Prelude
 pub mod Known
 pub mod search
 pub mod nodes

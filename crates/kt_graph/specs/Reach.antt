@@ -1,17 +1,9 @@
 -- The names that goals need, and what is wrong with them (POSIX.1-2024 make, "Target Rules"; GNU make manual, "How
 -- `make` Processes a Makefile"; what is refused is kati's own).
 use Rattle.std.specs.Prelude.{◌≡◌, ◌↔◌, Bool, true, false, not, ◌&&◌, List, [], ◌∷◌, bytes_eq, map, find, Option, Some}
-use Rattle.std.specs.Prelude.{None}
-use Rattle.std.specs.List.{Contains, list_any}
-use Rattle.std.specs.List.Sorted.{IsStrictlySortedBy}
-use Rattle.std.specs.Ordering.{nat_cmp}
-use Rattle.std.specs.Cmp.Lexicographic.{slice_cmp}
+use Rattle.kt_graph.specs.Prelude.{None, Contains, list_any, IsStrictlySortedBy, nat_cmp, slice_cmp, Text, is_among}
+use Rattle.kt_graph.specs.Prelude.{Rule, Implicit, Instance, Node, node_of, is_leaf, all_inputs}
 use Rattle.std.specs.declared.cmp.Ordering.TheVariants.{Less}
-use Rattle.kt_text.specs.Words.{Text}
-use Rattle.kt_rules.specs.Names.{is_among}
-use Rattle.kt_rules.specs.Entry.{Rule}
-use Rattle.kt_graph.specs.declared.nodes.node.NodeKind.TheVariants.{Implicit}
-use Rattle.kt_graph.specs.nodes.Node.{Instance, Node, node_of, is_leaf, all_inputs}
 use Rattle.kt_graph.specs.faults.Paths.{canon_of, is_reserved}
 
 -- ---- paths

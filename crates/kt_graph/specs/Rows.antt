@@ -1,15 +1,11 @@
 -- Worked names, choices, nodes and goals, as facts that compute. The rules are those of the GNU make manual's
 -- sections on implicit rules, and kati's own where it has some.
 use Rattle.std.specs.Prelude.{◌≡◌, ℕ, true, List, [], ◌∷◌, ◌++◌, Option, Some, None, option_map, codes}
-use Rattle.kt_text.specs.Words.{Text}
+use Rattle.kt_graph.specs.Prelude.{Text, Rule, all_needs, asked_after, choice_of, node_of, inputs_of, order_only_of}
 use Rattle.kt_rules.specs.declared.entry.Kind.TheVariants.{SingleColon, TerminalPattern}
-use Rattle.kt_rules.specs.Entry.{Rule}
-use Rattle.kt_rules.specs.Suffixes.{all_needs}
 use Rattle.kt_rules.specs.BookRows.{rule, made, needing, pattern}
 use Rattle.kt_graph.specs.declared.nodes.node.NodeKind.TheVariants as kinds
 use Rattle.kt_graph.specs.Known.{known_names, listed_names}
-use Rattle.kt_graph.specs.search.Search.{asked_after, choice_of}
-use Rattle.kt_graph.specs.nodes.Node.{node_of, inputs_of, order_only_of}
 use Rattle.kt_graph.specs.Goals.{goals_of}
 use Rattle.kt_graph.specs.faults.Paths.{canon_of, is_reserved}
 

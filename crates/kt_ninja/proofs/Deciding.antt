@@ -1,22 +1,14 @@
 -- A plan can be written exactly where it has no trouble.
-use Rattle.std.proofs.Common.{◌≡◌, ◌≢◌, ◌∙◌, ℕ, ◌+◌, List, [], ◌∷◌, ◌++◌, refl, sym, ap, arith, zero, suc}
-use Rattle.std.specs.Prelude.{Bool, true, false, not, ◌&&◌, ◌||◌, nat_eq, Option, Some, None, option_map, Result, Ok, Err, IsOk, find, All, Contains, if◌then◌else◌, ◌↔◌}
-use Rattle.std.specs.List.{list_all, position_from, IsDistinct, AllByRecursion}
+use Rattle.std.proofs.Common.{◌≡◌, ◌≢◌, ◌∙◌, ℕ, ◌+◌, List, [], ◌∷◌, ◌++◌, refl, sym, ap, arith, zero, suc, Bool, true, false, not, ◌&&◌, ◌||◌, nat_eq, Option, Some, None, option_map, Result, Ok, Err, IsOk, find, All, Contains, if◌then◌else◌, ◌↔◌}
+use Rattle.kt_ninja.proofs.Common.{list_all, position_from, IsDistinct, AllByRecursion, option_or, pointwise, same_text, other_text, and_from, or_from, or_parts, list_any-append, Statement, is_among, HasWritableTexts, IsWritable, Obstacle, no_output, bad_name, bad_command, repeated, not_an_output, first_obstacle, is_empty, is_made, is_name, not_made, repeated_after, obstacle_in, obstacle_of_statement, obstacle_of_statements}
 use Rattle.std.specs.Bool.{Decides}
-use Rattle.std.specs.Option.{option_or}
-use Rattle.std.specs.Cmp.Lexicographic.{pointwise, same_text, other_text}
-use Rattle.std.proofs.lemmas.Bool.{and_from, or_from, or_parts}
-use Rattle.std.proofs.lemmas.List.Folds.{list_any-append}
 use Rattle.std.proofs.lemmas.Map.Made.{AllPairs-from_IsDistinct, IsDistinct-from_AllPairs}
 use Rattle.std.proofs.lemmas.Map.Views.{list_any-from_Contains}
 use Rattle.std.proofs.lemmas.Cmp.{nat_list_eq_equiv}
 use Rattle.kt_list.proofs.general.Booleans.{and_first, and_second, or_nothing}
 use Rattle.kt_ninja.specs.declared.plan.Plan.{Plan}
-use Rattle.kt_ninja.specs.declared.plan.Statement.{Statement}
 use Rattle.kt_ninja.specs.declared.checking.Unwritable.{Unwritable}
 use Rattle.kt_ninja.specs.Plan.{names_of, outputs}
-use Rattle.kt_list.specs.Names.{is_among}
-use Rattle.kt_ninja.specs.Writable.{HasWritableTexts, IsWritable, Obstacle, no_output, bad_name, bad_command, repeated, not_an_output, first_obstacle, is_empty, is_made, is_name, not_made, repeated_after, obstacle_in, obstacle_of_statement, obstacle_of_statements}
 
 -- ---- a list all of whose elements pass has no first that fails
 

@@ -1,8 +1,6 @@
 -- A text with escapes, cut at its first special byte.
-use Rattle.std.proofs.Common.{◌≡◌, ◌<◌, ℕ, zero, suc, ◌+◌, List, [], ◌∷◌, ◌++◌, take, drop, length, refl, sym, ap, ◌∙◌, arith, add-one}
-use Rattle.std.specs.Prelude.{Bool, true, false, slice_index, codes, if◌then◌else◌}
-use Rattle.memchr.specs.Find.{Nowhere, NoneBefore, Passes}
-use Rattle.kt_ninja.specs.Text.{escaped}
+use Rattle.std.proofs.Common.{◌≡◌, ◌<◌, ℕ, zero, suc, ◌+◌, List, [], ◌∷◌, ◌++◌, take, drop, length, refl, sym, ap, ◌∙◌, arith, add-one, Bool, true, false, slice_index, codes, if◌then◌else◌}
+use Rattle.kt_ninja.proofs.Common.{Nowhere, NoneBefore, Passes, escaped}
 
 -- what one byte becomes
 abbrev one : Bool → ℕ → List ℕ

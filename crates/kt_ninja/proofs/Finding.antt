@@ -1,10 +1,6 @@
 -- Whether all bytes pass, by the place of the first that doesn't.
-use Rattle.std.proofs.Common.{◌≡◌, ℕ, suc, List, [], ◌∷◌, length, refl, sym, ap, arith, Option, Some, None, is_none}
-use Rattle.std.specs.Prelude.{Bool, true, not}
-use Rattle.std.specs.List.{list_all}
-use Rattle.std.proofs.lemmas.Bool.{and_from, false_from_ne_true, not_from_false}
-use Rattle.std.proofs.lemmas.List.Folds.{list_all_at}
-use Rattle.memchr.specs.Find.{IsFirstByte, Nowhere, Passes}
+use Rattle.std.proofs.Common.{◌≡◌, ℕ, suc, List, [], ◌∷◌, length, refl, sym, ap, arith, Option, Some, None, is_none, Bool, true, not}
+use Rattle.kt_ninja.proofs.Common.{list_all, and_from, false_from_ne_true, not_from_false, list_all_at, IsFirstByte, Nowhere, Passes}
 
 all_fail : (test : ℕ → Bool) (bs : List ℕ) → Nowhere (Passes test bs) 0 (length bs) → list_all (λ b. not (test b)) bs ≡ true
 all_fail test [] none = refl

@@ -1,7 +1,6 @@
 -- Lists of names that aren't empty stand after their mark.
 use Rattle.std.proofs.Common.{◌≡◌, ◌<◌, ℕ, List, [], ◌∷◌, ◌++◌, length, refl, codes, arith}
-use Rattle.std.specs.List.{concat}
-use Rattle.kt_ninja.specs.Text.{defaults_text, marked_text, names_text}
+use Rattle.kt_ninja.proofs.Common.{concat, defaults_text, marked_text, names_text}
 
 pub marked_text-some : (mark : List ℕ) (names : List (List ℕ)) → 0 < length names → marked_text mark names ≡ mark ++ names_text names
 marked_text-some mark [] some = absurd (omega arith)

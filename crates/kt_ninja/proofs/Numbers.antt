@@ -1,6 +1,5 @@
 -- The texts of numbers.
-use Rattle.std.proofs.Common.{◌≡◌, ◌∙◌, ◌<◌, ℕ, zero, suc, ◌+◌, refl, sym, ap, map, eqb-true, arith, ◌^◌}
-use Rattle.std.specs.Prelude.{Bool, true, false, ◌==◌, codes, decimal, if◌then◌else◌}
+use Rattle.std.proofs.Common.{◌≡◌, ◌∙◌, ◌<◌, ℕ, zero, suc, ◌+◌, refl, sym, ap, map, eqb-true, arith, ◌^◌, Bool, true, false, ◌==◌, codes, decimal, if◌then◌else◌}
 use Rattle.std.specs.Int.Digits.{digits_of}
 use Rattle.std.proofs.lemmas.Fmt.{decimal_digit, decimal-digits_of}
 use Rattle.kt_ninja.specs.Text.{number_text}

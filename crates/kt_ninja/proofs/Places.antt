@@ -1,8 +1,6 @@
 -- Lists by their places.
-use Rattle.std.proofs.Common.{◌≡◌, ℕ, ◌+◌, ◌<◌, ◌≤◌, List, [], ◌∷◌, ◌++◌, length, take, drop, sym, ap, ◌∙◌, arith, zero, suc}
-use Rattle.std.specs.Prelude.{Bool, true, false, ◌||◌, Some, None, find, slice_get, if◌then◌else◌}
-use Rattle.std.specs.List.{list_any, position_from}
-use Rattle.std.proofs.lemmas.List.{drop_all, drop_more, take_more}
+use Rattle.std.proofs.Common.{◌≡◌, ℕ, ◌+◌, ◌<◌, ◌≤◌, List, [], ◌∷◌, ◌++◌, length, take, drop, sym, ap, ◌∙◌, arith, zero, suc, Bool, true, false, ◌||◌, Some, None, find, slice_get, if◌then◌else◌}
+use Rattle.kt_ninja.proofs.Common.{list_any, position_from, drop_all, drop_more, take_more}
 use Rattle.std.proofs.lemmas.Option.{get_or_from_slice_get, slice_get_within}
 
 -- the list from a place on is the item there, and the list from the next on

@@ -1,9 +1,7 @@
 -- How texts that are put into a block follow one another.
-use Rattle.std.proofs.Common.{◌≡◌, ℕ, ◌+◌, List, [], ◌++◌, refl, sym, ap, subst, ◌∙◌, append_assoc, append-nil, arith, ◌<◌, ◌≤◌, ◌*◌, ◌⊎◌, inl, inr, length}
-use Rattle.std.proofs.lemmas.List.{length-append}
+use Rattle.std.proofs.Common.{◌≡◌, ℕ, ◌+◌, List, [], ◌++◌, refl, sym, ap, subst, ◌∙◌, append_assoc, append-nil, arith, ◌<◌, ◌≤◌, ◌*◌, ◌⊎◌, inl, inr, length, Bool, true, false}
+use Rattle.kt_ninja.proofs.Common.{length-append, Block}
 use Rattle.kt_list.specs.Counters.{Rises}
-use Rattle.std.specs.Prelude.{Bool, true, false}
-use Rattle.kt_ninja.specs.declared.block.Block.{Block}
 use Rattle.kt_ninja.specs.Written.{GrowsByFront, SinkSeen, appended}
 use Rattle.kt_ninja.specs.Blocks.{Moves, PutsBy, Counts, Passes, HandsOver, Puts, PrintsBy, Prints}
 use Rattle.kt_ninja.proofs.Growth.{appended-nil, front_after, front_of_more, takes_twice}

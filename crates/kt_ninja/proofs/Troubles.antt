@@ -1,15 +1,8 @@
 -- What keeps a plan from being written, along its lists.
-use Rattle.std.proofs.Common.{◌≡◌, ◌∙◌, ℕ, ◌+◌, List, [], ◌∷◌, ◌++◌, take, drop, refl, sym, ap, append_assoc, append-nil}
-use Rattle.std.specs.Prelude.{Bool, true, false, ◌||◌, not, nat_eq, Option, Some, None, find, slice_get, if◌then◌else◌}
-use Rattle.std.specs.List.{list_any}
-use Rattle.std.specs.Option.{option_or}
-use Rattle.std.specs.Cmp.Lexicographic.{pointwise}
+use Rattle.std.proofs.Common.{◌≡◌, ◌∙◌, ℕ, ◌+◌, List, [], ◌∷◌, ◌++◌, take, drop, refl, sym, ap, append_assoc, append-nil, Bool, true, false, ◌||◌, not, nat_eq, Option, Some, None, find, slice_get, if◌then◌else◌}
+use Rattle.kt_ninja.proofs.Common.{list_any, option_or, pointwise, find-append, list_any-append, Statement, is_among, Obstacle, is_name, repeated_after, obstacle_of_statements}
 use Rattle.std.proofs.lemmas.List.Concat.{flat_map-append}
-use Rattle.std.proofs.lemmas.List.Folds.{find-append, list_any-append}
-use Rattle.kt_ninja.specs.declared.plan.Statement.{Statement}
 use Rattle.kt_ninja.specs.Plan.{names_of, outputs}
-use Rattle.kt_list.specs.Names.{is_among}
-use Rattle.kt_ninja.specs.Writable.{Obstacle, is_name, repeated_after, obstacle_of_statements}
 use Rattle.kt_ninja.specs.View.{names_at, obstacle_at}
 use Rattle.kt_ninja.proofs.Places.{drop_at, take_at}
 

@@ -1,10 +1,8 @@
 -- A statement that is seen by its place, and its texts.
 use Rattle.std.proofs.Common.{◌≡◌, ℕ, List, Some, Option, ap, ◌∙◌, subst}
-use Rattle.kt_ninja.specs.declared.block.Block.{Block}
+use Rattle.kt_ninja.proofs.Common.{Block, Statement, marked_text, names_text, rule_name_text, rule_text}
 use Rattle.kt_ninja.specs.declared.plan.Made.{Made}
-use Rattle.kt_ninja.specs.declared.plan.Statement.{Statement}
 use Rattle.kt_ninja.specs.Blocks.{Puts}
-use Rattle.kt_ninja.specs.Text.{marked_text, names_text, rule_name_text, rule_text}
 use Rattle.kt_ninja.specs.View.{made_at, made_by, names_at}
 use Rattle.kt_ninja.specs.Written.{SinkSeen}
 

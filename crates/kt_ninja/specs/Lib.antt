@@ -1,3 +1,4 @@
+pub mod Prelude
 pub mod Plan
 pub mod View
 pub mod Text

@@ -1,12 +1,8 @@
 -- The text of a plan as a Ninja file (Ninja manual, "Ninja file reference" and "Lexical syntax"). Names of rules,
 -- and the order of lines, are kati's own.
 use Rattle.std.specs.Prelude.{ℕ, ◌+◌, ◌==◌, ◌||◌, Bool, List, [], ◌∷◌, ◌++◌, map, codes, if◌then◌else◌}
-use Rattle.std.specs.List.{concat, flat_map}
+use Rattle.kt_ninja.specs.Prelude.{concat, flat_map, Made, Command, Phony, Statement, Plan}
 use Rattle.std.specs.Int.Digits.{digits_of}
-use Rattle.kt_ninja.specs.declared.plan.Made.{Made}
-use Rattle.kt_ninja.specs.declared.plan.Made.TheVariants.{Command, Phony}
-use Rattle.kt_ninja.specs.declared.plan.Statement.{Statement}
-use Rattle.kt_ninja.specs.declared.plan.Plan.{Plan}
 
 -- each byte of this kind after a dollar, every other byte as it is
 abbrev pub escaped : (ℕ → Bool) → List ℕ → List ℕ

@@ -1,10 +1,6 @@
 -- A plan that is seen by places (kati's own).
 use Rattle.std.specs.Prelude.{ℕ, List, [], Option, Some, None, find, not, option_map, slice_get, if◌then◌else◌}
-use Rattle.std.specs.Option.{option_or}
-use Rattle.kt_ninja.specs.declared.plan.Made.{Made}
-use Rattle.kt_ninja.specs.declared.plan.Made.TheVariants.{Command, Phony}
-use Rattle.kt_ninja.specs.declared.plan.Statement.{Statement}
-use Rattle.kt_ninja.specs.declared.plan.Plan.{Plan}
+use Rattle.kt_ninja.specs.Prelude.{option_or, Made, Command, Phony, Statement, Plan}
 use Rattle.kt_ninja.specs.Plan.{names_of}
 use Rattle.kt_ninja.specs.Writable.{Obstacle, bad_name, bad_command, is_made, is_name}
 use Rattle.kt_ninja.specs.declared.view.Listed.{Listed}

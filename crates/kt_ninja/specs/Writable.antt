@@ -2,13 +2,8 @@
 -- are refused, and that no output stands twice, is kati's own).
 use Rattle.std.specs.Prelude.{◌≡◌, ◌≢◌, ℕ, ◌+◌, Bool, true, false, not, ◌==◌, ◌&&◌, ◌||◌, List, [], ◌∷◌, ◌++◌, All}
 use Rattle.std.specs.Prelude.{AllPairs, Contains, Option, Some, None, option_map, Result, Ok, Err, find, if◌then◌else◌}
-use Rattle.std.specs.List.{list_all, position_from}
-use Rattle.std.specs.Option.{option_or}
+use Rattle.kt_ninja.specs.Prelude.{list_all, position_from, option_or, Made, Command, Phony, Statement, Plan}
 use Rattle.kt_list.specs.Names.{is_among}
-use Rattle.kt_ninja.specs.declared.plan.Made.{Made}
-use Rattle.kt_ninja.specs.declared.plan.Made.TheVariants.{Command, Phony}
-use Rattle.kt_ninja.specs.declared.plan.Statement.{Statement}
-use Rattle.kt_ninja.specs.declared.plan.Plan.{Plan}
 use Rattle.kt_ninja.specs.declared.checking.Unwritable.{Unwritable}
 use Rattle.kt_ninja.specs.declared.checking.Unwritable.TheVariants as told
 use Rattle.kt_ninja.specs.Plan.{names_of, outputs}

@@ -1,11 +1,8 @@
 -- Joined lines and what stands in the file.
 use Rattle.std.proofs.Common.{◌≡◌, ℕ, ◌+◌, ◌-◌, Bool, true, false, not, ◌==◌, ◌&&◌, List, [], ◌∷◌, ◌++◌, refl, sym, ◌∙◌, ap, subst, append_assoc, append-nil, length, take, arith, Option, Some, None, ⊎_elim, ◌⊎◌, inl, inr}
-use Rattle.std.proofs.lemmas.Bool.{cases_Bool, false≢true, eqb-true, and_from, and_parts, not-true}
-use Rattle.std.proofs.lemmas.List.Folds.{list_all-append}
-use Rattle.std.proofs.lemmas.List.Concat.{flat_map-append}
-use Rattle.std.specs.List.{flat_map, list_all}
+use Rattle.kt_ninja_reader.proofs.Common.{cases_Bool, false≢true, eqb-true, and_from, and_parts, not-true, list_all-append, flat_map-append, flat_map, list_all, FileLine, JoinedLine, Text, ends_in_dollar, file_lines, first_number, goes_on, is_comment, joined_from, joined_lines, joined_text, with_byte, without_indent}
 use Rattle.kt_list.proofs.general.Booleans.{and_nothing}
-use Rattle.kt_ninja_reader.specs.JoinedLines.{Begun, FileLine, JoinedLine, Text, ends_in_dollar, file_lines, first_number, goes_on, is_comment, joined_from, joined_lines, joined_text, with_byte, without_indent}
+use Rattle.kt_ninja_reader.specs.JoinedLines.{Begun}
 use Rattle.kt_ninja_reader.specs.Continued.{AreContinued, AreUnescaped, Continued, EndsRight, HasNoNewline, IsEnd, JoinedLaw, end_in_file, fronts_in_file, in_file, kept_of, numbered}
 use Rattle.kt_ninja_reader.proofs.JoinedLemmas.{last-append}
 

@@ -1,10 +1,6 @@
 -- Parts and words of a line, one after another.
 use Rattle.std.proofs.Common.{◌≡◌, ℕ, false, not, List, [], ◌∷◌, ◌++◌, refl, sym, ◌∙◌, ap, append_assoc, append-nil, filter}
-use Rattle.std.specs.List.{list_any, slice_split}
-use Rattle.kt_ninja_reader.specs.Pieces.{Plain}
-use Rattle.kt_ninja.specs.Writable.{is_empty}
-use Rattle.kt_ninja_reader.specs.Forms.{Pieces, is_plain, words_of}
-use Rattle.kt_ninja_reader.specs.inner.Wording.{some_word}
+use Rattle.kt_ninja_reader.proofs.Common.{list_any, slice_split, Plain, is_empty, Pieces, is_plain, words_of, some_word}
 use Rattle.kt_ninja_reader.proofs.SpelledParts.{split_cut, split_free}
 
 -- parts

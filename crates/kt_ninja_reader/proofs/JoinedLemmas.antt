@@ -1,15 +1,9 @@
 -- Joined lines, line by line of the file.
 use Rattle.std.proofs.Common.{◌≡◌, ℕ, suc, zero, ◌+◌, ◌-◌, ◌<◌, ◌≤◌, Bool, true, false, not, ◌==◌, ◌&&◌, unwrap_or, List, [], ◌∷◌, ◌++◌, refl, sym, ◌∙◌, ap, append_assoc, length, length-append, take, drop, get_or, slice_index_or, subst, arith, Option, Some, None, find, if◌then◌else◌, ⊎_elim}
-use Rattle.std.proofs.lemmas.Bool.{cases_Bool, false≢true, false_from_ne_true, eqb-true, and_parts, not-true}
-use Rattle.std.proofs.lemmas.List.Folds.{list_all-append}
-use Rattle.std.proofs.Math.Seq.{take-append-add, drop-cons}
+use Rattle.kt_ninja_reader.proofs.Common.{cases_Bool, false≢true, false_from_ne_true, eqb-true, and_parts, not-true, list_all-append, take-append-add, drop-cons, Begun as OpenLine, position_or_len_is, IsFirstByte, is_byte, position_or_len, FileLine, JoinedLine, Text, ends_in_dollar, file_lines, first_number, goes_on, is_blank, is_comment, joined_from, joined_text, left_over, with_byte, without_indent}
 use Rattle.kt_ninja_reader.specs.declared.joined.FileLine.{FileLine as CutLine}
-use Rattle.kt_ninja_reader.specs.declared.joined.Begun.{Begun as OpenLine}
 use Rattle.kt_ninja_reader.specs.inner.Joining.{Joins, added_text, file_line, kept_text, text_with}
-use Rattle.std.proofs.lemmas.List.Sums.{position_or_len_is}
-use Rattle.memchr.specs.Find.{IsFirstByte, is_byte}
-use Rattle.std.specs.List.{position_or_len}
-use Rattle.kt_ninja_reader.specs.JoinedLines.{FileLine, JoinedLine, Text, ends_in_dollar, file_lines, first_number, goes_on, is_blank, is_comment, joined_from, joined_text, left_over, with_byte, without_indent}
+use Rattle.kt_ninja_reader.specs.JoinedLines.{Begun}
 
 -- what was begun, if a line goes on
 abbrev pub begun_by : Bool → OpenLine → Option Begun

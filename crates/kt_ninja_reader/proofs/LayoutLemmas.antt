@@ -1,13 +1,10 @@
 -- Comments, and blank lines between statements, change nothing: the parts that a file is cut into are read alike.
 use Rattle.std.proofs.Common.{◌≡◌, ℕ, ◌+◌, Bool, true, false, not, ◌==◌, ◌&&◌, ◌||◌, List, [], ◌∷◌, ◌++◌, refl, sym, ◌∙◌, ap, length, Option, Some, None, option_map, if◌then◌else◌, Result, Ok, Err}
-use Rattle.std.proofs.lemmas.Bool.{and_from, and_parts, false≢true}
-use Rattle.std.specs.List.{list_all}
+use Rattle.kt_ninja_reader.proofs.Common.{and_from, and_parts, false≢true, list_all, Binding, JoinedLine, Text, is_blank, is_comment, FilePart, State, all_parts, and_then_parts, begins_part, block_from, cut_lines, cut_with, is_sound, ninja_read, nothing_read, plan_in, plan_of, read_head, read_part, read_parts}
 use Rattle.std.specs.Result.{result_ok}
 use Rattle.kt_ninja_reader.specs.Continued.{AreContinued, Continued, EndsRight, numbered}
-use Rattle.kt_ninja_reader.specs.Forms.{Binding}
-use Rattle.kt_ninja_reader.specs.JoinedLines.{JoinedLine, Text, is_blank, is_comment}
 use Rattle.kt_ninja_reader.specs.Layout.{LayoutLaw, SaysNothing, is_between, text_of}
-use Rattle.kt_ninja_reader.specs.NinjaRead.{Cut, FilePart, State, all_parts, and_then_parts, begins_part, block_from, cut_lines, cut_with, is_sound, ninja_read, nothing_read, plan_in, plan_of, read_head, read_part, read_parts}
+use Rattle.kt_ninja_reader.specs.NinjaRead.{Cut}
 use Rattle.kt_ninja_reader.specs.Reading.{part_before, part_of}
 use Rattle.kt_ninja_reader.proofs.ContinuedLemmas.{joined_law}
 use Rattle.kt_ninja_reader.proofs.ReaderLemmas.{begin_by}

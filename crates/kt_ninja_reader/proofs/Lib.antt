@@ -1,3 +1,4 @@
+pub mod Common
 pub mod Stripping
 pub mod PrintedPieces
 pub mod PrintedNames

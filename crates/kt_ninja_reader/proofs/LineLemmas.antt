@@ -1,13 +1,6 @@
 -- The forms of a line, by their parts.
 use Rattle.std.proofs.Common.{◌≡◌, suc, ◌+◌, true, false, List, [], ◌∷◌, ◌++◌, refl, sym, ◌∙◌, ap, length, take, drop, arith, Option, Some, None, option_map, ⊎_elim}
-use Rattle.std.proofs.lemmas.Bool.{cases_Bool, false≢true}
-use Rattle.std.proofs.Math.Seq.{take-append_seam}
-use Rattle.std.specs.Option.{option_and_then}
-use Rattle.std.specs.List.{list_any, position_or_len, slice_split, before_first, after_first}
-use Rattle.kt_ninja_reader.specs.Pieces.{Plain}
-use Rattle.kt_ninja_reader.specs.JoinedLines.{Text}
-use Rattle.kt_ninja_reader.specs.Forms.{Inputs, Pieces, begins_with_at, binding_of, bound_to, build_after, build_cut, build_of, defaults_of, inputs_of, is_keyword, is_plain, name_in, paths_of, rule_of, without_lead, words_of}
-use Rattle.kt_ninja_reader.specs.inner.Wording.{bars_cut, key_of, not_keyword, two_of}
+use Rattle.kt_ninja_reader.proofs.Common.{cases_Bool, false≢true, take-append_seam, option_and_then, list_any, position_or_len, slice_split, before_first, after_first, Plain, Text, Inputs, Pieces, begins_with_at, binding_of, bound_to, build_after, build_cut, build_of, defaults_of, inputs_of, is_keyword, is_plain, name_in, paths_of, rule_of, without_lead, words_of, bars_cut, key_of, not_keyword, two_of}
 
 -- names, by the words
 pub rule_by : (ps : Pieces) (words : List Pieces) → words ≡ words_of ps → rule_of ps ≡ name_in words

@@ -1,15 +1,6 @@
 -- Pieces, cut off one after another.
 use Rattle.std.proofs.Common.{◌≡◌, ◌≢◌, ℕ, suc, zero, ◌+◌, ◌≤◌, Bool, true, false, ◌==◌, List, [], ◌∷◌, ◌++◌, refl, sym, ◌∙◌, ap, append_assoc, append-nil, length, take, drop, arith, MatchOption, Option, Some, None, option_map, if◌then◌else◌, ⊎_elim}
-use Rattle.std.proofs.lemmas.Bool.{cases_Bool, false≢true, eqb-true}
-use Rattle.std.proofs.lemmas.List.{length-drop}
-use Rattle.std.specs.Option.{option_and_then}
-use Rattle.std.specs.List.{prefix_len}
-use Rattle.kt_ninja_reader.specs.declared.spelling.Cut.{Cut}
-use Rattle.kt_ninja_reader.specs.declared.read_fault.Fault.{Fault}
-use Rattle.kt_ninja_reader.specs.declared.read_fault.Fault.TheVariants.{NoReading, Memory}
-use Rattle.kt_ninja_reader.specs.JoinedLines.{Text}
-use Rattle.kt_ninja.specs.Writable.{is_empty}
-use Rattle.kt_ninja_reader.specs.Pieces.{Piece, Plain, Escaped, Variable, Where, after_dollar, in_braces, in_name, is_escapable, is_long_name_byte, is_short_name_byte, outer_step, outside, pieces_from}
+use Rattle.kt_ninja_reader.proofs.Common.{cases_Bool, false≢true, eqb-true, length-drop, option_and_then, prefix_len, Cut, Fault, NoReading, Memory, Text, is_empty, Piece, Plain, Escaped, Variable, Where, after_dollar, in_braces, in_name, is_escapable, is_long_name_byte, is_short_name_byte, outer_step, outside, pieces_from}
 use Rattle.kt_ninja_reader.specs.inner.Cutting.{CutsOff, CutsShort, dollar_piece}
 use Rattle.kt_ninja_reader.specs.Spellings.{name_goes_on}
 use Rattle.kt_ninja_reader.specs.inner.Refusals.{LacksReading}

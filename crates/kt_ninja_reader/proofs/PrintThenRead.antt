@@ -1,24 +1,7 @@
 -- What is printed is read.
-use Rattle.std.proofs.Common.{◌≡◌, ◌∙◌, ◌<◌, ◌≤◌, ℕ, ◌+◌, List, [], ◌∷◌, ◌++◌, refl, sym, ap, subst, map, append-nil, append_assoc, arith}
-use Rattle.std.specs.Prelude.{Bool, true, false, not, ◌&&◌, nat_eq, Option, Some, None, option_map, Ok, codes, if◌then◌else◌}
-use Rattle.std.specs.List.{list_all}
-use Rattle.std.specs.Str.{bytes_eq}
-use Rattle.std.specs.Cmp.Lexicographic.{pointwise, other_text, same_text}
-use Rattle.std.proofs.lemmas.Bool.{and_from, and_parts}
-use Rattle.std.proofs.lemmas.List.Concat.{flat_map-append}
+use Rattle.std.proofs.Common.{◌≡◌, ◌∙◌, ◌<◌, ◌≤◌, ℕ, ◌+◌, List, [], ◌∷◌, ◌++◌, refl, sym, ap, subst, map, append-nil, append_assoc, arith, Bool, true, false, not, ◌&&◌, nat_eq, Option, Some, None, option_map, Ok, codes, if◌then◌else◌}
+use Rattle.kt_ninja_reader.proofs.Common.{list_all, bytes_eq, pointwise, other_text, same_text, and_from, and_parts, flat_map-append, Made, Command, Phony, Statement, Plan, JoinedLine, Text, ends_in_dollar, file_lines, is_comment, joined_from, joined_lines, Pieces, ScopeTable, command_value, find_in, put_in, Making, FilePart, PendingStatement, all_parts, and_then_parts, are_new, block_from, by_nothing, by_rule, cut_lines, cut_with, made_of, making_of, nothing_read, ninja_read, outs_of, plan_in, plan_of, read_part, read_parts, statement_of, names_of, outputs, defaults_text, number_text, plan_text, rule_count, rule_name_text, statements_text, is_among, IsWritable, is_empty, is_made, is_name, repeated_after}
 use Rattle.std.proofs.lemmas.Map.Made.{IsDistinct-from_AllPairs}
-use Rattle.kt_ninja.specs.declared.plan.Made.{Made}
-use Rattle.kt_ninja.specs.declared.plan.Made.TheVariants.{Command, Phony}
-use Rattle.kt_ninja.specs.declared.plan.Statement.{Statement}
-use Rattle.kt_ninja.specs.declared.plan.Plan.{Plan}
-use Rattle.kt_ninja_reader.specs.JoinedLines.{JoinedLine, Text, ends_in_dollar, file_lines, is_comment, joined_from, joined_lines}
-use Rattle.kt_ninja_reader.specs.Forms.{Pieces}
-use Rattle.kt_ninja_reader.specs.Scopes.{ScopeTable, command_value, find_in, put_in}
-use Rattle.kt_ninja_reader.specs.NinjaRead.{Making, FilePart, PendingStatement, all_parts, and_then_parts, are_new, block_from, by_nothing, by_rule, cut_lines, cut_with, made_of, making_of, nothing_read, ninja_read, outs_of, plan_in, plan_of, read_part, read_parts, statement_of}
-use Rattle.kt_ninja.specs.Plan.{names_of, outputs}
-use Rattle.kt_ninja.specs.Text.{defaults_text, number_text, plan_text, rule_count, rule_name_text, statements_text}
-use Rattle.kt_list.specs.Names.{is_among}
-use Rattle.kt_ninja.specs.Writable.{IsWritable, is_empty, is_made, is_name, repeated_after}
 use Rattle.kt_ninja_reader.proofs.PrintedPieces.{all_both, all_implies, either_case}
 use Rattle.kt_ninja_reader.proofs.PrintedNames.{command_expanded, command_pieces, number_once}
 use Rattle.kt_ninja_reader.proofs.PrintedLines.{Named, build_line, default_parts, from_parts, line_after, lines_at, named_from, part, plan_cut, plan_parts, statement_parts}

@@ -1,14 +1,7 @@
 -- The lines that the printer writes, cut as a reader cuts them.
-use Rattle.std.proofs.Common.{◌≡◌, ◌∙◌, ℕ, List, [], ◌∷◌, ◌++◌, refl, sym, ap, ap₂, map, append-nil, eq-eqb}
-use Rattle.std.specs.Prelude.{Bool, true, false, not, ◌==◌, ◌||◌, Some, option_map, filter, codes}
-use Rattle.std.specs.List.{list_all, list_any, flat_map, slice_split}
-use Rattle.std.specs.Option.{option_and_then}
-use Rattle.std.proofs.lemmas.Bool.{and_from, and_parts, not-true}
+use Rattle.std.proofs.Common.{◌≡◌, ◌∙◌, ℕ, List, [], ◌∷◌, ◌++◌, refl, sym, ap, ap₂, map, append-nil, eq-eqb, Bool, true, false, not, ◌==◌, ◌||◌, Some, option_map, filter, codes}
+use Rattle.kt_ninja_reader.proofs.Common.{list_all, list_any, flat_map, slice_split, option_and_then, and_from, and_parts, not-true, Text, Piece, Plain, Escaped, Variable, is_escapable, Build, Inputs, Pieces, binding_of, bound_to, build_after, build_cut, build_of, build_with, defaults_of, inputs_of, is_plain, name_bytes, name_in, paths_of, rule_of, without_lead, words_of, is_empty, is_name_byte}
 use Rattle.std.proofs.lemmas.List.Elements.{filter-append}
-use Rattle.kt_ninja_reader.specs.JoinedLines.{Text}
-use Rattle.kt_ninja_reader.specs.Pieces.{Piece, Plain, Escaped, Variable, is_escapable}
-use Rattle.kt_ninja_reader.specs.Forms.{Build, Inputs, Pieces, binding_of, bound_to, build_after, build_cut, build_of, build_with, defaults_of, inputs_of, is_plain, name_bytes, name_in, paths_of, rule_of, without_lead, words_of}
-use Rattle.kt_ninja.specs.Writable.{is_empty, is_name_byte}
 use Rattle.kt_ninja_reader.proofs.PrintedPieces.{all_both, all_implies, neither, piece_by}
 use Rattle.kt_ninja_reader.proofs.PrintedNames.{command_pieces, is_name_piece, is_word}
 

@@ -1,20 +1,7 @@
 -- The text of a plan as lines of pieces, and these as the parts of a file.
-use Rattle.std.proofs.Common.{◌≡◌, ◌∙◌, ℕ, ◌+◌, List, [], ◌∷◌, ◌++◌, refl, sym, ap, ap₂, map, append-nil, append_assoc}
-use Rattle.std.specs.Prelude.{Bool, true, not, ◌==◌, ◌&&◌, ◌||◌, Some, None, codes}
-use Rattle.std.specs.List.{concat, list_all}
-use Rattle.std.proofs.lemmas.Bool.{and_from, and_parts}
-use Rattle.std.proofs.lemmas.List.Folds.{list_all-append}
-use Rattle.std.proofs.lemmas.List.Concat.{flat_map-append}
-use Rattle.kt_ninja_reader.specs.Pieces.{Plain}
-use Rattle.kt_ninja.specs.declared.plan.Made.{Made}
-use Rattle.kt_ninja.specs.declared.plan.Made.TheVariants.{Command, Phony}
-use Rattle.kt_ninja.specs.declared.plan.Statement.{Statement}
-use Rattle.kt_ninja_reader.specs.JoinedLines.{JoinedLine, Text, file_lines, joined_from}
-use Rattle.kt_ninja_reader.specs.Forms.{Pieces}
-use Rattle.kt_ninja_reader.specs.NinjaRead.{Cut, FilePart, cut_lines, cut_with}
-use Rattle.kt_ninja.specs.Plan.{names_of}
-use Rattle.kt_ninja.specs.Text.{command_text, defaults_text, is_special_in_name, marked_text, names_text, number_text, rule_count, rule_name_text, rule_text, statements_text}
-use Rattle.kt_ninja.specs.Writable.{is_command_byte, is_empty, is_made, is_name}
+use Rattle.std.proofs.Common.{◌≡◌, ◌∙◌, ℕ, ◌+◌, List, [], ◌∷◌, ◌++◌, refl, sym, ap, ap₂, map, append-nil, append_assoc, Bool, true, not, ◌==◌, ◌&&◌, ◌||◌, Some, None, codes}
+use Rattle.kt_ninja_reader.proofs.Common.{concat, list_all, and_from, and_parts, list_all-append, flat_map-append, Plain, Made, Command, Phony, Statement, JoinedLine, Text, file_lines, joined_from, Pieces, FilePart, cut_lines, cut_with, names_of, command_text, defaults_text, is_special_in_name, marked_text, names_text, number_text, rule_count, rule_name_text, rule_text, statements_text, is_command_byte, is_empty, is_made, is_name}
+use Rattle.kt_ninja_reader.specs.NinjaRead.{Cut}
 use Rattle.kt_ninja_reader.proofs.PrintedPieces.{all_both, all_implies, command_bytes, is_printed, neither, nothing_open, written, written_append, written_by}
 use Rattle.kt_ninja_reader.proofs.PrintedNames.{command_pieces, command_printed, command_written, is_name_piece, name_pieces, name_printed, names_are_words, plain_pieces, rule_name_bytes, written_plain}
 use Rattle.kt_ninja_reader.proofs.PrintedForms.{after_colon, after_pass, ended, spaced, spaced_pass, words_pass}

@@ -1,19 +1,9 @@
 -- What the printer writes for names, rules' names and commands, as pieces.
-use Rattle.std.proofs.Common.{◌≡◌, ◌∙◌, ◌<◌, ℕ, zero, suc, ◌+◌, List, [], ◌∷◌, ◌++◌, refl, sym, ap, ap₂, map, get_or, eqb-true, arith, le-leb, append_assoc, append-nil}
-use Rattle.std.specs.Prelude.{Bool, true, false, not, ◌==◌, ◌&&◌, ◌||◌, nat_le, Some, codes, if◌then◌else◌}
-use Rattle.std.specs.List.{list_all}
+use Rattle.std.proofs.Common.{◌≡◌, ◌∙◌, ◌<◌, ℕ, zero, suc, ◌+◌, List, [], ◌∷◌, ◌++◌, refl, sym, ap, ap₂, map, get_or, eqb-true, arith, le-leb, append_assoc, append-nil, Bool, true, false, not, ◌==◌, ◌&&◌, ◌||◌, nat_le, Some, codes, if◌then◌else◌}
+use Rattle.kt_ninja_reader.proofs.Common.{list_all, and_from, and_parts, or_left, or_right, Made, Command, Phony, Text, Piece, Plain, Escaped, Variable, is_escapable, is_letter_or_digit, is_long_name_byte, is_short_name_byte, Pieces, name_bytes, expanded, names_one, refers_to, command_text, is_special_in_command, is_special_in_name, lead_text, number_text, rule_name_text, is_command_byte, is_empty, is_name, is_name_byte}
 use Rattle.std.specs.Int.Digits.{AllBelowBase, digits_of}
 use Rattle.std.proofs.Math.Bool.{or_assoc}
-use Rattle.std.proofs.lemmas.Bool.{and_from, and_parts, or_left, or_right}
 use Rattle.std.proofs.lemmas.Int.Digits.{all_below_base_digits_of, first_digits_of, same_from_digits_of}
-use Rattle.kt_ninja.specs.declared.plan.Made.{Made}
-use Rattle.kt_ninja.specs.declared.plan.Made.TheVariants.{Command, Phony}
-use Rattle.kt_ninja_reader.specs.JoinedLines.{Text}
-use Rattle.kt_ninja_reader.specs.Pieces.{Piece, Plain, Escaped, Variable, is_escapable, is_letter_or_digit, is_long_name_byte, is_short_name_byte}
-use Rattle.kt_ninja_reader.specs.Forms.{Pieces, name_bytes}
-use Rattle.kt_ninja_reader.specs.Scopes.{expanded, names_one, refers_to}
-use Rattle.kt_ninja.specs.Text.{command_text, is_special_in_command, is_special_in_name, lead_text, number_text, rule_name_text}
-use Rattle.kt_ninja.specs.Writable.{is_command_byte, is_empty, is_name, is_name_byte}
 use Rattle.kt_ninja.proofs.Numbers.{number_more, number_zero}
 use Rattle.kt_ninja_reader.proofs.PrintedPieces.{by_passes, expanded_by, is_printed, neither, one_expanded, piece_by, piece_written, pieces_by, written, written_by}
 

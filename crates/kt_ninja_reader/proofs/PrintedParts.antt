@@ -1,21 +1,6 @@
 -- The lines of a printed plan, each read as what it was printed for.
-use Rattle.std.proofs.Common.{◌≡◌, ◌∙◌, ℕ, ◌+◌, List, [], ◌∷◌, ◌++◌, refl, ap, map}
-use Rattle.std.specs.Prelude.{true, false, not, ◌==◌, ◌||◌, Option, Some, None, option_map, is_none, codes, if◌then◌else◌}
-use Rattle.std.specs.List.{list_all}
-use Rattle.std.specs.Option.{option_and_then}
-use Rattle.std.specs.Str.{bytes_eq}
-use Rattle.std.proofs.lemmas.Bool.{and_from, and_parts}
-use Rattle.kt_ninja.specs.declared.plan.Made.{Made}
-use Rattle.kt_ninja.specs.declared.plan.Made.TheVariants.{Command, Phony}
-use Rattle.kt_ninja.specs.declared.plan.Statement.{Statement}
-use Rattle.kt_ninja_reader.specs.JoinedLines.{JoinedLine, Text, is_comment}
-use Rattle.kt_ninja_reader.specs.Pieces.{Plain, pieces}
-use Rattle.kt_ninja_reader.specs.Forms.{Binding, Build, Form, Pieces, binding_of, build_form, build_of, default_form, defaults_of, form_of, rule_form, rule_of}
-use Rattle.kt_ninja_reader.specs.Scopes.{ScopeTable, find_in, put_in, value_in, value_within}
-use Rattle.kt_ninja_reader.specs.NinjaRead.{Making, State, PendingStatement, add_defaults, add_statement, are_new, block_from, block_of, block_scope, is_file_byte, is_sound, making_of, outs_of, paths_in, read_build, read_default, read_form, read_head, read_part, read_rule, rule_command, pending_with}
-use Rattle.kt_ninja.specs.Text.{is_special_in_name, rule_name_text}
-use Rattle.kt_list.specs.Names.{is_among}
-use Rattle.kt_ninja.specs.Writable.{is_command, is_command_byte, is_empty, is_name}
+use Rattle.std.proofs.Common.{◌≡◌, ◌∙◌, ℕ, ◌+◌, List, [], ◌∷◌, ◌++◌, refl, ap, map, true, false, not, ◌==◌, ◌||◌, Option, Some, None, option_map, is_none, codes, if◌then◌else◌}
+use Rattle.kt_ninja_reader.proofs.Common.{list_all, option_and_then, bytes_eq, and_from, and_parts, Made, Command, Phony, Statement, JoinedLine, Text, is_comment, Plain, pieces, Binding, Build, Form, Pieces, binding_of, build_form, build_of, default_form, defaults_of, form_of, rule_form, rule_of, ScopeTable, find_in, put_in, value_in, value_within, Making, State, PendingStatement, add_defaults, add_statement, are_new, block_from, block_of, block_scope, is_file_byte, is_sound, making_of, outs_of, paths_in, read_build, read_default, read_form, read_head, read_part, read_rule, rule_command, pending_with, is_special_in_name, rule_name_text, is_among, is_command, is_command_byte, is_empty, is_name}
 use Rattle.kt_ninja_reader.proofs.PrintedPieces.{all_implies, command_bytes, expanded_by, is_printed, neither, pieces_from_written, written}
 use Rattle.kt_ninja_reader.proofs.PrintedNames.{command_alone, command_pieces, is_word, name_bytes_plain, name_pieces, names_are_words, plain_pieces, rule_name_bytes}
 use Rattle.kt_ninja_reader.proofs.PrintedForms.{after_build, after_colon, binding_printed, build_printed, built, defaults_printed, inputs_are, rule_printed, spaced}

@@ -1,16 +1,6 @@
 -- Texts as the printer writes them: each piece as its own bytes.
-use Rattle.std.proofs.Common.{◌≡◌, ◌∙◌, ℕ, List, [], ◌∷◌, ◌++◌, refl, sym, ap₂, subst, map, eqb-true}
-use Rattle.std.specs.Prelude.{Bool, true, false, not, ◌==◌, ◌&&◌, ◌||◌, Some, codes, if◌then◌else◌}
-use Rattle.std.specs.List.{list_all, flat_map}
-use Rattle.std.proofs.lemmas.Bool.{and_from, and_parts, not-true}
-use Rattle.std.proofs.lemmas.List.Folds.{list_all-append}
-use Rattle.std.proofs.lemmas.List.Concat.{flat_map-append}
-use Rattle.kt_ninja.specs.Text.{escaped}
-use Rattle.kt_ninja_reader.specs.JoinedLines.{Text, ends_in_dollar}
-use Rattle.kt_ninja_reader.specs.Pieces.{Piece, Plain, Escaped, Variable, is_escapable, outside, pieces_from}
-use Rattle.kt_ninja_reader.specs.Forms.{Pieces}
-use Rattle.kt_ninja_reader.specs.Scopes.{expanded, piece_text}
-use Rattle.kt_ninja.specs.Writable.{is_command_byte}
+use Rattle.std.proofs.Common.{◌≡◌, ◌∙◌, ℕ, List, [], ◌∷◌, ◌++◌, refl, sym, ap₂, subst, map, eqb-true, Bool, true, false, not, ◌==◌, ◌&&◌, ◌||◌, Some, codes, if◌then◌else◌}
+use Rattle.kt_ninja_reader.proofs.Common.{list_all, flat_map, and_from, and_parts, not-true, list_all-append, flat_map-append, escaped, Text, ends_in_dollar, Piece, Plain, Escaped, Variable, is_escapable, outside, pieces_from, Pieces, expanded, piece_text, is_command_byte}
 
 -- what the printer writes for a piece; it writes no variables
 abbrev pub piece_written : Piece → Text

@@ -1,20 +1,10 @@
 -- The parts of a file, one after another.
 use Rattle.std.proofs.Common.{◌≡◌, ◌≤◌, ◌+◌, ◌-◌, ℕ, suc, Bool, true, false, not, List, [], ◌∷◌, ◌++◌, refl, sym, ◌∙◌, ap, append_assoc, append-nil, subst, length, take, drop, map, arith, Option, Some, None, option_map, Result, Ok, Err, MatchResult, ⊎_elim}
-use Rattle.std.proofs.lemmas.Bool.{cases_Bool}
-use Rattle.std.proofs.lemmas.List.{drop-drop, length-drop, map_push}
-use Rattle.std.specs.List.{prefix_len}
-use Rattle.kt_ninja.specs.declared.plan.Plan.{Plan}
-use Rattle.kt_ninja_reader.specs.declared.read_fault.Fault.{Fault}
-use Rattle.kt_ninja_reader.specs.declared.read_fault.Fault.TheVariants.{NoReading, Memory}
+use Rattle.kt_ninja_reader.proofs.Common.{cases_Bool, drop-drop, length-drop, map_push, prefix_len, Plan, Fault, NoReading, Memory, JoinedLine, Text, is_blank, is_comment, Binding, FilePart, State, all_parts, and_then_parts, begins_part, block_from, cut_lines, ninja_read, nothing_read, read_part, read_parts, plan_text, IsWritable}
 use Rattle.kt_ninja_reader.specs.declared.read_fault.ReadFault.{ReadFault}
 use Rattle.kt_ninja_reader.specs.declared.read_fault.ReadFault.TheVariants.{NotNinja, Memory as MemoryRefused}
-use Rattle.kt_ninja_reader.specs.JoinedLines.{JoinedLine, Text, is_blank, is_comment}
-use Rattle.kt_ninja_reader.specs.Forms.{Binding}
-use Rattle.kt_ninja_reader.specs.NinjaRead.{FilePart, State, all_parts, and_then_parts, begins_part, block_from, cut_lines, ninja_read, nothing_read, read_part, read_parts}
 use Rattle.kt_ninja_reader.specs.Reading.{Adds, Misreads, StopsBlock, fault_at, line_binding, part_before, part_of}
 use Rattle.kt_ninja_reader.specs.inner.Refusals.{LacksReading}
-use Rattle.kt_ninja.specs.Text.{plan_text}
-use Rattle.kt_ninja.specs.Writable.{IsWritable}
 use Rattle.kt_ninja_reader.proofs.PrintThenRead.{printed_is_read}
 
 -- ---- blocks, line by line

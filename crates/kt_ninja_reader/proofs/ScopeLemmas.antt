@@ -1,10 +1,6 @@
 -- Shell words, path by path.
 use Rattle.std.proofs.Common.{◌≡◌, ℕ, Bool, ◌||◌, List, [], ◌∷◌, ◌++◌, refl, sym, ◌∙◌, ap, append_assoc, append-nil, map}
-use Rattle.std.specs.Borrow.{Bor}
-use Rattle.std.specs.List.{flat_map, join_with_byte, list_any}
-use Rattle.kt_ninja_reader.specs.JoinedLines.{Text}
-use Rattle.kt_ninja_reader.specs.Pieces.{Piece, Plain}
-use Rattle.kt_ninja_reader.specs.Scopes.{expanded, piece_text, shell_word, shell_words}
+use Rattle.kt_ninja_reader.proofs.Common.{Bor, flat_map, join_with_byte, list_any, Text, Piece, Plain, expanded, piece_text, shell_word, shell_words}
 use Rattle.kt_ninja_reader.proofs.SpelledParts.{expanded_after}
 
 joined_words : (between : ℕ) (path : Text) (paths : List Text)

@@ -1,16 +1,7 @@
 -- Spellings, byte by byte: what a text's bytes end, and where it can be cut.
 use Rattle.std.proofs.Common.{◌≡◌, ◌≢◌, ℕ, suc, ◌+◌, ◌-◌, ◌≤◌, Bool, true, false, ◌==◌, ◌&&◌, not, List, [], ◌∷◌, ◌++◌, refl, sym, ◌∙◌, ap, append_assoc, append-nil, map, length, length-append, take, drop, arith, Option, Some, None, option_map, unwrap_or, is_some, IfSome, ⊎_elim}
-use Rattle.std.proofs.lemmas.Bool.{cases_Bool, false≢true, false_from_ne_true, eqb-true, eq-eqb}
-use Rattle.std.specs.Option.{option_and_then}
-use Rattle.std.proofs.lemmas.List.Sums.{position_or_len_is}
-use Rattle.std.specs.List.{list_any, position_or_len}
-use Rattle.memchr.specs.Find.{IsFirstByte, is_byte2}
-use Rattle.kt_ninja_reader.specs.declared.spelling.Cut.{Cut}
-use Rattle.kt_ninja_reader.specs.JoinedLines.{Text}
-use Rattle.kt_ninja_reader.specs.Pieces.{Piece, Plain, Variable, Where, PieceStep, after_dollar, in_braces, in_name, is_escapable, is_long_name_byte, is_short_name_byte, last_pieces, outside, pieces, pieces_from, step}
+use Rattle.kt_ninja_reader.proofs.Common.{cases_Bool, false≢true, false_from_ne_true, eqb-true, eq-eqb, option_and_then, position_or_len_is, list_any, position_or_len, IsFirstByte, is_byte2, Cut, Text, Piece, Plain, Variable, Where, PieceStep, after_dollar, in_braces, in_name, is_escapable, is_long_name_byte, is_short_name_byte, last_pieces, outside, pieces, pieces_from, step, is_plain, is_empty}
 use Rattle.kt_ninja_reader.specs.inner.Spelled.{is_spelled, pieces_in}
-use Rattle.kt_ninja_reader.specs.Forms.{is_plain}
-use Rattle.kt_ninja.specs.Writable.{is_empty}
 use Rattle.kt_ninja_reader.specs.inner.Cutting.{AreSides, CutsOff, dollar_piece, is_mark, stops_at}
 use Rattle.kt_ninja_reader.proofs.PieceLemmas.{map_twice, none_before, outside-dollar, outside-plain}
 

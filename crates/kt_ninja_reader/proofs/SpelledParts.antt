@@ -1,15 +1,8 @@
 -- Spellings by their first piece: names, spaces, variables, and what they stand for.
 use Rattle.std.proofs.Common.{◌≡◌, ◌≢◌, ℕ, suc, ◌+◌, Bool, true, false, ◌==◌, ◌||◌, List, [], ◌∷◌, ◌++◌, refl, sym, ◌∙◌, ap, append-nil, map, length, take, drop, arith, Option, Some, None, option_map, unwrap_or, is_some, IfSome, ⊎_elim}
-use Rattle.std.proofs.lemmas.Bool.{cases_Bool, false≢true, eqb-true, eq-eqb, ne_eqb}
-use Rattle.std.specs.Borrow.{Bor}
-use Rattle.std.specs.List.{list_any, prefix_len, slice_split, onto_first}
+use Rattle.kt_ninja_reader.proofs.Common.{cases_Bool, false≢true, eqb-true, eq-eqb, ne_eqb, Bor, list_any, prefix_len, slice_split, onto_first, Text, Piece, Plain, Escaped, Variable, after_dollar, is_escapable, is_long_name_byte, is_short_name_byte, outside, pieces, pieces_from, begins_with_at, is_plain, name_bytes, without_lead, expanded, refers_to, is_empty}
 use Rattle.std.proofs.lemmas.List.Splits.{slice_split-cons_no}
-use Rattle.kt_ninja_reader.specs.JoinedLines.{Text}
-use Rattle.kt_ninja_reader.specs.Pieces.{Piece, Plain, Escaped, Variable, after_dollar, is_escapable, is_long_name_byte, is_short_name_byte, outside, pieces, pieces_from}
 use Rattle.kt_ninja_reader.specs.inner.Spelled.{is_spelled, pieces_in}
-use Rattle.kt_ninja_reader.specs.Forms.{begins_with_at, is_plain, name_bytes, without_lead}
-use Rattle.kt_ninja_reader.specs.Scopes.{expanded, refers_to}
-use Rattle.kt_ninja.specs.Writable.{is_empty}
 use Rattle.kt_ninja_reader.specs.inner.Cutting.{variable_names}
 use Rattle.kt_ninja_reader.proofs.PieceLemmas.{closed, escape-brace, escape-escapable, escape-nil, escape-none, escape-short, in_braces-prefix, in_name-prefix, outside-dollar, outside-plain}
 use Rattle.kt_ninja_reader.proofs.SpelledLemmas.{outside_some, spelled_some}

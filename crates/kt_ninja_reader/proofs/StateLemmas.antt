@@ -1,17 +1,8 @@
 -- What was read so far, step by step.
 use Rattle.std.proofs.Common.{◌≡◌, ℕ, ◌+◌, ◌<◌, Bool, true, false, not, ◌&&◌, ◌||◌, List, [], ◌∷◌, ◌++◌, refl, sym, ◌∙◌, ap, append_assoc, append-nil, length, drop, map, get_or, Option, Some, None, option_map, is_some, subst, Result, MatchResult, if◌then◌else◌}
-use Rattle.std.proofs.lemmas.List.{drop_more}
-use Rattle.std.specs.List.{list_all}
-use Rattle.kt_ninja.specs.declared.plan.Made.{Made}
-use Rattle.kt_ninja_reader.specs.declared.read_fault.Fault.{Fault}
+use Rattle.kt_ninja_reader.proofs.Common.{drop_more, list_all, Made, Fault, Text, Binding, Build, Pieces, Scope, expanded, find_in, put_in, refers_to, value_in, value_within, Making, State, PendingStatement, add_defaults, are_new, block_scope, made_of, outs_of, paths_in, pending_with, statement_of, is_among, with_name, is_empty}
 use Rattle.kt_ninja_reader.specs.declared.pending_statement.Making.{Making as HeldMaking}
 use Rattle.kt_ninja_reader.specs.declared.pending_statement.Making.TheVariants.{ByNothing, ByOwn, ByRule}
-use Rattle.kt_ninja_reader.specs.JoinedLines.{Text}
-use Rattle.kt_ninja_reader.specs.Forms.{Binding, Build, Pieces}
-use Rattle.kt_ninja_reader.specs.Scopes.{Scope, expanded, find_in, put_in, refers_to, value_in, value_within}
-use Rattle.kt_ninja_reader.specs.NinjaRead.{Making, State, PendingStatement, add_defaults, are_new, block_scope, made_of, outs_of, paths_in, pending_with, statement_of}
-use Rattle.kt_list.specs.Names.{is_among, with_name}
-use Rattle.kt_ninja.specs.Writable.{is_empty}
 use Rattle.kt_ninja_reader.specs.inner.Refusals.{LacksReading}
 use Rattle.kt_ninja_reader.specs.inner.Holding.{block_with, made_as, making_as, path_in}
 

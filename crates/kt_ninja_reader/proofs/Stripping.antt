@@ -1,9 +1,6 @@
 -- A text without the keyword that it begins with.
-use Rattle.std.proofs.Common.{◌≡◌, ◌∙◌, ℕ, ◌+◌, List, length, take, drop}
-use Rattle.std.specs.Prelude.{true, false, nat_eq, Option, Some, None, MatchOption}
-use Rattle.std.specs.Borrow.{Bor}
-use Rattle.std.specs.List.{starts_with}
-use Rattle.std.specs.Cmp.Lexicographic.{pointwise}
+use Rattle.std.proofs.Common.{◌≡◌, ◌∙◌, ℕ, ◌+◌, List, length, take, drop, true, false, nat_eq, Option, Some, None, MatchOption}
+use Rattle.kt_ninja_reader.proofs.Common.{Bor, starts_with, pointwise}
 use Rattle.std.proofs.lemmas.Cmp.{nat_list_eq_equiv}
 
 either_way : (text keyword : List ℕ) → starts_with nat_eq text keyword ≡ pointwise nat_eq (take (length keyword) text) keyword

@@ -1,11 +1,9 @@
 -- Maps from names, as lists.
 use Rattle.std.proofs.Common.{◌≡◌, ℕ, List, [], ◌∷◌, refl, ap, map, ⊎_elim}
-use Rattle.std.proofs.lemmas.Bool.{cases_Bool}
-use Rattle.std.specs.Str.{bytes_eq}
+use Rattle.kt_ninja_reader.proofs.Common.{cases_Bool, bytes_eq, find_in, put_in}
 use Rattle.std.specs.Map.{lookup}
 use Rattle.indexmap.specs.IndexMap.{insert_entry}
 use Rattle.kt_list.specs.declared.key.Key.{Key}
-use Rattle.kt_ninja_reader.specs.Scopes.{find_in, put_in}
 
 pub find_in_entries : {V : Type 0} (entries : List (List ℕ × V)) (name : List ℕ) → find_in entries name ≡ lookup (bytes_eq name) entries
 unfolding find_in

@@ -2,12 +2,9 @@
 -- statements"; which bytes a name has, which keywords are taken, and what is refused, is kati's own).
 use Rattle.std.specs.Prelude.{ℕ, Bool, false, not, ◌==◌, ◌||◌, nat_eq, List, [], ◌∷◌, drop, filter, Option, Some, None}
 use Rattle.std.specs.Prelude.{option_map, codes, if◌then◌else◌}
-use Rattle.std.specs.Option.{option_and_then}
+use Rattle.kt_ninja_reader.specs.Prelude.{option_and_then, Text, is_among, is_empty}
 use Rattle.std.specs.List.{list_any, slice_split, prefix_len, before_first, after_first, starts_with}
-use Rattle.kt_ninja_reader.specs.JoinedLines.{Text}
 use Rattle.kt_ninja_reader.specs.Pieces.{Piece, Plain, Escaped, Variable, is_long_name_byte, pieces}
-use Rattle.kt_list.specs.Names.{is_among}
-use Rattle.kt_ninja.specs.Writable.{is_empty}
 
 -- a path or a value
 abbrev pub Pieces : Type 0

@@ -1,11 +1,9 @@
 -- Lines that say nothing, wherever they stand in a file (Ninja manual, "Lexical syntax"; that a blank line ends a block
 -- is kati's own).
 use Rattle.std.specs.Prelude.{◌≡◌, Bool, true, ◌&&◌, ◌||◌, List, [], ◌∷◌, ◌++◌, Option}
-use Rattle.std.specs.List.{list_all}
+use Rattle.kt_ninja_reader.specs.Prelude.{list_all, Plan, Text, is_blank, is_comment}
 use Rattle.std.specs.Result.{result_ok}
-use Rattle.kt_ninja.specs.declared.plan.Plan.{Plan}
 use Rattle.kt_ninja_reader.specs.Continued.{AreContinued, Continued, in_file, kept_of}
-use Rattle.kt_ninja_reader.specs.JoinedLines.{Text, is_blank, is_comment}
 use Rattle.kt_ninja_reader.specs.NinjaRead.{begins_part, is_file_byte, ninja_read}
 
 -- the text of a line, with the lines that are joined to it

@@ -1,3 +1,4 @@
+pub mod Prelude
 pub mod JoinedLines
 pub mod Continued
 pub mod Pieces

@@ -2,21 +2,13 @@
 -- reading here though Ninja takes it is kati's own).
 use Rattle.std.specs.Prelude.{ℕ, Bool, true, false, not, ◌==◌, ◌&&◌, ◌||◌, List, [], ◌∷◌, ◌++◌, map, Option, Some, None}
 use Rattle.std.specs.Prelude.{option_map, is_some, is_none, Result, Ok, Err, codes, if◌then◌else◌}
-use Rattle.std.specs.Option.{option_and_then}
-use Rattle.std.specs.List.{list_all, flat_map}
-use Rattle.std.specs.Str.{bytes_eq}
-use Rattle.kt_ninja.specs.declared.plan.Made.{Made}
-use Rattle.kt_ninja.specs.declared.plan.Made.TheVariants.{Command, Phony}
-use Rattle.kt_ninja.specs.declared.plan.Statement.{Statement}
-use Rattle.kt_ninja.specs.declared.plan.Plan.{Plan}
+use Rattle.kt_ninja_reader.specs.Prelude.{option_and_then, list_all, flat_map, bytes_eq, Made, Command, Phony}
+use Rattle.kt_ninja_reader.specs.Prelude.{Statement, Plan, pieces, is_among, is_empty}
 use Rattle.kt_ninja_reader.specs.JoinedLines.{JoinedLine, Text, is_blank, is_comment, joined_lines}
-use Rattle.kt_ninja_reader.specs.Pieces.{pieces}
 use Rattle.kt_ninja_reader.specs.Forms.{Binding, Build, Form, Pieces, binding_of, rule_form, build_form, default_form}
 use Rattle.kt_ninja_reader.specs.Forms.{binding_form, form_of}
 use Rattle.kt_ninja_reader.specs.Scopes.{Scope, ScopeTable, command_value, expanded, find_in, put_in, refers_to, value_in}
 use Rattle.kt_ninja_reader.specs.Scopes.{value_within}
-use Rattle.kt_list.specs.Names.{is_among}
-use Rattle.kt_ninja.specs.Writable.{is_empty}
 
 -- a part of the file: a line at the margin, if it has one, with the lines up to the next such line
 pub record FilePart : Type 0 where

@@ -1,15 +1,10 @@
 -- Reading a file part by part (the reader's own).
 use Rattle.std.specs.Prelude.{◌≡◌, ℕ, Bool, List, ◌∷◌, ◌++◌, Option, Some, None, option_map, Result, Err, if◌then◌else◌}
-use Rattle.std.specs.Option.{option_and_then}
-use Rattle.kt_ninja_reader.specs.declared.read_fault.Fault.{Fault}
-use Rattle.kt_ninja_reader.specs.declared.read_fault.Fault.TheVariants.{NoReading, Memory}
+use Rattle.kt_ninja_reader.specs.Prelude.{option_and_then, Fault, NoReading, Memory, JoinedLine, Text, pieces, is_empty}
 use Rattle.kt_ninja_reader.specs.declared.read_fault.ReadFault.{ReadFault}
 use Rattle.kt_ninja_reader.specs.declared.read_fault.ReadFault.TheVariants.{NotNinja, Memory as MemoryRefused}
-use Rattle.kt_ninja_reader.specs.JoinedLines.{JoinedLine, Text}
-use Rattle.kt_ninja_reader.specs.Pieces.{pieces}
 use Rattle.kt_ninja_reader.specs.Forms.{Binding, binding_of, build_of, defaults_of, form_of, rule_of}
 use Rattle.kt_ninja_reader.specs.NinjaRead.{FilePart, State, bind, block_from, read_build, read_default, read_form, read_rule}
-use Rattle.kt_ninja.specs.Writable.{is_empty}
 
 -- the text has no reading from the part on that begins with this line, or memory was refused
 abbrev pub Misreads : {X : Type 0} → Result X ℕ → ReadFault → Type 0

@@ -1,9 +1,6 @@
 -- Worked texts, as facts that compute.
 use Rattle.std.specs.Prelude.{◌≡◌, ℕ, List, [], ◌∷◌, Result, Ok, Err, codes}
-use Rattle.kt_ninja.specs.declared.plan.Made.{Made}
-use Rattle.kt_ninja.specs.declared.plan.Made.TheVariants.{Command, Phony}
-use Rattle.kt_ninja.specs.declared.plan.Statement.{Statement}
-use Rattle.kt_ninja.specs.declared.plan.Plan.{Plan}
+use Rattle.kt_ninja_reader.specs.Prelude.{Made, Command, Phony, Statement, Plan}
 use Rattle.kt_ninja_reader.specs.NinjaRead.{ninja_read}
 
 -- a statement by its fields in order

@@ -2,9 +2,7 @@
 -- `in`, `in_newline` and `out`; how paths are quoted for the shell is kati's own).
 use Rattle.std.specs.Prelude.{ℕ, Bool, false, ◌==◌, ◌||◌, List, [], ◌∷◌, ◌++◌, map, Option, Some, None, unwrap_or}
 use Rattle.std.specs.Prelude.{codes, if◌then◌else◌}
-use Rattle.std.specs.List.{list_all, list_any, flat_map, join_with_byte}
-use Rattle.std.specs.Str.{bytes_eq}
-use Rattle.kt_ninja_reader.specs.JoinedLines.{Text}
+use Rattle.kt_ninja_reader.specs.Prelude.{list_all, list_any, flat_map, join_with_byte, bytes_eq, Text}
 use Rattle.kt_ninja_reader.specs.Pieces.{Piece, Plain, Escaped, Variable, is_letter_or_digit}
 use Rattle.kt_ninja_reader.specs.Forms.{Pieces}
 

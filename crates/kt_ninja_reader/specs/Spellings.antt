@@ -1,10 +1,7 @@
 -- Pieces by their spellings (Ninja manual, "Lexical syntax"): what `pieces` gives is the one way to cut a text.
 use Rattle.std.specs.Prelude.{◌≡◌, ◌⊎◌, ℕ, Bool, true, false, ◌==◌, List, [], ◌∷◌, ◌++◌, Some}
-use Rattle.std.specs.List.{concat, list_all}
-use Rattle.kt_ninja_reader.specs.JoinedLines.{Text}
-use Rattle.kt_ninja.specs.Writable.{is_empty}
+use Rattle.kt_ninja_reader.specs.Prelude.{concat, list_all, Text, is_empty, pieces}
 use Rattle.kt_ninja_reader.specs.Pieces.{Piece, Plain, Escaped, Variable, is_escapable, is_long_name_byte, is_short_name_byte}
-use Rattle.kt_ninja_reader.specs.Pieces.{pieces}
 
 -- a name: at least one byte, and all of this kind
 abbrev pub IsNameOf : (ℕ → Bool) → Text → Type 0

@@ -1,19 +1,9 @@
 -- An automatic macro is found by its name.
-use Rattle.std.proofs.Common.{◌≡◌, ℕ, Bool, true, false, not, ◌&&◌, ◌==◌, if◌then◌else◌, List, [], ◌∷◌, ◌++◌, map, Option, Some, None, option_map, refl, sym, ap, ◌∙◌, true≢false}
-use Rattle.std.specs.Prelude.{nat_eq, flat_map}
-use Rattle.std.specs.List.{list_any}
+use Rattle.std.proofs.Common.{◌≡◌, ℕ, Bool, true, false, not, ◌&&◌, ◌==◌, if◌then◌else◌, List, [], ◌∷◌, ◌++◌, map, Option, Some, None, option_map, refl, sym, ap, ◌∙◌, true≢false, nat_eq, flat_map}
+use Rattle.kt_recipe.proofs.Common.{list_any, pointwise, eqb-true, Text, Store, look, Node, Form, Subject, text_of, marks, has_parts, endings, names_in, of_mark, automatic_in}
 use Rattle.std.specs.Option.{option_and_then}
-use Rattle.std.specs.Cmp.Lexicographic.{pointwise}
-use Rattle.std.proofs.lemmas.Bool.{eqb-true}
 use Rattle.kt_list.proofs.general.Booleans.{or_first, or_second}
-use Rattle.kt_text.specs.Words.{Text}
-use Rattle.kt_eval.specs.files.Files.{Store, look}
-use Rattle.kt_graph.specs.nodes.Node.{Node}
-use Rattle.kt_recipe.specs.declared.forms.Form.{Form}
 use Rattle.kt_recipe.specs.declared.forms.Form.TheVariants.{Whole, Directory, File}
-use Rattle.kt_recipe.specs.declared.subjects.Subject.{Subject}
-use Rattle.kt_recipe.specs.Forms.{text_of}
-use Rattle.kt_recipe.specs.Automatic.{marks, has_parts, endings, names_in, of_mark, automatic_in}
 use Rattle.kt_recipe.specs.inner.Asking.{subject_in, subject_of, form_of, parted, asked_by, macro_in}
 
 -- ---- pairs after others

@@ -1,8 +1,6 @@
 -- One more call after a command.
 use Rattle.std.proofs.Common.{◌≡◌, Bool, true, false, [], ◌∷◌, ◌++◌, Some, codes, refl, sym, ap, ◌∙◌, append_assoc, true≢false}
-use Rattle.kt_text.specs.Words.{Text, is_nonempty}
-use Rattle.kt_recipe.specs.Shell.{joined, wrapped}
-use Rattle.kt_recipe.specs.Views.{command_in, with_joint}
+use Rattle.kt_recipe.proofs.Common.{Text, is_nonempty, joined, wrapped, command_in, with_joint}
 
 -- a call has at least a byte
 some_call : (marked : Bool) (shell piece : Text) → is_nonempty (wrapped marked shell piece) ≡ true

@@ -1,20 +1,9 @@
 -- A command is the calls of its pieces: each step puts its own calls behind those before it.
-use Rattle.std.proofs.Common.{◌≡◌, ℕ, Bool, true, false, List, [], ◌∷◌, ◌++◌, length, map, Option, Some, None, if◌then◌else◌, unwrap_or, slice_get, refl, sym, ap, subst, ◌∙◌}
+use Rattle.std.proofs.Common.{◌≡◌, ℕ, Bool, true, false, List, [], ◌∷◌, ◌++◌, length, map, Option, Some, None, if◌then◌else◌, unwrap_or, slice_get, refl, sym, ap, subst, ◌∙◌, codes, filter, flat_map}
 use Rattle.std.proofs.lemmas.Grind.{flat_map-append}
-use Rattle.std.proofs.lemmas.List.{append-nil, append_assoc}
+use Rattle.kt_recipe.proofs.Common.{append-nil, append_assoc, All, range_with_len, Text, is_nonempty, RecipeLine, Store, Table, Node, part_lines, automatic_in, after_run, is_marked, pieces_of, joined, wrapped, Setting, setting_of, shell_text, expansion, put_piece, put_pieces, put_line, put_lines, put_part, put_parts, shell_of}
 use Rattle.std.proofs.lemmas.List.Elements.{All-nil, All-cons, All-head, All-tail}
-use Rattle.std.specs.Prelude.{codes, filter, flat_map}
-use Rattle.std.specs.List.{All, range_with_len}
-use Rattle.kt_text.specs.Words.{Text, is_nonempty}
-use Rattle.kt_rules.specs.declared.entry.RecipeLine.{RecipeLine}
-use Rattle.kt_eval.specs.files.Files.{Store}
 use Rattle.kt_eval.specs.Outcome.{Outcome, Gave, Stopped, StepOver, ◌>>=◌, then_do, done}
-use Rattle.kt_eval.specs.macros.Macros.{Table}
-use Rattle.kt_graph.specs.nodes.Node.{Node}
-use Rattle.kt_graph.specs.nodes.Views.{part_lines}
-use Rattle.kt_recipe.specs.Automatic.{automatic_in}
-use Rattle.kt_recipe.specs.Lines.{after_run, is_marked, pieces_of}
-use Rattle.kt_recipe.specs.Shell.{joined, wrapped, Setting, setting_of, shell_text, expansion, put_piece, put_pieces, put_line, put_lines, put_part, put_parts, shell_of}
 use Rattle.kt_recipe.specs.Commands.{Line, line_with, lines_in, lines_of, CommandPiece, piece_with, Call, call_text, command_of, Expanded, AreExpanded, MadeLine, CallsItsPieces, shell_at, expanded_for, IsCommandOf, CommandLaw}
 
 -- ---- the steps as one list of lines

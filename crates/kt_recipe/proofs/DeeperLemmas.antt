@@ -1,21 +1,7 @@
 -- What isn't too deep is the same with one more level, step by step.
 use Rattle.std.proofs.Common.{◌≡◌, ℕ, suc, Bool, true, false, List, [], ◌∷◌, length, Option, None, if◌then◌else◌, unwrap_or, slice_get, refl, ap, ◌∙◌}
-use Rattle.std.specs.List.{range_with_len}
-use Rattle.kt_text.specs.Words.{Text, is_nonempty}
-use Rattle.kt_rules.specs.declared.entry.RecipeLine.{RecipeLine}
-use Rattle.kt_eval.specs.expanding.Expansion.{expanded}
-use Rattle.kt_eval.specs.files.Files.{Store}
+use Rattle.kt_recipe.proofs.Common.{range_with_len, Text, is_nonempty, RecipeLine, expanded, Store, evaluator, frozen_world, Outcome, Gave, Stopped, StepOver, leaving, then_do, done, Table, expanding_stays, Node, part_lines, automatic_in, after_run, is_marked, pieces_of, Setting, setting_of, shell_text, expansion, put_piece, put_pieces, put_line, put_lines, put_part, put_parts, shell_of}
 use Rattle.kt_eval.specs.Growing.{IsTooDeep, StaysOneDeeper}
-use Rattle.kt_eval.specs.expanding.Levels.{evaluator}
-use Rattle.kt_eval.specs.State.{frozen_world}
-use Rattle.kt_eval.specs.Outcome.{Outcome, Gave, Stopped, StepOver, leaving, then_do, done}
-use Rattle.kt_eval.specs.macros.Macros.{Table}
-use Rattle.kt_eval.proofs.lemmas.GrowingReads.{expanding_stays}
-use Rattle.kt_graph.specs.nodes.Node.{Node}
-use Rattle.kt_graph.specs.nodes.Views.{part_lines}
-use Rattle.kt_recipe.specs.Automatic.{automatic_in}
-use Rattle.kt_recipe.specs.Lines.{after_run, is_marked, pieces_of}
-use Rattle.kt_recipe.specs.Shell.{Setting, setting_of, shell_text, expansion, put_piece, put_pieces, put_line, put_lines, put_part, put_parts, shell_of}
 
 -- the second is the first, unless that is too deep
 abbrev pub Stays : {L A : Type 0} → Outcome L A → Outcome L A → Type 0

@@ -1,3 +1,4 @@
+pub mod Common
 pub mod QuotingLemmas
 pub mod SetLemmas
 pub mod AskingLemmas

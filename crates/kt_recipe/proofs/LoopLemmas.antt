@@ -1,14 +1,6 @@
 -- The rest of the pieces, lines and parts of a command begins with the next.
 use Rattle.std.proofs.Common.{◌≡◌, ℕ, suc, ◌+◌, ◌-◌, ◌<◌, Bool, List, ◌∷◌, length, get_or, drop, map, Option, Bor, sym, ap, ◌∙◌, arith}
-use Rattle.std.specs.List.{range_with_len}
-use Rattle.std.proofs.lemmas.List.{drop_more}
-use Rattle.kt_text.specs.Words.{Text}
-use Rattle.kt_rules.specs.declared.entry.RecipeLine.{RecipeLine}
-use Rattle.kt_eval.specs.files.Files.{Store}
-use Rattle.kt_eval.specs.Outcome.{then_do}
-use Rattle.kt_eval.specs.macros.Macros.{Table}
-use Rattle.kt_graph.specs.nodes.Node.{Node}
-use Rattle.kt_recipe.specs.Shell.{Setting, setting_of, put_piece, put_pieces, put_line, put_lines, put_part, put_parts}
+use Rattle.kt_recipe.proofs.Common.{range_with_len, drop_more, Text, RecipeLine, Store, then_do, Table, Node, Setting, setting_of, put_piece, put_pieces, put_line, put_lines, put_part, put_parts}
 
 pub pieces_from : (at : Setting) (marked : Bool) (pieces : List (Bor Text)) (i : ℕ) (past : Bor Text) (command : Option Text) (said : List Text)
     → i < length pieces

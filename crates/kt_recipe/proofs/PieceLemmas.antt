@@ -1,13 +1,6 @@
 -- A line without a newline is one piece.
 use Rattle.std.proofs.Common.{◌≡◌, Bool, true, false, not, ◌==◌, List, [], ◌∷◌, Option, Result, refl, sym, ap}
-use Rattle.std.proofs.lemmas.Bool.{not-true, or_parts}
-use Rattle.std.specs.List.{list_any, slice_split}
-use Rattle.kt_text.specs.Words.{Text}
-use Rattle.kt_eval.specs.declared.stop.Stop.{Stop}
-use Rattle.kt_eval.specs.Outcome.{Outcome, Gave, Stopped, StepOver, then_do, done}
-use Rattle.kt_eval.specs.expanding.Pure.{Says}
-use Rattle.kt_recipe.specs.Lines.{after_run, is_marked, pieces_of}
-use Rattle.kt_recipe.specs.Shell.{Setting, expansion, put_line, put_piece, put_pieces}
+use Rattle.kt_recipe.proofs.Common.{not-true, or_parts, list_any, slice_split, Text, Stop, Outcome, Gave, Stopped, StepOver, then_do, done, Says, after_run, is_marked, pieces_of, Setting, expansion, put_line, put_piece, put_pieces}
 
 uncut : (text : Text) → list_any (λ byte. byte == 10) text ≡ false → slice_split (λ byte. byte == 10) text ≡ text ∷ []
 uncut [] is = refl

@@ -1,27 +1,8 @@
 -- A shell whose values expand to themselves is expanded to these values.
-use Rattle.std.proofs.Common.{◌≡◌, ℕ, zero, suc, Bool, true, false, not, ◌==◌, ◌&&◌, ⊎_elim, List, [], ◌++◌, Option, Some, None, refl, sym, ap, ◌∙◌, arith, true≢false}
-use Rattle.std.proofs.lemmas.Bool.{cases_Bool, eqb-true}
-use Rattle.std.specs.Prelude.{codes, is_some, option_map, unwrap_or}
-use Rattle.std.specs.List.{list_any}
-use Rattle.kt_text.specs.Words.{Text, is_separator, is_blank, list_text}
-use Rattle.kt_rules.specs.declared.place.Place.{Place}
-use Rattle.kt_rules.specs.Names.{without_repeats}
+use Rattle.std.proofs.Common.{◌≡◌, ℕ, zero, suc, Bool, true, false, not, ◌==◌, ◌&&◌, ⊎_elim, List, [], ◌++◌, Option, Some, None, refl, sym, ap, ◌∙◌, arith, true≢false, codes, is_some, option_map, unwrap_or}
+use Rattle.kt_recipe.proofs.Common.{cases_Bool, eqb-true, list_any, Text, is_separator, is_blank, list_text, Place, without_repeats, Deferred, Immediate, Macro, other_function, function_of, is_refused_function, asked_of, asked_by, naming_of, text_function, Evaluator, flavoured, value_of, body_of, value_named, referred, term_of, each_term, expanded, Store, above, evaluator, World, found_of, seen, innermost, lookup, frozen_world, Gave, leaving, Table, find, Node, names_of, automatic_in, text_of, setting_of, shell_text, expansion}
 use Rattle.kt_eval.specs.declared.macros.Flavour.{Flavour}
-use Rattle.kt_eval.specs.declared.macros.Flavour.TheVariants.{Deferred, Immediate}
-use Rattle.kt_eval.specs.declared.macros.Macro.{Macro}
-use Rattle.kt_eval.specs.expanding.Calls.{other_function, function_of, is_refused_function, asked_of, asked_by, naming_of}
-use Rattle.kt_text.specs.TextFunctions.{text_function}
-use Rattle.kt_eval.specs.expanding.Expansion.{Evaluator, flavoured, value_of, body_of, value_named, referred, term_of, each_term, expanded}
-use Rattle.kt_eval.specs.files.Files.{Store}
-use Rattle.kt_eval.specs.expanding.Levels.{above, evaluator}
-use Rattle.kt_eval.specs.State.{World, found_of, seen, innermost, lookup, frozen_world}
-use Rattle.kt_eval.specs.Outcome.{Gave, leaving}
-use Rattle.kt_eval.specs.macros.Macros.{Table, find}
 use Rattle.kt_eval.proofs.lemmas.expanding.LiteralLemmas.{stays}
-use Rattle.kt_graph.specs.nodes.Node.{Node}
-use Rattle.kt_recipe.specs.Automatic.{names_of, automatic_in}
-use Rattle.kt_recipe.specs.Forms.{text_of}
-use Rattle.kt_recipe.specs.Shell.{setting_of, shell_text, expansion}
 use Rattle.kt_recipe.specs.inner.Plain.{is_plain, if_plain, plain_value, spaced, plain_shell}
 use Rattle.kt_recipe.proofs.TermLemmas.{shell_terms}
 

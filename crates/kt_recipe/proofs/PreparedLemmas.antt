@@ -1,28 +1,10 @@
 -- Pieces stand for what a text expands to, in each part of each node.
-use Rattle.std.proofs.Common.{◌≡◌, ℕ, zero, suc, ◌-◌, Bool, true, false, List, [], ◌∷◌, ◌++◌, Option, Some, None, option_map, refl, sym, ap, ◌∙◌, arith, true≢false}
-use Rattle.std.proofs.lemmas.List.{append-nil, append_assoc}
-use Rattle.std.specs.Prelude.{IfSome, MatchOption, codes}
-use Rattle.kt_text.specs.Words.{Text}
+use Rattle.std.proofs.Common.{◌≡◌, ℕ, zero, suc, ◌-◌, Bool, true, false, List, [], ◌∷◌, ◌++◌, Option, Some, None, option_map, refl, sym, ap, ◌∙◌, arith, true≢false, IfSome, MatchOption, codes}
+use Rattle.kt_recipe.proofs.Common.{append-nil, append_assoc, Text, Token, literal, dollar, reference, terms_of, Place, Deferred, Macro, Outcome, Gave, done, leaving, then_do, World, fixed_or, found_of, frozen_world, innermost, lookup, Evaluator, each_term, expanded, flavoured, term_of, value_of, above, evaluator, names_plainly, Table, find, Node, Form, Subject, automatic_in, names_in, text_of, CommandsOf, expansion}
 use Rattle.kt_syntax.specs.declared.term.Mark.{Mark}
-use Rattle.kt_syntax.specs.Terms.{Token, literal, dollar, reference, terms_of}
-use Rattle.kt_rules.specs.declared.place.Place.{Place}
-use Rattle.kt_eval.specs.declared.macros.Flavour.TheVariants.{Deferred}
-use Rattle.kt_eval.specs.declared.macros.Macro.{Macro}
-use Rattle.kt_eval.specs.Outcome.{Outcome, Gave, done, leaving, then_do}
-use Rattle.kt_eval.specs.State.{World, fixed_or, found_of, frozen_world, innermost, lookup}
-use Rattle.kt_eval.specs.expanding.Expansion.{Evaluator, each_term, expanded, flavoured, term_of, value_of}
-use Rattle.kt_eval.specs.expanding.Levels.{above, evaluator}
-use Rattle.kt_eval.specs.inner.Plain.{names_plainly}
-use Rattle.kt_eval.specs.macros.Macros.{Table, find}
 use Rattle.kt_eval.proofs.lemmas.expanding.PlainLemmas.{plainly_is}
-use Rattle.kt_graph.specs.nodes.Node.{Node}
-use Rattle.kt_recipe.specs.declared.forms.Form.{Form}
 use Rattle.kt_recipe.specs.declared.prepared.Gap.{Gap}
 use Rattle.kt_recipe.specs.declared.prepared.Pieces.{Pieces}
-use Rattle.kt_recipe.specs.declared.subjects.Subject.{Subject}
-use Rattle.kt_recipe.specs.Automatic.{automatic_in, names_in}
-use Rattle.kt_recipe.specs.Forms.{text_of}
-use Rattle.kt_recipe.specs.Shell.{CommandsOf, expansion}
 use Rattle.kt_recipe.specs.inner.Asking.{asked_by, macro_in}
 use Rattle.kt_recipe.specs.inner.Kept.{IsFilled}
 use Rattle.kt_recipe.specs.inner.Prepared.{Adds, AddsMacro, AddsText, IsPrepared, filled, filled_gaps}

@@ -1,9 +1,7 @@
 -- A text between single quotes is read back.
-use Rattle.std.proofs.Common.{◌≡◌, ◌<◌, ℕ, zero, suc, ◌+◌, Bool, true, false, ◌==◌, if◌then◌else◌, [], ◌∷◌, ◌++◌, length, take, drop, Some, None, option_map, refl, sym, ap, ◌∙◌, append_assoc, arith, add-one}
-use Rattle.std.specs.Prelude.{flat_map, slice_index}
-use Rattle.std.proofs.lemmas.Bool.{eqb-true}
+use Rattle.std.proofs.Common.{◌≡◌, ◌<◌, ℕ, zero, suc, ◌+◌, Bool, true, false, ◌==◌, if◌then◌else◌, [], ◌∷◌, ◌++◌, length, take, drop, Some, None, option_map, refl, sym, ap, ◌∙◌, append_assoc, arith, add-one, flat_map, slice_index}
+use Rattle.kt_recipe.proofs.Common.{eqb-true, Text}
 use Rattle.memchr.specs.Find.{Nowhere, Passes, IsFirstByte, is_byte}
-use Rattle.kt_text.specs.Words.{Text}
 use Rattle.kt_recipe.specs.Quoting.{quoted_byte, quoted, inside, read_quotes, word_of_quotes}
 
 -- one byte more between quotes

@@ -1,26 +1,9 @@
 -- Worked values, one by one: each is found by computing, but for the terms of a text, which are found by the quick way.
-use Rattle.std.specs.Prelude.{◌≡◌, ℕ, List, [], ◌∷◌, ◌++◌, Some, None, codes}
-use Rattle.std.proofs.Common.{refl}
-use Rattle.kt_text.specs.Words.{Text, is_separator, is_blank, words_of}
-use Rattle.kt_rules.specs.declared.place.Place.{Place}
-use Rattle.kt_rules.specs.declared.entry.RecipeLine.{RecipeLine}
-use Rattle.kt_syntax.specs.declared.term.Mark.TheVariants.{Byte, Parentheses}
-use Rattle.kt_syntax.specs.Terms.{literal, reference, terms_of}
-use Rattle.kt_eval.specs.files.Files.{Store}
-use Rattle.kt_eval.specs.macros.Macros.{Table, find}
-use Rattle.kt_eval.specs.State.{seen, innermost, lookup}
-use Rattle.kt_eval.specs.Outcome.{Gave, Stopped}
+use Rattle.std.proofs.Common.{refl, ◌≡◌, ℕ, List, [], ◌∷◌, ◌++◌, Some, None, codes}
+use Rattle.kt_recipe.proofs.Common.{Text, is_separator, is_blank, words_of, Place, RecipeLine, Byte, Parentheses, literal, reference, terms_of, Store, Table, find, seen, innermost, lookup, Gave, Stopped, other_function, function_of, is_refused_function, arguments_from, arguments_of, asked_of, asked_by, naming_of, text_function, value_of, each_argument, each_word, apply_foreach, apply_eval, apply_error, apply_info, apply, body_of, value_named, referred, term_of, each_term, expanded, above, none_left, evaluator, Node, automatic_in, is_prefix, is_marked, pieces_of, wrapped, setting_of, shell_text, expansion, put_piece, put_pieces, put_line, put_lines, put_part, put_parts, shell_of}
 use Rattle.kt_eval.specs.Step.{fault_at}
-use Rattle.kt_eval.specs.expanding.Calls.{other_function, function_of, is_refused_function, arguments_from, arguments_of, asked_of, asked_by, naming_of}
-use Rattle.kt_text.specs.TextFunctions.{text_function}
 use Rattle.kt_eval.specs.expanding.TextFunctions.{text_result}
-use Rattle.kt_eval.specs.expanding.Expansion.{value_of, each_argument, each_word, apply_foreach, apply_eval, apply_error, apply_info, apply, body_of, value_named, referred, term_of, each_term, expanded}
-use Rattle.kt_eval.specs.expanding.Levels.{above, none_left, evaluator}
-use Rattle.kt_graph.specs.nodes.Node.{Node}
-use Rattle.kt_recipe.specs.Automatic.{automatic_in}
-use Rattle.kt_recipe.specs.Lines.{is_prefix, is_marked, pieces_of}
 use Rattle.kt_recipe.specs.Quoting.{quoted}
-use Rattle.kt_recipe.specs.Shell.{wrapped, setting_of, shell_text, expansion, put_piece, put_pieces, put_line, put_lines, put_part, put_parts, shell_of}
 use Rattle.kt_recipe.specs.Rows.{line, sample, rooted, simple, doubled, told, with_shell, comes_to}
 use Rattle.kt_eval.specs.Rows.{at_m, deferred}
 use Rattle.kt_recipe.proofs.PlainLemmas.{listing}

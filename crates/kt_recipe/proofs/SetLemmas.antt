@@ -1,13 +1,8 @@
 -- Names that are added to a set and looked up there, as they are borrowed.
-use Rattle.std.proofs.Common.{◌≡◌, Bool, true, false, ◌||◌, if◌then◌else◌, List, [], ◌∷◌, ◌++◌, map, Bor, refl, ap, ◌∙◌}
-use Rattle.std.specs.Prelude.{nat_eq}
-use Rattle.std.specs.List.{list_any}
-use Rattle.std.specs.Cmp.Lexicographic.{pointwise}
-use Rattle.std.proofs.lemmas.List.{map-append}
+use Rattle.std.proofs.Common.{◌≡◌, Bool, true, false, ◌||◌, if◌then◌else◌, List, [], ◌∷◌, ◌++◌, map, Bor, refl, ap, ◌∙◌, nat_eq}
+use Rattle.kt_recipe.proofs.Common.{list_any, pointwise, map-append, Text, is_among, with_name}
 use Rattle.indexmap.specs.IndexSet.{insert_key}
 use Rattle.kt_list.specs.declared.key.Key.{Key}
-use Rattle.kt_text.specs.Words.{Text}
-use Rattle.kt_rules.specs.Names.{is_among, with_name}
 
 -- whether a name is one of those that are borrowed
 pub among_names : (names : List (Bor Text)) (name : Text)

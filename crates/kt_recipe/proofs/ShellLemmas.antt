@@ -1,24 +1,7 @@
 -- Messages are only added while a command is made, and a step that is stopped stops all that begins with it.
 use Rattle.std.proofs.Common.{◌≡◌, ℕ, Bool, true, false, List, [], ◌∷◌, Option, Some, Ok, Err, ◌||◌, if◌then◌else◌, unwrap_or, slice_get, ap, subst}
-use Rattle.kt_text.specs.Words.{Text, is_nonempty}
-use Rattle.kt_rules.specs.declared.entry.RecipeLine.{RecipeLine}
-use Rattle.kt_eval.specs.declared.stop.Stop.{Stop}
+use Rattle.kt_recipe.proofs.Common.{Text, is_nonempty, RecipeLine, Stop, Store, IsPrefix, World, frozen_world, expanded, evaluator, Outcome, Gave, Stopped, StepOver, Fails, IfCutBy, leaving, left_of, then_do, done, Says, Table, front_same, front_next, expanding_grows, Node, part_lines, automatic_in, after_run, is_marked, pieces_of, joined, wrapped, Setting, setting_of, shell_text, expansion, put_piece, put_pieces, put_line, put_lines, put_part, put_parts}
 use Rattle.kt_eval.specs.declared.stop.Stop.TheVariants as stops
-use Rattle.kt_eval.specs.files.Files.{Store}
-use Rattle.kt_list.specs.Prefixes.{IsPrefix}
-use Rattle.kt_eval.specs.State.{World, frozen_world}
-use Rattle.kt_eval.specs.expanding.Expansion.{expanded}
-use Rattle.kt_eval.specs.expanding.Levels.{evaluator}
-use Rattle.kt_eval.specs.Outcome.{Outcome, Gave, Stopped, StepOver, Fails, IfCutBy, leaving, left_of, then_do, done}
-use Rattle.kt_eval.specs.expanding.Pure.{Says}
-use Rattle.kt_eval.specs.macros.Macros.{Table}
-use Rattle.kt_eval.proofs.lemmas.GrowingLemmas.{front_same, front_next}
-use Rattle.kt_eval.proofs.lemmas.GrowingReads.{expanding_grows}
-use Rattle.kt_graph.specs.nodes.Node.{Node}
-use Rattle.kt_graph.specs.nodes.Views.{part_lines}
-use Rattle.kt_recipe.specs.Automatic.{automatic_in}
-use Rattle.kt_recipe.specs.Lines.{after_run, is_marked, pieces_of}
-use Rattle.kt_recipe.specs.Shell.{joined, wrapped, Setting, setting_of, shell_text, expansion, put_piece, put_pieces, put_line, put_lines, put_part, put_parts}
 
 -- the messages before a step are a prefix of those that it leaves
 abbrev pub Keeps : {A : Type 0} → StepOver (List Text) A → Type 0

@@ -1,11 +1,8 @@
 -- The terms of a text by functions that look only where they must: both sides of an `if` are computed, so that a search
 -- for a closing mark takes three times as long for each byte more.
-use Rattle.std.proofs.Common.{◌≡◌, ℕ, zero, suc, ◌+◌, ◌-◌, Bool, true, false, ◌==◌, if◌then◌else◌, List, [], ◌∷◌, Option, Some, None, refl, ap, ◌∙◌}
-use Rattle.std.specs.Prelude.{codes}
-use Rattle.kt_text.specs.Words.{Text}
-use Rattle.kt_syntax.specs.declared.term.Mark.TheVariants.{Parentheses, Braces}
-use Rattle.kt_syntax.specs.Terms.{Token, literal, dollar, reference, Continuations, dropped, closing, referred, single, after_dollar, literal_run, first_term, terms_after, terms_of}
-use Rattle.kt_recipe.specs.Shell.{shell_text}
+use Rattle.std.proofs.Common.{◌≡◌, ℕ, zero, suc, ◌+◌, ◌-◌, Bool, true, false, ◌==◌, if◌then◌else◌, List, [], ◌∷◌, Option, Some, None, refl, ap, ◌∙◌, codes}
+use Rattle.kt_recipe.proofs.Common.{Text, Parentheses, Braces, Token, literal, dollar, reference, Continuations, dropped, closing, single, after_dollar, literal_run, first_term, terms_after, terms_of, shell_text}
+use Rattle.kt_syntax.specs.Terms.{referred}
 
 unfoldable pub quick_closing : ℕ → ℕ → ℕ → ℕ → Text → Option ℕ
 quick_closing opener closer at depth [] = None

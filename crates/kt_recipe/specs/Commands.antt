@@ -3,14 +3,7 @@
 use Rattle.std.specs.Prelude.{◌≡◌, ◌↔◌, ℕ, Bool, ◌||◌, List, [], ◌∷◌, length, map, filter, flat_map, Option, Some, None}
 use Rattle.std.specs.Prelude.{codes, slice_get, unwrap_or}
 use Rattle.std.specs.List.{All, join_by, range_with_len}
-use Rattle.kt_text.specs.Words.{Text, is_nonempty}
-use Rattle.kt_rules.specs.declared.entry.RecipeLine.{RecipeLine}
-use Rattle.kt_eval.specs.files.Files.{Store}
-use Rattle.kt_eval.specs.Outcome.{Gave}
-use Rattle.kt_eval.specs.macros.Macros.{Table}
-use Rattle.kt_graph.specs.nodes.Node.{Node}
-use Rattle.kt_graph.specs.nodes.Views.{part_lines}
-use Rattle.kt_recipe.specs.Automatic.{automatic_in}
+use Rattle.kt_recipe.specs.Prelude.{Text, is_nonempty, RecipeLine, Store, Gave, Table, Node, part_lines, automatic_in}
 use Rattle.kt_recipe.specs.Lines.{after_run, is_marked, pieces_of}
 use Rattle.kt_recipe.specs.Shell.{Setting, expansion, setting_of, shell_of, shell_text, wrapped}
 

@@ -1,3 +1,4 @@
+pub mod Prelude
 pub mod Forms
 pub mod Automatic
 pub mod Quoting

@@ -1,8 +1,7 @@
 -- The lines of a recipe and their pieces (GNU make manual, "Recipe Execution", "Defining Canned Recipes", "Errors in
 -- Recipes").
 use Rattle.std.specs.Prelude.{ℕ, Bool, ◌==◌, ◌||◌, List, take, drop}
-use Rattle.std.specs.List.{list_any, prefix_len, slice_split}
-use Rattle.kt_text.specs.Words.{Text, is_blank}
+use Rattle.kt_recipe.specs.Prelude.{list_any, prefix_len, slice_split, Text, is_blank}
 
 -- a byte of the run that may come before a command: a blank, `@`, `-` or `+` ["Recipe Echoing"; "Errors in Recipes";
 -- "How the MAKE Variable Works"]

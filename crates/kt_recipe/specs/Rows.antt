@@ -1,14 +1,8 @@
 -- Worked values of automatic macros and of commands, as facts that compute.
 use Rattle.std.specs.Prelude.{◌≡◌, ℕ, List, [], ◌∷◌, Option, Some, None, codes}
-use Rattle.kt_text.specs.Words.{Text}
-use Rattle.kt_rules.specs.declared.entry.RecipeLine.{RecipeLine}
-use Rattle.kt_eval.specs.files.Files.{look}
-use Rattle.kt_eval.specs.Outcome.{Outcome, Gave, Stopped}
+use Rattle.kt_recipe.specs.Prelude.{Text, RecipeLine, look, Outcome, Gave, Stopped, fault_at, Table, Node, Part}
 use Rattle.kt_eval.specs.Rows.{at_m, deferred}
-use Rattle.kt_eval.specs.Step.{fault_at}
-use Rattle.kt_eval.specs.macros.Macros.{Table}
 use Rattle.kt_graph.specs.declared.nodes.node.NodeKind.TheVariants.{DoubleColon, Explicit}
-use Rattle.kt_graph.specs.nodes.Node.{Node, Part}
 use Rattle.kt_recipe.specs.Automatic.{automatic_in}
 use Rattle.kt_recipe.specs.Shell.{shell_of}
 

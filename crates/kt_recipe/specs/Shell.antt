@@ -3,17 +3,10 @@
 -- own).
 use Rattle.std.specs.Prelude.{ℕ, Bool, true, false, ◌||◌, List, [], ◌∷◌, ◌++◌, length, Option, Some, None, unwrap_or}
 use Rattle.std.specs.Prelude.{slice_get, codes, if◌then◌else◌}
-use Rattle.std.specs.List.{range_with_len}
+use Rattle.kt_recipe.specs.Prelude.{range_with_len, RecipeLine, Place, Store, Table, Node, part_lines, automatic_in}
 use Rattle.kt_text.specs.Words.{Text, is_nonempty}
-use Rattle.kt_rules.specs.declared.entry.RecipeLine.{RecipeLine}
-use Rattle.kt_rules.specs.declared.place.Place.{Place}
-use Rattle.kt_eval.specs.files.Files.{Store}
 use Rattle.kt_eval.specs.Outcome.{StepOver, ◌>>=◌, done}
 use Rattle.kt_eval.specs.expanding.Pure.{expanded_pure}
-use Rattle.kt_eval.specs.macros.Macros.{Table}
-use Rattle.kt_graph.specs.nodes.Node.{Node}
-use Rattle.kt_graph.specs.nodes.Views.{part_lines}
-use Rattle.kt_recipe.specs.Automatic.{automatic_in}
 use Rattle.kt_recipe.specs.Lines.{after_run, is_marked, pieces_of}
 use Rattle.kt_recipe.specs.Quoting.{quoted}
 

@@ -1,9 +1,7 @@
 -- The code's own types and results as those of the definitions (kati's own).
 use Rattle.std.specs.Prelude.{[], ◌∷◌, ◌++◌, Option, Some, None, codes}
-use Rattle.kt_text.specs.Words.{Text}
-use Rattle.kt_rules.specs.declared.place.Place.{Place}
+use Rattle.kt_recipe.specs.Prelude.{Text, Place, automatic_in}
 use Rattle.kt_recipe.specs.declared.shell.Shell.{Shell}
-use Rattle.kt_recipe.specs.Automatic.{automatic_in}
 use Rattle.kt_recipe.specs.Shell.{Setting, setting_of}
 
 -- a command of the code: an empty text is none

@@ -1,8 +1,6 @@
 -- What `add` returns.
 use Rattle.std.proofs.Common.{◌≡◌, Result, Err, sym, ap, ◌∙◌}
-use Rattle.kt_rules.specs.declared.fault.RuleFault.{RuleFault}
-use Rattle.kt_rules.specs.declared.fault.RuleFault.TheVariants.{Memory, Refused}
-use Rattle.kt_rules.specs.Refusals.{Fault, ReportsFault, GivesExpected}
+use Rattle.kt_rules.proofs.Common.{RuleFault, Memory, Refused, Fault, ReportsFault, GivesExpected}
 
 -- a reported fault is the expected result
 pub answers_refused : {A : Type 0} (fault : RuleFault) (expected : Result A Fault) (told : Fault) → ReportsFault fault told → expected ≡ Err told

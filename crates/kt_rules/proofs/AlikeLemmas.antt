@@ -1,17 +1,7 @@
 -- Explicit rules that need the same, told by their places.
 use Rattle.std.proofs.Common.{◌≡◌, ℕ, Bool, true, false, if◌then◌else◌, get_or, is_some, subst, List, [], ◌∷◌, length, Option, Some, None, option_map, slice_get, refl, sym, ap}
-use Rattle.std.proofs.lemmas.Option.{same_Some}
-use Rattle.std.specs.Option.{option_and_then}
-use Rattle.kt_rules.specs.declared.book.spot.Spot.{Spot}
-use Rattle.kt_rules.specs.declared.entry.Target.{Target}
-use Rattle.kt_rules.specs.Entry.{Rule}
+use Rattle.kt_rules.proofs.Common.{same_Some, option_and_then, Spot, Target, Rule, needs_held, rule_in, Text, HeldRule, RecipeLine, explicit_left, slot_rule, spot_rule, target_rule, is_bare}
 use Rattle.kt_rules.specs.inner.Alike.{AreAlike, HaveSameList, IsCommon, NeedSame, SaySame, common_needs}
-use Rattle.kt_rules.specs.inner.Held.{needs_held, rule_in}
-use Rattle.kt_text.specs.Words.{Text}
-use Rattle.kt_rules.specs.declared.book.held_rule.HeldRule.{HeldRule}
-use Rattle.kt_rules.specs.declared.entry.RecipeLine.{RecipeLine}
-use Rattle.kt_rules.specs.Slots.{explicit_left, slot_rule, spot_rule, target_rule}
-use Rattle.kt_rules.specs.Suffixes.{is_bare}
 
 rule_of_target : (rule : Rule) (target : Option Target) (made : Rule × Target) → option_map (λ t. (rule, t)) target ≡ Some made → rule ≡ made.0
 rule_of_target rule None made is = cc

@@ -1,20 +1,8 @@
 -- Texts without a backslash, in which nothing is quoted, and texts without a colon, which aren't cut.
-use Rattle.std.proofs.Common.{◌≡◌, ℕ, zero, suc, ◌+◌, ◌-◌, ◌<◌, ◌≤◌, Bool, false, [], ◌∷◌, Option, None, Some, length, refl, sym, ◌∙◌, ap, arith, true≢false, get_or, take, drop}
-use Rattle.std.specs.Prelude.{◌==◌, if◌then◌else◌}
-use Rattle.std.specs.List.{list_any, position_or_len}
-use Rattle.std.proofs.lemmas.Bool.{eq-eqb, eqb-true, false_from_ne_true, le-ltb, ne_eqb, or_parts}
-use Rattle.std.proofs.lemmas.List.Folds.{list_any_at}
-use Rattle.memchr.specs.Find.{IsFirstByte, OccursAt, is_byte}
-use Rattle.kt_text.specs.Words.{Text}
-use Rattle.kt_text.specs.Functions.{quotes_percent}
-use Rattle.kt_text.proofs.MatchLemmas.{list_any-place}
-use Rattle.kt_text.proofs.PlaceLemmas.{first_byte_place, occurs_found}
-use Rattle.kt_rules.specs.declared.cutting.Cut.TheVariants.{Colon}
-use Rattle.kt_rules.specs.Names.{cut_place, name_of, unquoted, without_dots}
+use Rattle.std.proofs.Common.{◌≡◌, ℕ, zero, suc, ◌+◌, ◌-◌, ◌<◌, ◌≤◌, Bool, false, [], ◌∷◌, Option, None, Some, length, refl, sym, ◌∙◌, ap, arith, true≢false, get_or, take, drop, ◌==◌, if◌then◌else◌}
+use Rattle.kt_rules.proofs.Common.{list_any, position_or_len, eq-eqb, eqb-true, false_from_ne_true, le-ltb, ne_eqb, or_parts, list_any_at, IsFirstByte, OccursAt, is_byte, Text, quotes_percent, list_any-place, first_byte_place, occurs_found, Colon, cut_place, name_of, unquoted, without_dots, colon_cut, less_one}
 use Rattle.kt_rules.specs.Cuts.{ends_in_backslash}
-use Rattle.kt_rules.specs.RuleLine.{colon_cut}
 use Rattle.kt_rules.specs.inner.Telling.{is_backslash}
-use Rattle.kt_list.proofs.general.Numbers.{less_one}
 
 one_stays : (byte : ℕ) (text : Text) → is_backslash byte ≡ false → unquoted (byte ∷ text) ≡ byte ∷ unquoted text
 unfolding unquoted

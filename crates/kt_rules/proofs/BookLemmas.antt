@@ -1,27 +1,8 @@
 -- What a book keeps beside its rules, as rules are added.
 use Rattle.std.proofs.Common.{◌≡◌, ℕ, ◌+◌, Bool, true, false, cond, ◌&&◌, ◌||◌, if◌then◌else◌, List, [], ◌∷◌, ◌++◌, length, map, filter, fold, find, drop, set, ◌≤◌, Option, Some, None, refl, sym, ap, ◌∙◌, arith, subst, is_some, is_none, ◌⊎◌, inl, inr, ⊎_elim, length-append, true≢false}
-use Rattle.std.specs.Option.{option_map, option_and_then, option_or, option_map_or}
-use Rattle.std.specs.List.{flat_map, cons_option, list_any}
-use Rattle.std.specs.Str.{bytes_eq}
-use Rattle.std.proofs.lemmas.Bool.{or_parts}
-use Rattle.std.proofs.lemmas.List.{append-nil, length_push}
-use Rattle.std.proofs.lemmas.List.Elements.{filter-append}
-use Rattle.std.proofs.lemmas.List.Folds.{list_any-append}
+use Rattle.kt_rules.proofs.Common.{option_map, option_and_then, option_or, option_map_or, flat_map, cons_option, list_any, bytes_eq, or_parts, append-nil, length_push, filter-append, list_any-append, flat_map-append, fold-append, bytes_eq-Decides, or_nothing, Text, Target, Spot, GotNames, HoldsAll, Rule, bad_group, both_colons, two_recipes, is_among, with_name, suffixes_of, suffixes_after, start_suffixes, AreApart, GroupsStandAlone, is_made, made_targets, target_rules, rules_of, recipes_of, has_recipe, is_double, is_group, phony_of, is_phony, xor, differ_in_colons, is_beside_group, both_colons_in, beside_group_in, two_recipes_in, refusal_of, spots_at, rules_in, slot_rule, target_rule, spot_rule, found, first_of, spot_at, target_spots, spots_from, spots_for, AreBefore, AreIn, GrewIn, GotSpots, GotRecipes, AreAlike, IsIndexOf, IsKept}
 use Rattle.std.proofs.lemmas.List.Quantifiers.{all_pairs_push}
-use Rattle.std.proofs.lemmas.Grind.{flat_map-append, fold-append}
-use Rattle.std.proofs.lemmas.Slice.Eq.{bytes_eq-Decides}
-use Rattle.kt_list.proofs.general.Booleans.{or_nothing}
-use Rattle.kt_text.specs.Words.{Text}
-use Rattle.kt_rules.specs.declared.entry.Target.{Target}
-use Rattle.kt_rules.specs.declared.book.spot.Spot.{Spot}
-use Rattle.kt_rules.specs.inner.Held.{GotNames, HoldsAll}
 use Rattle.kt_rules.specs.inner.Lists.{Notes}
-use Rattle.kt_rules.specs.Entry.{Rule}
-use Rattle.kt_rules.specs.Refusals.{bad_group, both_colons, two_recipes}
-use Rattle.kt_rules.specs.Names.{is_among, with_name}
-use Rattle.kt_rules.specs.Suffixes.{suffixes_of, suffixes_after, start_suffixes}
-use Rattle.kt_rules.specs.Book.{AreApart, GroupsStandAlone, is_made, made_targets, target_rules, rules_of, recipes_of, has_recipe, is_double, is_group, phony_of, is_phony, xor, differ_in_colons, is_beside_group, both_colons_in, beside_group_in, two_recipes_in, refusal_of}
-use Rattle.kt_rules.specs.Slots.{spots_at, rules_in, slot_rule, target_rule, spot_rule, found, first_of, spot_at, target_spots, spots_from, spots_for, AreBefore, AreIn, GrewIn, GotSpots, GotRecipes, AreAlike, IsIndexOf, IsKept}
 use Rattle.kt_rules.proofs.FindLemmas.{find_none, some_none}
 use Rattle.kt_rules.proofs.GroupLemmas.{apart_last}
 use Rattle.kt_rules.proofs.NoteLemmas.{names_after}

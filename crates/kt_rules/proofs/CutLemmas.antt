@@ -1,15 +1,6 @@
 -- What the cuts of a rule line find.
-use Rattle.std.proofs.Common.{◌≡◌, ℕ, suc, ◌+◌, Bool, true, false, if◌then◌else◌, List, [], ◌∷◌, ◌++◌, length, take, drop, Option, Some, None, refl, sym, ap, subst, ◌∙◌, true≢false, arith, ⊎_elim, ◌⊎◌, inl, inr}
-use Rattle.std.specs.Prelude.{◌==◌, ◌&&◌, ◌||◌, flat_map, option_map}
-use Rattle.std.specs.List.{list_all}
-use Rattle.std.proofs.lemmas.Bool.{eqb-true, eq-eqb}
-use Rattle.std.proofs.lemmas.List.{append_assoc}
-use Rattle.kt_list.proofs.general.Places.{head_is, none_in, tail_is}
-use Rattle.kt_list.proofs.general.Booleans.{and_nothing}
-use Rattle.kt_text.specs.Words.{Text}
-use Rattle.kt_rules.specs.declared.cutting.Cut.TheVariants.{Colon}
-use Rattle.kt_rules.specs.Names.{cuts, cut_place, after_dots}
-use Rattle.kt_rules.specs.RuleLine.{colon_cut}
+use Rattle.std.proofs.Common.{◌≡◌, ℕ, suc, ◌+◌, Bool, true, false, if◌then◌else◌, List, [], ◌∷◌, ◌++◌, length, take, drop, Option, Some, None, refl, sym, ap, subst, ◌∙◌, true≢false, arith, ⊎_elim, ◌⊎◌, inl, inr, ◌==◌, ◌&&◌, ◌||◌, flat_map, option_map}
+use Rattle.kt_rules.proofs.Common.{list_all, eqb-true, eq-eqb, append_assoc, head_is, none_in, tail_is, and_nothing, Text, Colon, cuts, cut_place, after_dots, colon_cut}
 use Rattle.kt_rules.specs.Cuts.{ends_in_backslash, HasQuotedColons, FindsColon, is_slash, dot_slash, begins_with_slash, begins_with_dot_slash, is_some_text, IsLeft}
 
 abbrev two : Text → Text → Text × Text

@@ -1,14 +1,6 @@
 -- Names without leading `./`.
-use Rattle.std.proofs.Common.{◌≡◌, ℕ, ◌-◌, Bool, true, false, [], ◌∷◌, length, drop, take, refl, sym, ◌∙◌, ap, ⊎_elim}
-use Rattle.std.specs.Prelude.{◌&&◌, ◌==◌, nat_eq}
-use Rattle.std.specs.List.{prefix_len}
-use Rattle.std.specs.Cmp.Lexicographic.{pointwise}
-use Rattle.std.proofs.lemmas.Bool.{cases_Bool, false≢true}
-use Rattle.std.proofs.lemmas.List.{take_rest}
-use Rattle.kt_list.proofs.general.Booleans.{and_nothing}
-use Rattle.kt_text.proofs.PlaceLemmas.{drop-prefix_len}
-use Rattle.kt_text.specs.Words.{Text}
-use Rattle.kt_rules.specs.Names.{after_dots}
+use Rattle.std.proofs.Common.{◌≡◌, ℕ, ◌-◌, Bool, true, false, [], ◌∷◌, length, drop, take, refl, sym, ◌∙◌, ap, ⊎_elim, ◌&&◌, ◌==◌, nat_eq}
+use Rattle.kt_rules.proofs.Common.{prefix_len, pointwise, cases_Bool, false≢true, take_rest, and_nothing, drop-prefix_len, Text, after_dots}
 
 -- a last test that passes changes nothing
 both : (a b v : Bool) → (a && (b && true)) ≡ v → (a && b) ≡ v

@@ -1,8 +1,6 @@
 -- Searches, and names added after others.
 use Rattle.std.proofs.Common.{◌≡◌, ℕ, ◌+◌, ◌<◌, Bool, true, false, cond, if◌then◌else◌, List, [], ◌∷◌, ◌++◌, fold, find, filter, map, take, drop, length, get_or, ◌&&◌, Option, Some, None, refl, sym, ap, ◌∙◌}
-use Rattle.std.proofs.lemmas.List.{append-nil, append_assoc, drop_more}
-use Rattle.kt_text.specs.Words.{Text}
-use Rattle.kt_rules.specs.Names.{is_among, with_name}
+use Rattle.kt_rules.proofs.Common.{append-nil, append_assoc, drop_more, Text, is_among, with_name}
 
 one_grows : (names : List Text) (name : Text) (b : Bool) → (more : List Text) × ((if b then names else names ++ name ∷ []) ≡ names ++ more)
 one_grows names name true = ([], sym (append-nil names))

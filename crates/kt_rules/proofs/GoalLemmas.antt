@@ -1,21 +1,7 @@
 -- Explicit rules and goals, rule by rule.
 use Rattle.std.proofs.Common.{◌≡◌, Bool, true, false, cond, not, ◌&&◌, ◌||◌, if◌then◌else◌, List, [], ◌∷◌, ◌++◌, filter, find, Option, Some, None, refl, sym, ap, ◌∙◌, is_some}
-use Rattle.std.proofs.lemmas.Bool.{false≢true, or_parts}
-use Rattle.std.specs.Option.{option_map, option_or, option_map_or}
-use Rattle.std.specs.List.{All, filter_map, flat_map, cons_option, list_any}
-use Rattle.std.specs.Str.{bytes_eq}
-use Rattle.std.proofs.lemmas.List.Elements.{All-append, All-filter, All-head, All-map, All-nil, All-tail, All-weaker}
-use Rattle.std.proofs.lemmas.List.Folds.{list_any_none}
-use Rattle.kt_text.specs.Words.{Text}
-use Rattle.kt_rules.specs.declared.entry.Kind.{Kind}
-use Rattle.kt_rules.specs.declared.entry.Target.{Target}
-use Rattle.kt_rules.specs.declared.book.spot.Spot.{Spot}
+use Rattle.kt_rules.proofs.Common.{false≢true, or_parts, option_map, option_or, option_map_or, All, filter_map, flat_map, cons_option, list_any, bytes_eq, All-append, All-filter, All-head, All-map, All-nil, All-tail, All-weaker, list_any_none, Text, Kind, Target, Spot, Rule, is_bare_at, is_bare, suffix_patterns, suffixes_of, goal_in, has_recipe, is_goal, made_targets, first_goal_by, target_rules, explicit_rules, rules_of, recipes_of, is_double, is_group, xor, differ_in_colons, is_beside_group, spots_at, rules_in, found, first_of, first_found, spot_rule, unless, explicit_left, IsKept}
 use Rattle.kt_rules.specs.inner.Lists.{Notes}
-use Rattle.kt_rules.specs.Entry.{Rule}
-use Rattle.kt_rules.specs.inner.SuffixCuts.{is_bare_at}
-use Rattle.kt_rules.specs.Suffixes.{is_bare, suffix_patterns, suffixes_of}
-use Rattle.kt_rules.specs.Book.{goal_in, has_recipe, is_goal, made_targets, first_goal_by, target_rules, explicit_rules, rules_of, recipes_of, is_double, is_group, xor, differ_in_colons, is_beside_group}
-use Rattle.kt_rules.specs.Slots.{spots_at, rules_in, found, first_of, first_found, spot_rule, unless, explicit_left, IsKept}
 use Rattle.kt_rules.proofs.BookLemmas.{alike_first}
 
 goal_step : {A B : Type 0} (f : A → B) (x : A) (both one other : Option A) (b : Bool) → option_map f both ≡ option_or (option_map f one) (option_map f other)

@@ -1,14 +1,6 @@
 -- Groups share no target with other rules that have a recipe.
 use Rattle.std.proofs.Common.{◌≡◌, ℕ, zero, suc, ◌<◌, Bool, true, false, cond, ◌||◌, if◌then◌else◌, List, [], ◌∷◌, length, map, filter, find, get_or, None, refl, sym, ap, ◌∙◌, arith, is_some}
-use Rattle.std.proofs.lemmas.Bool.{or_parts}
-use Rattle.std.specs.List.{flat_map, list_any}
-use Rattle.std.specs.Str.{bytes_eq}
-use Rattle.std.proofs.lemmas.List.Elements.{filter-append}
-use Rattle.std.proofs.lemmas.List.Folds.{list_any-append}
-use Rattle.kt_text.specs.Words.{Text}
-use Rattle.kt_rules.specs.declared.entry.Target.{Target}
-use Rattle.kt_rules.specs.Entry.{Rule}
-use Rattle.kt_rules.specs.Book.{AreApart, beside_group_in, has_recipe, is_beside_group, is_group, made_targets, makes, recipes_of, rules_of, target_rules, two_recipes_in}
+use Rattle.kt_rules.proofs.Common.{or_parts, flat_map, list_any, bytes_eq, filter-append, list_any-append, Text, Target, Rule, AreApart, beside_group_in, has_recipe, is_beside_group, is_group, made_targets, makes, recipes_of, rules_of, target_rules, two_recipes_in}
 use Rattle.kt_rules.proofs.FindLemmas.{find_none}
 
 -- if none passes a test, none passes a stricter one

@@ -1,14 +1,6 @@
 -- The words of a head: each text is cut into words and separators, in one way.
-use Rattle.std.proofs.Common.{◌≡◌, ℕ, suc, Bool, true, false, List, [], ◌∷◌, ◌++◌, length, take, map, filter, flat_map, All, refl, sym, ap, subst, ◌∙◌, true≢false, arith, ⊎_elim, ◌⊎◌, inl, inr, append_assoc, append-nil}
-use Rattle.std.specs.Prelude.{◌==◌}
-use Rattle.std.specs.List.{onto_first}
-use Rattle.std.proofs.lemmas.List.Elements.{All-cons, All-head, All-nil, All-tail}
-use Rattle.kt_list.proofs.general.Numbers.{less_one}
-use Rattle.kt_list.proofs.general.Places.{none_in}
-use Rattle.kt_list.proofs.general.Booleans.{and_nothing}
-use Rattle.kt_text.specs.Words.{Text, is_nonempty, is_separator}
-use Rattle.kt_rules.specs.declared.cutting.Cut.TheVariants.{Separator}
-use Rattle.kt_rules.specs.Names.{pieces_of, written_words}
+use Rattle.std.proofs.Common.{◌≡◌, ℕ, suc, Bool, true, false, List, [], ◌∷◌, ◌++◌, length, take, map, filter, flat_map, All, refl, sym, ap, subst, ◌∙◌, true≢false, arith, ⊎_elim, ◌⊎◌, inl, inr, append_assoc, append-nil, ◌==◌}
+use Rattle.kt_rules.proofs.Common.{onto_first, All-cons, All-head, All-nil, All-tail, less_one, none_in, and_nothing, Text, is_nonempty, is_separator, Separator, pieces_of, written_words}
 use Rattle.kt_rules.specs.Cuts.{ends_in_backslash}
 use Rattle.kt_rules.specs.HeadWords.{separates, HoldsNoSeparator, HeadWord, part_text, part_word, IsPart, HasGap, AreSeparated, AreWords, WrittenWordsLaw}
 use Rattle.kt_rules.proofs.PartLemmas.{AreSeparators, QuotesNone, first_is, others_are, one_more_is, no_backslash, cuts_is, is_one, not_quoted, separates_too, holds_less, holds_none, holds_more}

@@ -1,30 +1,10 @@
 -- Rules whose names are held as numbers.
 use Rattle.std.proofs.Common.{◌≡◌, ℕ, zero, suc, ◌+◌, ◌<◌, ◌≤◌, Bool, true, false, if◌then◌else◌, List, [], ◌∷◌, ◌++◌, length, map, take, drop, set, slice_get, get_or, Option, Some, None, is_some, option_map, unwrap_or, refl, sym, ap, ◌∙◌, subst, arith, length-append}
-use Rattle.std.specs.List.{All}
-use Rattle.std.specs.Option.{option_and_then}
-use Rattle.std.proofs.Math.Seq.{drop-append_seam, get_or-append_seam, take-append_seam}
-use Rattle.std.proofs.lemmas.List.{append-nil, append_assoc, drop-map, get_or_append_left, map-append, length-set, take-map}
-use Rattle.std.proofs.lemmas.List.Elements.{All-append, All-cons, All-drop, All-get_or, All-head, All-nil, All-push, All-set, All-tail, All-take, All-weaker}
-use Rattle.std.proofs.lemmas.Option.{get_or_from_slice_get, slice_get-get_or, slice_get_within}
+use Rattle.kt_rules.proofs.Common.{All, option_and_then, drop-append_seam, get_or-append_seam, take-append_seam, append-nil, append_assoc, drop-map, get_or_append_left, map-append, length-set, take-map, All-append, All-cons, All-drop, All-get_or, All-head, All-nil, All-push, All-set, All-tail, All-take, All-weaker, get_or_from_slice_get, slice_get-get_or, slice_get_within, head_is, tail_is, Text, HeldRule, Kinds, Kind, Needs, RecipeLine, Rule, rule_by, is_among, with_name, is_double, is_group, rules_in, slot_rule, all_needs, names_at, AreHeld, AreNumbersOf, GotLists, GotNames, GotRow, HasOneMore, HasRows, IsKnown, IsLast, IsRow, rule_held, rule_in, sees, slots_held, AreBelow}
 use Rattle.kt_list.specs.Rows.{with_item}
 use Rattle.kt_list.proofs.RowLemmas.{item_last}
-use Rattle.kt_list.proofs.general.Places.{head_is, tail_is}
-use Rattle.kt_text.specs.Words.{Text}
-use Rattle.kt_rules.specs.declared.book.held_rule.HeldRule.{HeldRule}
-use Rattle.kt_rules.specs.declared.book.kinds.Kinds.{Kinds}
 use Rattle.kt_rules.specs.declared.book.rules.LastList.{LastList}
-use Rattle.kt_rules.specs.declared.entry.Kind.{Kind}
 use Rattle.kt_rules.specs.declared.entry.Kind.TheVariants.{SingleColon, DoubleColon, Group, Pattern, TerminalPattern}
-use Rattle.kt_rules.specs.declared.entry.Needs.{Needs}
-use Rattle.kt_rules.specs.declared.entry.RecipeLine.{RecipeLine}
-use Rattle.kt_rules.specs.Entry.{Rule, rule_by}
-use Rattle.kt_rules.specs.Names.{is_among, with_name}
-use Rattle.kt_rules.specs.Book.{is_double, is_group}
-use Rattle.kt_rules.specs.Slots.{rules_in, slot_rule}
-use Rattle.kt_rules.specs.Suffixes.{all_needs}
-use Rattle.kt_rules.specs.Targets.{names_at}
-use Rattle.kt_rules.specs.inner.Held.{AreHeld, AreNumbersOf, GotLists, GotNames, GotRow, HasOneMore, HasRows, IsKnown, IsLast, IsRow, rule_held, rule_in, sees, slots_held}
-use Rattle.kt_list.specs.Names.{AreBelow}
 use Rattle.kt_list.specs.Prefixes.{HasMore}
 
 -- ---- numbers of names

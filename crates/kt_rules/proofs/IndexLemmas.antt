@@ -1,12 +1,7 @@
 -- Lists at names, as the map that holds them changes.
 use Rattle.std.proofs.Common.{◌≡◌, Bool, true, false, if◌then◌else◌, List, [], ◌++◌, Option, Some, None, Vec, Global, refl, sym, ap, ◌∙◌, subst}
-use Rattle.std.specs.Str.{bytes_eq}
-use Rattle.std.specs.Option.{unwrap_or, option_map}
+use Rattle.kt_rules.proofs.Common.{bytes_eq, unwrap_or, option_map, nat_list_eq_equiv, bytes_eq-Decides, append-nil, Text}
 use Rattle.std.specs.Map.{lookup, KeepsOthers}
-use Rattle.std.proofs.lemmas.Cmp.{nat_list_eq_equiv}
-use Rattle.std.proofs.lemmas.Slice.Eq.{bytes_eq-Decides}
-use Rattle.std.proofs.lemmas.List.{append-nil}
-use Rattle.kt_text.specs.Words.{Text}
 use Rattle.kt_rules.specs.Indexes.{noted_in}
 
 -- the entries of a map of names

@@ -1,3 +1,4 @@
+pub mod Common
 pub mod BackslashLemmas
 mod WrittenLemmas
 mod DotLemmas

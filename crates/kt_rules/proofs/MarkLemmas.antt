@@ -1,16 +1,6 @@
 -- Names that are marked, one after another.
 use Rattle.std.proofs.Common.{◌≡◌, ℕ, ◌<◌, Bool, true, false, ◌||◌, nat_eq, List, [], ◌∷◌, ◌++◌, length, set, get_or, slice_get, Option, Some, None, refl, sym, ap, ◌∙◌}
-use Rattle.std.specs.Str.{bytes_eq}
-use Rattle.std.proofs.lemmas.Bool.{eqb-true, eq-eqb}
-use Rattle.std.proofs.lemmas.List.{get_or-set_same, get_or-set_other}
-use Rattle.std.proofs.lemmas.List.Folds.{list_any-append}
-use Rattle.std.proofs.lemmas.Slice.Eq.{bytes_eq-Decides}
-use Rattle.kt_list.specs.Names.{place_of}
-use Rattle.kt_list.proofs.NameLemmas.{number_found}
-use Rattle.kt_list.proofs.general.Booleans.{or_nothing}
-use Rattle.kt_text.specs.Words.{Text}
-use Rattle.kt_rules.specs.declared.book.book_names.Marks.{Marks}
-use Rattle.kt_rules.specs.Names.{is_among, with_name}
+use Rattle.kt_rules.proofs.Common.{bytes_eq, eqb-true, eq-eqb, get_or-set_same, get_or-set_other, list_any-append, bytes_eq-Decides, place_of, number_found, or_nothing, Text, Marks, is_among, with_name}
 use Rattle.kt_rules.specs.inner.Marks.{is_marked, mark_at}
 use Rattle.kt_rules.proofs.BookLemmas.{among_with, or_assoc}
 use Rattle.kt_rules.proofs.NoteLemmas.{no_two, same_place}

@@ -1,12 +1,6 @@
 -- Prerequisites before and after the bar.
-use Rattle.std.proofs.Common.{◌≡◌, Bool, true, false, List, [], ◌∷◌, ◌++◌, map, sym, ◌∙◌, ap, arith, ⊎_elim, append_assoc, append-nil}
-use Rattle.std.specs.Prelude.{if◌then◌else◌}
-use Rattle.std.specs.List.{after_first, before_first}
-use Rattle.std.proofs.lemmas.Bool.{cases_Bool}
-use Rattle.kt_text.specs.Words.{Text}
-use Rattle.kt_rules.specs.declared.entry.Needs.{Needs}
-use Rattle.kt_rules.specs.Names.{name_of}
-use Rattle.kt_rules.specs.RuleLine.{is_bar, needs_of}
+use Rattle.std.proofs.Common.{◌≡◌, Bool, true, false, List, [], ◌∷◌, ◌++◌, map, sym, ◌∙◌, ap, arith, ⊎_elim, append_assoc, append-nil, if◌then◌else◌}
+use Rattle.kt_rules.proofs.Common.{after_first, before_first, cases_Bool, Text, Needs, name_of, is_bar, needs_of}
 
 -- the prerequisites that words add to those read so far, whether `|` was read or not; `name` gives a word's name
 unfoldable pub needs_from : (Text → Text) → Bool → List Text → List Text → List Text → Needs

@@ -1,8 +1,6 @@
 -- Lists of which no element passes a test.
 use Rattle.std.proofs.Common.{◌≡◌, ℕ, zero, suc, Bool, false, List, [], ◌∷◌, ◌++◌, take, drop, filter, find, None, refl, ◌∙◌, ⊎_elim}
-use Rattle.std.specs.List.{list_any}
-use Rattle.std.proofs.lemmas.Bool.{cases_Bool, or_parts}
-use Rattle.std.proofs.lemmas.List.Folds.{list_any-append}
+use Rattle.kt_rules.proofs.Common.{list_any, cases_Bool, or_parts, list_any-append}
 
 module _ {A : Type 0} (test : A → Bool) where
   pub none_more : (x : A) (xs : List A) → test x ≡ false → list_any test xs ≡ false → list_any test (x ∷ xs) ≡ false

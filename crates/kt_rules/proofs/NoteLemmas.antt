@@ -1,23 +1,8 @@
 -- Spots of names, by the names' places in a list.
 use Rattle.std.proofs.Common.{◌≡◌, ℕ, zero, suc, ◌+◌, ◌<◌, ◌≤◌, Bool, true, false, nat_eq, if◌then◌else◌, List, [], ◌∷◌, ◌++◌, length, map, drop, get_or, Option, Some, None, slice_get, refl, sym, ap, ◌∙◌, subst, arith, length-append}
-use Rattle.std.specs.Str.{bytes_eq}
-use Rattle.std.specs.List.{AllByRecursion, IsDistinct, position_from}
-use Rattle.std.specs.Option.{option_or}
-use Rattle.std.proofs.lemmas.Bool.{eqb-true, eq-eqb}
-use Rattle.std.proofs.lemmas.Cmp.{nat_list_eq_equiv}
-use Rattle.std.proofs.lemmas.List.{append-nil, append_assoc, get_or_past, drop_all}
+use Rattle.kt_rules.proofs.Common.{bytes_eq, AllByRecursion, IsDistinct, position_from, option_or, eqb-true, eq-eqb, nat_list_eq_equiv, append-nil, append_assoc, get_or_past, drop_all, position_from-zero, bytes_eq-Decides, place_of, number_found, Text, Target, Spot, is_made, Rule, list_of, spots_at, spot_at, target_spots, spots_from, spots_for, AreIn, GrewAt, GrewIn}
 use Rattle.std.proofs.lemmas.Map.Keys.{IsDistinct-head, IsDistinct-tail}
-use Rattle.std.proofs.lemmas.Iterator.Adapters.{position_from-zero}
-use Rattle.std.proofs.lemmas.Slice.Eq.{bytes_eq-Decides}
-use Rattle.kt_list.specs.Names.{place_of}
-use Rattle.kt_list.proofs.NameLemmas.{number_found}
-use Rattle.kt_text.specs.Words.{Text}
-use Rattle.kt_rules.specs.declared.entry.Target.{Target}
-use Rattle.kt_rules.specs.declared.book.spot.Spot.{Spot}
 use Rattle.kt_rules.specs.inner.Lists.{Notes, list_at}
-use Rattle.kt_rules.specs.Book.{is_made}
-use Rattle.kt_rules.specs.Entry.{Rule}
-use Rattle.kt_rules.specs.Slots.{list_of, spots_at, spot_at, target_spots, spots_from, spots_for, AreIn, GrewAt, GrewIn}
 use Rattle.kt_rules.proofs.SlotLemmas.{in_append, in_target_spots}
 
 -- ---- names in a list

@@ -1,16 +1,6 @@
 -- The numbers of the entries of explicit rules.
 use Rattle.std.proofs.Common.{◌≡◌, ℕ, ◌+◌, ◌<◌, ◌≤◌, ◌&&◌, not, Bool, true, false, cond, if◌then◌else◌, List, [], ◌∷◌, ◌++◌, length, map, filter, drop, get_or, suc, Option, Some, None, slice_get, refl, sym, ap, ◌∙◌, arith}
-use Rattle.std.specs.List.{enumerate_from, flat_map}
-use Rattle.std.specs.Str.{bytes_eq}
-use Rattle.std.proofs.lemmas.List.{drop_more, map-append}
-use Rattle.std.proofs.lemmas.List.Elements.{filter-append}
-use Rattle.std.proofs.lemmas.Slice.Eq.{bytes_eq-Decides}
-use Rattle.kt_text.specs.Words.{Text}
-use Rattle.kt_rules.specs.declared.entry.Target.{Target}
-use Rattle.kt_rules.specs.Entry.{Rule}
-use Rattle.kt_rules.specs.Suffixes.{suffixes_of, is_suffix_rule}
-use Rattle.kt_rules.specs.Book.{is_made, is_explicit, target_rules, rules_of, explicit_rules, numbers_in, explicit_numbers, NumbersTellRules}
-use Rattle.kt_rules.specs.Slots.{rules_in}
+use Rattle.kt_rules.proofs.Common.{enumerate_from, flat_map, bytes_eq, drop_more, map-append, filter-append, bytes_eq-Decides, Text, Target, Rule, suffixes_of, is_suffix_rule, is_made, is_explicit, target_rules, rules_of, explicit_rules, numbers_in, explicit_numbers, NumbersTellRules, rules_in}
 
 -- a number for each item that passes a test, from a place on
 pub numbers_at : {A : Type 0} (test : A → Bool) (n : ℕ) (xs : List A) (i : ℕ) (x : A) → i < length xs → x ≡ get_or xs i x

@@ -1,17 +1,8 @@
 -- A text without its outer separators.
-use Rattle.std.proofs.Common.{◌≡◌, ℕ, zero, suc, ◌+◌, ◌-◌, Bool, true, false, not, [], ◌∷◌, ◌++◌, length, take, get_or, if◌then◌else◌, refl, sym, ap, subst, ◌∙◌, true≢false, arith, append_assoc, append-nil, length-append}
-use Rattle.std.specs.Prelude.{◌==◌, ◌&&◌}
-use Rattle.std.specs.List.{suffix_len}
-use Rattle.std.proofs.lemmas.Bool.{eqb-true}
-use Rattle.std.proofs.lemmas.List.{get_or-append_right}
+use Rattle.std.proofs.Common.{◌≡◌, ℕ, zero, suc, ◌+◌, ◌-◌, Bool, true, false, not, [], ◌∷◌, ◌++◌, length, take, get_or, if◌then◌else◌, refl, sym, ap, subst, ◌∙◌, true≢false, arith, append_assoc, append-nil, length-append, ◌==◌, ◌&&◌}
+use Rattle.kt_rules.proofs.Common.{suffix_len, eqb-true, get_or-append_right, get_or-append_seam, take-append_seam, head_is, none_in, tail_is, and_first, and_nothing, and_second, drop-prefix_len, Text, is_separator, stripped_start, end_place, without_outer_separators}
 use Rattle.std.proofs.lemmas.List.Sums.{suffix_len_is, AllPass-from_list_all}
-use Rattle.std.proofs.Math.Seq.{get_or-append_seam, take-append_seam}
-use Rattle.kt_list.proofs.general.Places.{head_is, none_in, tail_is}
-use Rattle.kt_list.proofs.general.Booleans.{and_first, and_nothing, and_second}
 use Rattle.kt_text.proofs.CuttingLemmas.{last_of}
-use Rattle.kt_text.proofs.PlaceLemmas.{drop-prefix_len}
-use Rattle.kt_text.specs.Words.{Text, is_separator, stripped_start}
-use Rattle.kt_rules.specs.Names.{end_place, without_outer_separators}
 use Rattle.kt_rules.specs.Cuts.{ends_in_backslash}
 use Rattle.kt_rules.specs.HeadWords.{separates, begins_with_space, BeginsWithNone, EndsWithNone, IsMiddle, OuterLaw}
 use Rattle.kt_rules.proofs.PartLemmas.{AreSeparators, QuotesNone, first_is, others_are, one_more_is, is_one, not_quoted}

@@ -1,13 +1,6 @@
 -- What separates the words of a head.
-use Rattle.std.proofs.Common.{◌≡◌, ℕ, Bool, true, false, not, [], ◌∷◌, ◌++◌, refl, sym, ap, ◌∙◌, true≢false}
-use Rattle.std.specs.Prelude.{◌==◌, ◌&&◌, ◌||◌}
-use Rattle.std.proofs.lemmas.Bool.{and_from, eqb-true, not-true}
-use Rattle.std.specs.List.{list_all}
-use Rattle.kt_list.proofs.general.Places.{head_is, none_in, tail_is}
-use Rattle.kt_list.proofs.general.Booleans.{and_first, and_second}
-use Rattle.kt_text.specs.Words.{Text, is_separator}
-use Rattle.kt_rules.specs.declared.cutting.Cut.TheVariants.{Separator}
-use Rattle.kt_rules.specs.Names.{cuts, is_quotable}
+use Rattle.std.proofs.Common.{◌≡◌, ℕ, Bool, true, false, not, [], ◌∷◌, ◌++◌, refl, sym, ap, ◌∙◌, true≢false, ◌==◌, ◌&&◌, ◌||◌}
+use Rattle.kt_rules.proofs.Common.{and_from, eqb-true, not-true, list_all, head_is, none_in, tail_is, and_first, and_second, Text, is_separator, Separator, cuts, is_quotable}
 use Rattle.kt_rules.specs.Cuts.{ends_in_backslash}
 use Rattle.kt_rules.specs.HeadWords.{separates, HoldsNoSeparator, begins_with_space}
 

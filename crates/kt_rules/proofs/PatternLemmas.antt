@@ -1,27 +1,11 @@
 -- Pattern rules, target by target, and those that are kept.
-use Rattle.std.proofs.Common.{◌≡◌, ℕ, Bool, true, false, cond, not, ◌&&◌, ◌||◌, if◌then◌else◌, List, [], ◌∷◌, ◌++◌, map, filter, reverse, Option, Some, None, Vec, Global, refl, sym, ap, ◌∙◌, is_some, true≢false}
-use Rattle.std.proofs.lemmas.Bool.{and_parts}
-use Rattle.std.specs.Option.{option_to_list}
-use Rattle.std.specs.List.{filter_map, flat_map, cons_option, list_any}
-use Rattle.std.proofs.lemmas.List.{append-nil, append_assoc, reverse-append}
-use Rattle.std.proofs.lemmas.List.Folds.{list_any-append}
-use Rattle.std.specs.Prelude.{nat_eq}
-use Rattle.std.specs.Str.{bytes_eq}
-use Rattle.std.specs.Cmp.Lexicographic.{pointwise}
+use Rattle.std.proofs.Common.{◌≡◌, ℕ, Bool, true, false, cond, not, ◌&&◌, ◌||◌, if◌then◌else◌, List, [], ◌∷◌, ◌++◌, map, filter, reverse, Option, Some, None, Vec, Global, refl, sym, ap, ◌∙◌, is_some, true≢false, nat_eq}
+use Rattle.kt_rules.proofs.Common.{and_parts, option_to_list, filter_map, flat_map, cons_option, list_any, append-nil, append_assoc, reverse-append, list_any-append, bytes_eq, pointwise, nat_list_eq_equiv, and_parts, or_swap, or_swap, Text, Target, Rule, is_made, patterns_in, suffix_rule_as_pattern, repeats, unrepeated, patterns_of, names_eq, target_names, suffixes_of, rules_in}
 use Rattle.std.specs.Cmp.Derive.Mapped.{pointwise-map}
-use Rattle.std.proofs.lemmas.Cmp.{lists_equiv, nat_list_eq_equiv}
-use Rattle.std.proofs.lemmas.Bool.{and_parts}
-use Rattle.kt_list.proofs.general.Booleans.{or_swap}
+use Rattle.std.proofs.lemmas.Cmp.{lists_equiv}
 use Rattle.indexmap.specs.IndexSet.{insert_key}
-use Rattle.kt_list.proofs.general.Booleans.{or_swap}
-use Rattle.kt_text.specs.Words.{Text}
-use Rattle.kt_rules.specs.declared.entry.Target.{Target}
-use Rattle.kt_rules.specs.Entry.{Rule}
 use Rattle.kt_rules.specs.declared.book.pattern_set.PatternKey.{PatternKey}
 use Rattle.kt_rules.specs.declared.book.pattern_set.PatternSet.{PatternSet}
-use Rattle.kt_rules.specs.Book.{is_made, patterns_in, suffix_rule_as_pattern, repeats, unrepeated, patterns_of, names_eq, target_names}
-use Rattle.kt_rules.specs.Suffixes.{suffixes_of}
-use Rattle.kt_rules.specs.Slots.{rules_in}
 use Rattle.kt_rules.specs.Patterns.{suffix_rules_at, stays_before, held, has_repeated, has_pattern, IsKeyOf}
 
 -- the rules after the remaining ones are sorted: the kept ones are in reverse order, and the set has them all

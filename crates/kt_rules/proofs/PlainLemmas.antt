@@ -1,12 +1,6 @@
 -- The words and names of a text without a backslash, in which no separator is quoted.
-use Rattle.std.proofs.Common.{◌≡◌, false, List, [], ◌∷◌, map, filter, refl, sym, ap, ◌∙◌, ⊎_elim}
-use Rattle.std.specs.Prelude.{◌==◌}
-use Rattle.std.specs.List.{after_first, before_first, list_any, onto_first, slice_split}
-use Rattle.std.proofs.lemmas.Bool.{cases_Bool, or_parts}
-use Rattle.kt_text.specs.Words.{Text, is_nonempty, is_separator, words_of}
-use Rattle.kt_rules.specs.declared.cutting.Cut.TheVariants.{Separator}
-use Rattle.kt_rules.specs.Names.{name_of, pieces_of, without_dots, written_words}
-use Rattle.kt_rules.specs.RuleLine.{is_bar, needs_of}
+use Rattle.std.proofs.Common.{◌≡◌, false, List, [], ◌∷◌, map, filter, refl, sym, ap, ◌∙◌, ⊎_elim, ◌==◌}
+use Rattle.kt_rules.proofs.Common.{after_first, before_first, list_any, onto_first, slice_split, cases_Bool, or_parts, Text, is_nonempty, is_separator, words_of, Separator, name_of, pieces_of, without_dots, written_words, is_bar, needs_of}
 use Rattle.kt_rules.specs.inner.Telling.{is_backslash}
 use Rattle.kt_rules.proofs.BackslashLemmas.{names_itself}
 use Rattle.kt_rules.proofs.NeedsLemmas.{before_all, needs_from}

@@ -1,13 +1,6 @@
 -- Unquoting: which backslashes are removed, and that every other byte stays.
-use Rattle.std.proofs.Common.{◌≡◌, ℕ, Bool, true, false, List, [], ◌∷◌, ◌++◌, flat_map, All, refl, sym, ap, ◌∙◌, true≢false}
-use Rattle.std.specs.Prelude.{◌==◌, ◌&&◌}
-use Rattle.std.specs.List.{list_all}
-use Rattle.std.proofs.lemmas.Bool.{and_from, eqb-true}
-use Rattle.std.proofs.lemmas.List.Elements.{All-cons, All-head, All-nil, All-tail}
-use Rattle.kt_list.proofs.general.Places.{head_is, none_in, tail_is}
-use Rattle.kt_list.proofs.general.Booleans.{and_first, and_nothing, and_second}
-use Rattle.kt_text.specs.Words.{Text}
-use Rattle.kt_rules.specs.Names.{is_quotable, begins_quotable, unquoted}
+use Rattle.std.proofs.Common.{◌≡◌, ℕ, Bool, true, false, List, [], ◌∷◌, ◌++◌, flat_map, All, refl, sym, ap, ◌∙◌, true≢false, ◌==◌, ◌&&◌}
+use Rattle.kt_rules.proofs.Common.{list_all, and_from, eqb-true, All-cons, All-head, All-nil, All-tail, head_is, none_in, tail_is, and_first, and_nothing, and_second, Text, is_quotable, begins_quotable, unquoted}
 use Rattle.kt_rules.specs.HeadWords.{HoldsNoQuote, quoted_text, piece_text, IsUnquoted, UnquotedLaw}
 
 -- a text that holds no backslash that quotes, without its first byte

@@ -1,17 +1,8 @@
 -- What reading a line with plain prerequisites comes down to.
-use Rattle.std.proofs.Common.{◌≡◌, Bool, true, false, true≢false, [], ◌∷◌, drop, None, refl, sym, ap, ◌∙◌, ⊎_elim}
-use Rattle.std.specs.Prelude.{◌||◌, nat_eq}
-use Rattle.std.specs.List.{list_any, starts_with}
-use Rattle.std.proofs.lemmas.Bool.{cases_Bool}
+use Rattle.std.proofs.Common.{◌≡◌, Bool, true, false, true≢false, [], ◌∷◌, drop, None, refl, sym, ap, ◌∙◌, ⊎_elim, ◌||◌, nat_eq}
+use Rattle.kt_rules.proofs.Common.{list_any, starts_with, cases_Bool, starts_is, has_percent, Text, is_colon, Needs, Line, read_line, tested_line, Head, after_double, head_of, line_of}
 use Rattle.std.proofs.lemmas.Bool.Decides.{Decides-eqb}
-use Rattle.std.proofs.lemmas.Slice.Eq.{starts_is}
-use Rattle.kt_text.specs.Match.{has_percent}
-use Rattle.kt_text.specs.Words.{Text, is_colon}
-use Rattle.kt_rules.specs.declared.entry.Needs.{Needs}
 use Rattle.kt_rules.specs.declared.head.Separator.TheVariants.{Single}
-use Rattle.kt_rules.specs.declared.line.Line.{Line}
-use Rattle.kt_rules.specs.Entry.{read_line, tested_line}
-use Rattle.kt_rules.specs.RuleLine.{Head, after_double, head_of, line_of}
 use Rattle.kt_rules.specs.inner.Remembered.{IsLongCut, Names, ReadsAsLong, long_line}
 use Rattle.kt_rules.specs.inner.Telling.{is_telling, signs_of}
 use Rattle.kt_rules.proofs.BackslashLemmas.{never_colon}

@@ -1,17 +1,8 @@
 -- The rule of a line, from the results of the steps that read it.
-use Rattle.std.proofs.Common.{◌≡◌, ℕ, true, false, List, [], ◌∷◌, filter, refl, sym, ◌∙◌, ap, ⊎_elim}
-use Rattle.std.specs.Prelude.{Option, Result, Ok, Err}
-use Rattle.std.specs.List.{list_all, onto_first, slice_split}
-use Rattle.std.proofs.lemmas.Bool.{cases_Bool}
-use Rattle.kt_text.specs.Words.{Text, is_nonempty, is_separator, words_of}
+use Rattle.std.proofs.Common.{◌≡◌, ℕ, true, false, List, [], ◌∷◌, filter, refl, sym, ◌∙◌, ap, ⊎_elim, Option, Result, Ok, Err}
+use Rattle.kt_rules.proofs.Common.{list_all, onto_first, slice_split, cases_Bool, Text, is_nonempty, is_separator, words_of, RuleFault, Memory, Refused, Line, Refusal, Fault, GivesExpected, ReportsFault, fault_at, faults_at, Head, head_of, line_of, Rule, empty_line, is_nil, read_line, rule_of, rule_with, rules_with, tested_line}
 use Rattle.kt_text.proofs.WordLemmas.{words_of-nil, words_of-skip}
-use Rattle.kt_rules.specs.declared.fault.RuleFault.{RuleFault}
-use Rattle.kt_rules.specs.declared.fault.RuleFault.TheVariants.{Memory, Refused}
-use Rattle.kt_rules.specs.declared.line.Line.{Line}
 use Rattle.kt_rules.specs.declared.place.Place.{Place}
-use Rattle.kt_rules.specs.Refusals.{Refusal, Fault, GivesExpected, ReportsFault, fault_at, faults_at}
-use Rattle.kt_rules.specs.RuleLine.{Head, head_of, line_of}
-use Rattle.kt_rules.specs.Entry.{Rule, empty_line, is_nil, read_line, rule_of, rule_with, rules_with, tested_line}
 
 -- a text of which each byte is a separator has no word
 some_first : (byte : ℕ) (parts : List Text) → is_nil (filter is_nonempty (onto_first byte parts)) ≡ false

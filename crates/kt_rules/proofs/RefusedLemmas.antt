@@ -1,15 +1,9 @@
 -- A name without a telling byte is accepted.
-use Rattle.std.proofs.Common.{◌≡◌, ◌==◌, ◌||◌, ◌-◌, ◌<◌, ◌≤◌, ℕ, false, [], ◌∷◌, length, drop, refl, sym, ap, ◌∙◌, arith}
-use Rattle.std.proofs.lemmas.Bool.{ne_eqb, or_parts}
+use Rattle.std.proofs.Common.{◌≡◌, ◌==◌, ◌||◌, ◌-◌, ◌<◌, ◌≤◌, ℕ, false, [], ◌∷◌, length, drop, refl, sym, ap, ◌∙◌, arith, nat_eq}
+use Rattle.kt_rules.proofs.Common.{ne_eqb, or_parts, pointwise, list_any, starts_with, Text, differ_turned, is_member, is_refused_name, is_wildcard}
 use Rattle.std.proofs.Math.Bool.{or-false}
-use Rattle.std.specs.Prelude.{nat_eq}
-use Rattle.std.specs.Cmp.Lexicographic.{pointwise}
-use Rattle.std.specs.List.{list_any, starts_with}
-use Rattle.kt_text.specs.Words.{Text}
-use Rattle.kt_text.proofs.PlaceLemmas.{differ_turned}
 use Rattle.kt_rules.proofs.BackslashLemmas.{quotes_no_percent}
 use Rattle.kt_rules.proofs.NoneLemmas.{none_left, none_of_fewer}
-use Rattle.kt_rules.specs.Names.{is_member, is_refused_name, is_wildcard}
 use Rattle.kt_rules.specs.inner.Telling.{is_telling, tells_early}
 
 -- a byte that isn't a telling byte is none of them

@@ -1,19 +1,7 @@
 -- What the bytes of a head tell of its names: each byte of a name is one of its text, or of `./`.
-use Rattle.std.proofs.Common.{◌≡◌, ℕ, ◌+◌, Bool, true, false, not, List, [], ◌∷◌, ◌++◌, length, take, drop, map, fold, Option, Some, None, is_some, refl, ap, ◌∙◌, ⊎_elim, arith}
-use Rattle.std.specs.Prelude.{◌==◌, ◌&&◌, ◌||◌, option_map}
-use Rattle.std.specs.List.{list_all, list_any, onto_first, position_or_len}
-use Rattle.std.proofs.lemmas.Bool.{cases_Bool, le-ltb, lt-ltb, or_parts}
-use Rattle.memchr.specs.Find.{IsFirstByte, is_byte3}
-use Rattle.kt_list.proofs.general.Booleans.{or_swap}
-use Rattle.kt_text.specs.Words.{Text, is_nonempty}
-use Rattle.kt_text.proofs.MatchLemmas.{list_any-place}
-use Rattle.kt_text.proofs.PlaceLemmas.{first_byte_place}
-use Rattle.kt_text.specs.Match.{has_percent, is_percent}
-use Rattle.kt_rules.specs.declared.cutting.Cut.TheVariants.{Separator}
-use Rattle.kt_rules.specs.declared.line.Line.{Line}
+use Rattle.std.proofs.Common.{◌≡◌, ℕ, ◌+◌, Bool, true, false, not, List, [], ◌∷◌, ◌++◌, length, take, drop, map, fold, Option, Some, None, is_some, refl, ap, ◌∙◌, ⊎_elim, arith, ◌==◌, ◌&&◌, ◌||◌, option_map}
+use Rattle.kt_rules.proofs.Common.{list_all, list_any, onto_first, position_or_len, cases_Bool, le-ltb, lt-ltb, or_parts, IsFirstByte, is_byte3, or_swap, Text, is_nonempty, list_any-place, first_byte_place, has_percent, is_percent, Separator, Line, after_dots, begins_quotable, cuts, is_among, is_refused_name, is_wildcard, is_without_effect, name_of, pieces_of, unquoted, with_name, without_dots, without_repeats, written_words, Head, is_bar, line_of, name_refusal, needs_of, option_list, tested_needs}
 use Rattle.kt_rules.specs.declared.signs.Signs.{Signs}
-use Rattle.kt_rules.specs.Names.{after_dots, begins_quotable, cuts, is_among, is_refused_name, is_wildcard, is_without_effect, name_of, pieces_of, unquoted, with_name, without_dots, without_repeats, written_words}
-use Rattle.kt_rules.specs.RuleLine.{Head, is_bar, line_of, name_refusal, needs_of, option_list, tested_needs}
 use Rattle.kt_rules.specs.inner.Telling.{Tells, is_backslash, is_telling, signs_of}
 use Rattle.kt_rules.proofs.NoneLemmas.{none_found, none_joined, none_kept, none_left, none_more, none_of_fewer, none_taken}
 use Rattle.kt_rules.proofs.RefusedLemmas.{none_of, plain_name_taken}

@@ -1,18 +1,7 @@
 -- Slots and spots as rules are added.
 use Rattle.std.proofs.Common.{◌≡◌, ℕ, ◌+◌, ◌<◌, Bool, true, false, if◌then◌else◌, List, [], ◌∷◌, ◌++◌, length, drop, Option, Some, None, refl, sym, ap, ◌∙◌, subst, arith, slice_get, zero, suc, set, is_some}
-use Rattle.std.specs.Option.{option_and_then}
-use Rattle.std.specs.List.{cons_option}
-use Rattle.std.specs.Str.{bytes_eq}
-use Rattle.std.proofs.lemmas.List.{append-nil}
-use Rattle.std.proofs.lemmas.List.Elements.{filter_map-append}
-use Rattle.std.proofs.Math.Seq.{set-append_seam}
-use Rattle.kt_text.specs.Words.{Text}
-use Rattle.kt_rules.specs.declared.entry.Target.{Target}
-use Rattle.kt_rules.specs.declared.book.spot.Spot.{Spot}
+use Rattle.kt_rules.proofs.Common.{option_and_then, cons_option, bytes_eq, append-nil, filter_map-append, set-append_seam, Text, Target, Spot, Rule, is_made, rules_in, target_rule, slot_rule, spot_rule, found, spot_at, target_spots, spots_from, spots_for, AreBefore, AreIn, GrewIn, GotSpots, GotRecipes}
 use Rattle.kt_rules.specs.inner.Lists.{Notes}
-use Rattle.kt_rules.specs.Entry.{Rule}
-use Rattle.kt_rules.specs.Book.{is_made}
-use Rattle.kt_rules.specs.Slots.{rules_in, target_rule, slot_rule, spot_rule, found, spot_at, target_spots, spots_from, spots_for, AreBefore, AreIn, GrewIn, GotSpots, GotRecipes}
 
 -- an empty slot holds no rule
 pub rules_in-none : (slots : List (Option Rule)) → rules_in (slots ++ None ∷ []) ≡ rules_in slots

@@ -1,8 +1,6 @@
 -- A name that doesn't begin with a dot is no special target.
 use Rattle.std.proofs.Common.{◌≡◌, false, [], ◌∷◌, refl}
-use Rattle.kt_text.specs.Words.{Text}
-use Rattle.kt_rules.specs.Names.{is_special, is_refused_target, is_without_effect}
-use Rattle.kt_rules.specs.Book.{begins_with_dot}
+use Rattle.kt_rules.proofs.Common.{Text, is_special, is_refused_target, is_without_effect, begins_with_dot}
 
 -- such a name
 pub plain_name : (name : Text) → begins_with_dot name ≡ false → is_special name ≡ false

@@ -1,8 +1,6 @@
 -- The suffixes that are known at the start.
 use Rattle.std.proofs.Common.{◌≡◌, [], fold, refl}
-use Rattle.kt_text.specs.Words.{is_separator, words_of}
-use Rattle.kt_rules.specs.Names.{with_name}
-use Rattle.kt_rules.specs.Suffixes.{start_suffixes}
+use Rattle.kt_rules.proofs.Common.{is_separator, words_of, with_name, start_suffixes}
 
 -- they have no repeats
 pub start_distinct : fold with_name [] start_suffixes ≡ start_suffixes

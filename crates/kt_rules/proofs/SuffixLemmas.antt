@@ -1,22 +1,7 @@
 -- Suffixes in a name, by their lengths.
-use Rattle.std.proofs.Common.{◌≡◌, ℕ, zero, suc, ◌+◌, ◌-◌, ◌<◌, ◌≤◌, Bool, true, false, cond, ◌&&◌, ◌||◌, List, [], ◌∷◌, ◌++◌, find, fold, position, length, take, drop, Option, Some, None, IfSome, refl, sym, ap, subst, ◌∙◌, true≢false, arith, get_or, slice_get}
-use Rattle.std.specs.Prelude.{◌≢◌, min, nat_eq, nat_lt, if◌then◌else◌}
-use Rattle.std.specs.Option.{option_and_then}
-use Rattle.std.specs.List.{ends_with, position_from, position_or_len, range_with_len}
-use Rattle.std.specs.Cmp.Lexicographic.{pointwise, as_long, nat_list_eq_equiv, unequal}
-use Rattle.std.proofs.lemmas.Bool.{eq-eqb, eqb-true, lt-ltb, ltb-false, ltb-true, or_left, or_right}
-use Rattle.std.proofs.lemmas.Option.{IfSome_then, slice_get_past}
-use Rattle.std.proofs.lemmas.Iterator.Adapters.{position_from-zero}
-use Rattle.std.specs.Prelude.{Result, Ok, Err, OnOk, OnErr}
-use Rattle.std.proofs.lemmas.Grind.{fold-append}
-use Rattle.std.proofs.lemmas.List.{drop_more, drop_all, length-drop, length-take-le}
+use Rattle.std.proofs.Common.{◌≡◌, ℕ, zero, suc, ◌+◌, ◌-◌, ◌<◌, ◌≤◌, Bool, true, false, cond, ◌&&◌, ◌||◌, List, [], ◌∷◌, ◌++◌, find, fold, position, length, take, drop, Option, Some, None, IfSome, refl, sym, ap, subst, ◌∙◌, true≢false, arith, get_or, slice_get, Result, Ok, Err, OnOk, OnErr, ◌≢◌, min, nat_eq, nat_lt, if◌then◌else◌}
+use Rattle.kt_rules.proofs.Common.{option_and_then, ends_with, position_from, position_or_len, range_with_len, pointwise, as_long, nat_list_eq_equiv, unequal, eq-eqb, eqb-true, lt-ltb, ltb-false, ltb-true, or_left, or_right, IfSome_then, slice_get_past, position_from-zero, fold-append, drop_more, drop_all, length-drop, length-take-le, and_first, Text, is_among, with_name, HaveLengths, KeepLengths, cut_after, earlier, end_of_length, first_cut, first_end, goes_on, is_number, lengths_with, with_number, Needs, all_needs, is_cut_at, suffix_cut}
 use Rattle.std.proofs.lemmas.List.Folds as folds
-use Rattle.kt_list.proofs.general.Booleans.{and_first}
-use Rattle.kt_text.specs.Words.{Text}
-use Rattle.kt_rules.specs.Names.{is_among, with_name}
-use Rattle.kt_rules.specs.inner.SuffixCuts.{HaveLengths, KeepLengths, cut_after, earlier, end_of_length, first_cut, first_end, goes_on, is_number, lengths_with, with_number}
-use Rattle.kt_rules.specs.declared.entry.Needs.{Needs}
-use Rattle.kt_rules.specs.Suffixes.{all_needs, is_cut_at, suffix_cut}
 
 -- ---- lengths
 

@@ -1,19 +1,7 @@
 -- The names of rules are among those that are held.
 use Rattle.std.proofs.Common.{◌≡◌, ℕ, ◌<◌, List, [], ◌∷◌, length, map, take, drop, get_or, Option, Some, None, refl, ap, sym, subst}
-use Rattle.std.specs.List.{All, Contains, flat_map}
-use Rattle.std.proofs.lemmas.List.Elements.{All-append, All-drop, All-get_or, All-head, All-map, All-nil, All-tail, All-take, All-weaker, Contains-get_or}
-use Rattle.kt_text.specs.Words.{Text}
-use Rattle.kt_rules.specs.declared.book.held_rule.HeldRule.{HeldRule}
-use Rattle.kt_rules.specs.declared.book.kinds.Kinds.{Kinds}
-use Rattle.kt_rules.specs.declared.entry.Needs.{Needs}
-use Rattle.kt_rules.specs.declared.entry.RecipeLine.{RecipeLine}
-use Rattle.kt_rules.specs.Entry.{shared_needs, target_of}
+use Rattle.kt_rules.proofs.Common.{All, Contains, flat_map, All-append, All-drop, All-get_or, All-head, All-map, All-nil, All-tail, All-take, All-weaker, Contains-get_or, Text, HeldRule, Kinds, Needs, RecipeLine, shared_needs, target_of, rules_in, all_needs, names_at, IsKnown, needs_held, rule_held, rule_in, slots_held, AreBelow}
 use Rattle.kt_rules.specs.Known.{names_in}
-use Rattle.kt_rules.specs.Slots.{rules_in}
-use Rattle.kt_rules.specs.Suffixes.{all_needs}
-use Rattle.kt_rules.specs.Targets.{names_at}
-use Rattle.kt_rules.specs.inner.Held.{IsKnown, needs_held, rule_held, rule_in, slots_held}
-use Rattle.kt_list.specs.Names.{AreBelow}
 
 -- names with numbers
 numbered_among : (names : List Text) (numbers : List ℕ) → AreBelow (length names) numbers → All (Contains names) (names_at names numbers)

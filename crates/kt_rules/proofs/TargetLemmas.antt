@@ -1,14 +1,6 @@
 -- Targets and their prerequisites, as their entry has them.
 use Rattle.std.proofs.Common.{◌≡◌, false, List, [], ◌∷◌, length, Option, Some, None, refl, arith}
-use Rattle.std.specs.Borrow.{Bor}
-use Rattle.kt_text.specs.Words.{Text}
-use Rattle.kt_text.specs.Match.{has_percent}
-use Rattle.kt_text.specs.Functions.{with_stem}
-use Rattle.std.proofs.lemmas.List.{length-map}
-use Rattle.kt_rules.specs.Entry.{stemmed_names}
-use Rattle.kt_rules.specs.Names.{without_dots}
-use Rattle.kt_rules.specs.Suffixes.{is_empty}
-use Rattle.kt_rules.specs.Targets.{name_put, names_put}
+use Rattle.kt_rules.proofs.Common.{Bor, Text, has_percent, with_stem, length-map, stemmed_names, without_dots, is_empty, name_put, names_put}
 
 -- the first of some prerequisites, and the others
 pub first_put : (stem : Option (Bor Text)) (name : Text) (names : List Text) → names_put stem (name ∷ names) ≡ name_put stem name ∷ names_put stem names

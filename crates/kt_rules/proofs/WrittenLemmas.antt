@@ -1,13 +1,7 @@
 -- The words of a rule line, word by word.
-use Rattle.std.proofs.Common.{◌≡◌, ℕ, zero, suc, ◌<◌, Bool, true, false, List, [], ◌∷◌, length, drop, take, filter, refl, sym, ◌∙◌, ap, arith, ⊎_elim}
-use Rattle.std.specs.Prelude.{◌==◌, if◌then◌else◌}
-use Rattle.std.specs.List.{onto_first}
-use Rattle.std.proofs.lemmas.Bool.{cases_Bool, false≢true}
-use Rattle.kt_text.proofs.PlaceLemmas.{drop-prefix_len}
-use Rattle.kt_text.specs.Words.{Text, is_nonempty, is_separator, stripped_start}
+use Rattle.std.proofs.Common.{◌≡◌, ℕ, zero, suc, ◌<◌, Bool, true, false, List, [], ◌∷◌, length, drop, take, filter, refl, sym, ◌∙◌, ap, arith, ⊎_elim, ◌==◌, if◌then◌else◌}
+use Rattle.kt_rules.proofs.Common.{onto_first, cases_Bool, false≢true, drop-prefix_len, Text, is_nonempty, is_separator, stripped_start, Separator, cuts, cut_place, pieces_of, written_words}
 use Rattle.kt_rules.specs.declared.cutting.Cut.{Cut}
-use Rattle.kt_rules.specs.declared.cutting.Cut.TheVariants.{Separator}
-use Rattle.kt_rules.specs.Names.{cuts, cut_place, pieces_of, written_words}
 
 -- the pieces after the first
 pieces_after : Cut → Bool → Text → List Text

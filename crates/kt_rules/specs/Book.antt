@@ -2,18 +2,11 @@
 use Rattle.std.specs.Prelude.{◌≡◌, ℕ, Bool, true, false, not, ◌&&◌, ◌||◌, ◌==◌, List, [], ◌∷◌, ◌++◌, map, filter, find}
 use Rattle.std.specs.Prelude.{flat_map, filter_map, codes, bytes_eq, Option, Some, None, option_map, is_some, is_none}
 use Rattle.std.specs.Prelude.{slice_get, Result, Ok, Err, if◌then◌else◌}
-use Rattle.std.specs.List.{AllPairs, list_any, enumerate_from}
+use Rattle.kt_rules.specs.Prelude.{AllPairs, list_any, enumerate_from, option_or, option_map_or, Text, Kind}
+use Rattle.kt_rules.specs.Prelude.{DoubleColon, Group, Pattern, TerminalPattern, Target, Place, Needs, Rule, needs_for}
 use Rattle.std.specs.Cmp.Lexicographic.{pointwise}
-use Rattle.std.specs.Option.{option_or, option_map_or}
-use Rattle.kt_text.specs.Words.{Text}
-use Rattle.kt_rules.specs.declared.entry.Kind.{Kind}
-use Rattle.kt_rules.specs.declared.entry.Kind.TheVariants.{DoubleColon, Group, Pattern, TerminalPattern}
-use Rattle.kt_rules.specs.declared.entry.Target.{Target}
-use Rattle.kt_rules.specs.declared.place.Place.{Place}
 use Rattle.kt_rules.specs.Names.{is_among, is_special}
 use Rattle.kt_rules.specs.Places.{place_text}
-use Rattle.kt_rules.specs.declared.entry.Needs.{Needs}
-use Rattle.kt_rules.specs.Entry.{Rule, needs_for}
 use Rattle.kt_rules.specs.Refusals.{Refusal, Fault, bad_group, both_colons, two_recipes, fault_at}
 use Rattle.kt_rules.specs.Suffixes.{special_needs, suffixes_of, suffix_patterns, is_single, is_bare, is_suffix_rule}
 

@@ -1,13 +1,8 @@
 -- Worked books, as facts that compute. The rules are those of the GNU make manual's sections on rules, and of kati's
 -- own rules where it has some.
 use Rattle.std.specs.Prelude.{◌≡◌, ℕ, Bool, true, false, List, [], ◌∷◌, ◌++◌, Some, None, codes}
-use Rattle.kt_text.specs.Words.{Text}
-use Rattle.kt_rules.specs.declared.entry.Kind.{Kind}
-use Rattle.kt_rules.specs.declared.entry.Kind.TheVariants.{SingleColon, DoubleColon, Group, Pattern}
-use Rattle.kt_rules.specs.declared.entry.Target.{Target}
-use Rattle.kt_rules.specs.declared.place.Place.{Place}
+use Rattle.kt_rules.specs.Prelude.{Text, Kind, SingleColon, DoubleColon, Group, Pattern, Target, Place, Rule}
 use Rattle.kt_rules.specs.Places.{place_text}
-use Rattle.kt_rules.specs.Entry.{Rule}
 use Rattle.kt_rules.specs.Refusals.{bad_group, both_colons, two_recipes}
 use Rattle.kt_rules.specs.Book.{explicit_rules, is_phony, first_goal_of, refusal_of, override_messages, patterns_of}
 

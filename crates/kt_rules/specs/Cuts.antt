@@ -1,10 +1,7 @@
 -- What the cuts of a rule line find, as facts about the parts of a text (POSIX.1-2024 make, "Target Rules"). That a
 -- backslash quotes only the byte directly after it is kati's own.
 use Rattle.std.specs.Prelude.{◌≡◌, ℕ, Bool, true, false, ◌==◌, ◌&&◌, List, [], ◌∷◌, ◌++◌, flat_map, Option, Some, None}
-use Rattle.std.specs.List.{list_all}
-use Rattle.kt_text.specs.Words.{Text}
-use Rattle.kt_rules.specs.Names.{after_dots}
-use Rattle.kt_rules.specs.RuleLine.{colon_cut}
+use Rattle.kt_rules.specs.Prelude.{list_all, Text, after_dots, colon_cut}
 
 -- whether a text ends in a backslash; an empty text does if the text before it does
 abbrev pub ends_in_backslash : Bool → Text → Bool

@@ -2,9 +2,7 @@
 -- make, "Target Rules": names separated by blanks). That a backslash quotes only a space or colon directly after it is
 -- kati's own.
 use Rattle.std.specs.Prelude.{◌≡◌, ℕ, Bool, true, false, not, ◌-◌, ◌==◌, ◌&&◌, List, [], ◌∷◌, ◌++◌, length, take, map}
-use Rattle.std.specs.Prelude.{flat_map, All}
-use Rattle.std.specs.List.{list_all}
-use Rattle.kt_text.specs.Words.{Text, is_nonempty, is_separator}
+use Rattle.kt_rules.specs.Prelude.{flat_map, All, list_all, Text, is_nonempty, is_separator}
 use Rattle.kt_rules.specs.Names.{is_quotable, begins_quotable, written_words, without_outer_separators, unquoted}
 use Rattle.kt_rules.specs.Cuts.{ends_in_backslash}
 

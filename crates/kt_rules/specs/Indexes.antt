@@ -1,9 +1,6 @@
 -- What was noted at names (kati's own).
-use Rattle.std.specs.Prelude.{List, [], unwrap_or, option_map, bytes_eq}
+use Rattle.kt_rules.specs.Prelude.{List, [], unwrap_or, option_map, bytes_eq, Vec, Global, Text}
 use Rattle.std.specs.Map.{lookup}
-use Rattle.std.specs.declared.vec.Vec.{Vec}
-use Rattle.std.specs.declared.alloc.Global.{Global}
-use Rattle.kt_text.specs.Words.{Text}
 use Rattle.kt_rules.specs.declared.index.Index.{Index}
 
 -- what was noted at a name in the entries of a map

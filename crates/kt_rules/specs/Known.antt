@@ -1,9 +1,7 @@
 -- The names that stand in rules, and those that rules make known: those of explicit rules, and the phony ones (kati's
 -- own).
 use Rattle.std.specs.Prelude.{List, [], ◌∷◌, ◌++◌, flat_map, map, if◌then◌else◌}
-use Rattle.kt_text.specs.Words.{Text}
-use Rattle.kt_rules.specs.declared.entry.Target.{Target}
-use Rattle.kt_rules.specs.Entry.{Rule, needs_for}
+use Rattle.kt_rules.specs.Prelude.{Text, Target, Rule, needs_for}
 use Rattle.kt_rules.specs.Suffixes.{all_needs}
 use Rattle.kt_rules.specs.Book.{is_explicit, phony_of}
 

@@ -1,15 +1,8 @@
 -- Pattern rules as the program holds them (kati's own).
 use Rattle.std.specs.Prelude.{ℕ, Bool, true, false, map, List, [], filter_map, option_to_list}
-use Rattle.std.specs.Prelude.{is_some, not, ◌&&◌, if◌then◌else◌}
-use Rattle.std.specs.List.{list_any}
-use Rattle.std.specs.declared.vec.Vec.{Vec}
-use Rattle.std.specs.declared.alloc.Global.{Global}
-use Rattle.kt_text.specs.Words.{Text}
-use Rattle.kt_rules.specs.declared.entry.Kind.{Kind}
-use Rattle.kt_rules.specs.declared.entry.Kind.TheVariants.{TerminalPattern}
-use Rattle.kt_rules.specs.declared.entry.Target.{Target}
+use Rattle.std.specs.Prelude.{◌≡◌, is_some, not, ◌&&◌, if◌then◌else◌}
+use Rattle.kt_rules.specs.Prelude.{list_any, Vec, Global, Text, Kind, TerminalPattern, Target, Rule}
 use Rattle.kt_rules.specs.declared.book.pattern.PatternForm.{PatternForm}
-use Rattle.kt_rules.specs.Entry.{Rule}
 use Rattle.kt_rules.specs.declared.book.pattern_set.PatternKey.{PatternKey}
 use Rattle.kt_rules.specs.declared.book.pattern_set.PatternSet.{PatternSet}
 use Rattle.kt_rules.specs.Book.{is_made, target_rules, target_names, names_eq, suffix_rule_as_pattern}

@@ -1,13 +1,9 @@
 -- Worked values of the definitions, as facts that compute. The lines are those of the GNU make manual's sections on
 -- rules, and of kati's own rules where it has some.
 use Rattle.std.specs.Prelude.{◌≡◌, List, [], ◌∷◌, ◌++◌, Some, None, Ok, Err, codes}
-use Rattle.kt_text.specs.Words.{Text}
+use Rattle.kt_rules.specs.Prelude.{Text, Single, Double, Grouped, Line, without_dots, empty_line, read_line, stemmed_of}
 use Rattle.kt_rules.specs.declared.head.Separator.{Separator}
-use Rattle.kt_rules.specs.declared.head.Separator.TheVariants.{Single, Double, Grouped}
-use Rattle.kt_rules.specs.declared.line.Line.{Line}
 use Rattle.kt_rules.specs.Refusals.{missing_separator, refused_name, bad_static_pattern, refused_target, bad_group}
-use Rattle.kt_rules.specs.Names.{without_dots}
-use Rattle.kt_rules.specs.Entry.{empty_line, read_line, stemmed_of}
 
 -- a line without static pattern
 abbrev pub line : Separator → List Text → List Text → List Text → Line

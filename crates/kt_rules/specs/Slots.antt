@@ -1,17 +1,11 @@
 -- The rules of a book in their slots, some of which are empty, and the spots of their targets (kati's own).
 use Rattle.std.specs.Prelude.{◌≡◌, ℕ, ◌+◌, ◌<◌, Bool, false, ◌&&◌, List, [], ◌∷◌, ◌++◌, filter_map, bytes_eq, length}
 use Rattle.std.specs.Prelude.{Option, Some, None, option_map, option_and_then, slice_get, is_some, if◌then◌else◌}
-use Rattle.std.specs.List.{list_any}
-use Rattle.kt_list.specs.Names.{place_of}
-use Rattle.kt_text.specs.Words.{Text}
-use Rattle.kt_rules.specs.declared.entry.Target.{Target}
-use Rattle.kt_rules.specs.declared.book.spot.Spot.{Spot}
+use Rattle.kt_rules.specs.Prelude.{list_any, place_of, Text, Target, Spot, Rule, is_among}
 use Rattle.kt_rules.specs.inner.Lists.{Notes, list_at}
 use Rattle.kt_rules.specs.declared.book.target_rule.TargetRule.{TargetRule}
-use Rattle.kt_rules.specs.Entry.{Rule}
 use Rattle.kt_rules.specs.Book.{GroupsStandAlone, is_made, is_double, is_group, is_phony, rules_of, recipes_of}
 use Rattle.kt_rules.specs.Book.{xor}
-use Rattle.kt_rules.specs.Names.{is_among}
 use Rattle.kt_rules.specs.Targets.{entry_view, target_view}
 use Rattle.kt_rules.specs.Suffixes.{suffixes_of, is_bare}
 

@@ -2,15 +2,8 @@
 -- "Old-Fashioned Suffix Rules").
 use Rattle.std.specs.Prelude.{ℕ, Bool, true, false, ◌&&◌, List, [], ◌∷◌, ◌++◌, length, take, drop, fold, find, codes}
 use Rattle.std.specs.Prelude.{bytes_eq, Option, Some, option_map, is_some, if◌then◌else◌}
-use Rattle.std.specs.List.{range_with_len}
-use Rattle.std.specs.Option.{option_map_or}
-use Rattle.kt_text.specs.Words.{Text, words_of}
-use Rattle.kt_rules.specs.declared.entry.Kind.{Kind}
-use Rattle.kt_rules.specs.declared.entry.Kind.TheVariants.{SingleColon}
-use Rattle.kt_rules.specs.declared.entry.Needs.{Needs}
-use Rattle.kt_rules.specs.declared.entry.Target.{Target}
-use Rattle.kt_rules.specs.Names.{is_among, with_name}
-use Rattle.kt_rules.specs.Entry.{Rule, needs_for}
+use Rattle.kt_rules.specs.Prelude.{range_with_len, option_map_or, Text, words_of, Kind, SingleColon, Needs, Target}
+use Rattle.kt_rules.specs.Prelude.{is_among, with_name, Rule, needs_for}
 
 -- all prerequisites, the order-only ones last
 abbrev pub all_needs : Needs → List Text

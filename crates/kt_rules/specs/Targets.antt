@@ -1,11 +1,8 @@
 -- Targets and prerequisites of the code as those of the definitions (kati's own).
 use Rattle.std.specs.Prelude.{ℕ, List, [], Option, Some, None, get_or, map, option_map}
 use Rattle.std.specs.Borrow.{Bor}
-use Rattle.kt_text.specs.Words.{Text}
+use Rattle.kt_rules.specs.Prelude.{Text, BookRule, Needs, Target, Rule, rule_by, stemmed_names, target_of, without_dots}
 use Rattle.kt_text.specs.Functions.{with_stem}
-use Rattle.kt_rules.specs.declared.book.book_rule.BookRule.{BookRule}
-use Rattle.kt_rules.specs.declared.entry.Needs.{Needs}
-use Rattle.kt_rules.specs.declared.entry.Target.{Target}
 use Rattle.kt_rules.specs.declared.listed.Listed.{Listed}
 use Rattle.kt_rules.specs.declared.listed.Listed.TheVariants.{ByNumber, Own}
 use Rattle.kt_rules.specs.declared.listed.ListedNeeds.{ListedNeeds}
@@ -14,8 +11,6 @@ use Rattle.kt_rules.specs.declared.needs.NeededName.{NeededName}
 use Rattle.kt_rules.specs.declared.needs.NeededNames.{NeededNames}
 use Rattle.kt_rules.specs.declared.target.TargetView.{TargetView}
 use Rattle.kt_rules.specs.declared.target.Targets.{Targets}
-use Rattle.kt_rules.specs.Entry.{Rule, rule_by, stemmed_names, target_of}
-use Rattle.kt_rules.specs.Names.{without_dots}
 
 -- the names with these numbers
 abbrev pub names_at : List Text → List ℕ → List Text

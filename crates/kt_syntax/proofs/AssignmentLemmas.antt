@@ -1,15 +1,6 @@
 -- Assignments from the places of their parts.
-use Rattle.std.proofs.Common.{◌≡◌, ◌≤◌, ◌<◌, ◌-◌, ◌+◌, ◌==◌, ◌&&◌, ℕ, zero, suc, Bool, true, false, not, if◌then◌else◌, List, [], ◌∷◌, length, drop, refl, sym, ap, subst, ◌∙◌, arith, Option, Some, None, ⊎_elim}
-use Rattle.std.specs.Prelude.{slice_index, MatchOption}
-use Rattle.std.specs.List.{prefix_len}
-use Rattle.std.proofs.lemmas.Bool.{cases_Bool, cases_order, false≢true}
-use Rattle.std.proofs.lemmas.List.{drop-drop, get_or-drop, length-drop}
-use Rattle.std.proofs.lemmas.List.Sums.{prefix_len_passes, prefix_len_stops}
-use Rattle.std.proofs.lemmas.Option.{none-some, same_Some}
-use Rattle.kt_text.specs.Words.{Text, is_blank}
-use Rattle.kt_syntax.specs.declared.form.Operator.{Operator}
-use Rattle.kt_syntax.specs.Mask.{mask_of}
-use Rattle.kt_syntax.specs.Kinds.{Parts, assignment_parts, ends_name, name_end, operator_of, parts_after, parts_at, past_blanks}
+use Rattle.std.proofs.Common.{◌≡◌, ◌≤◌, ◌<◌, ◌-◌, ◌+◌, ◌==◌, ◌&&◌, ℕ, zero, suc, Bool, true, false, not, if◌then◌else◌, List, [], ◌∷◌, length, drop, refl, sym, ap, subst, ◌∙◌, arith, Option, Some, None, ⊎_elim, slice_index, MatchOption}
+use Rattle.kt_syntax.proofs.Common.{prefix_len, cases_Bool, cases_order, false≢true, drop-drop, get_or-drop, length-drop, prefix_len_passes, prefix_len_stops, none-some, same_Some, Text, is_blank, Operator, mask_of, Parts, assignment_parts, ends_name, name_end, operator_of, parts_after, parts_at, past_blanks}
 use Rattle.kt_syntax.specs.Assignments.{is_of_name, AreBlanks, IsAssignment, IsName, IsOnlyAssignment}
 
 -- tests of a name's symbols

@@ -1,11 +1,6 @@
 -- Lines that begin with their comment, or hold nothing.
 use Rattle.std.proofs.Common.{◌≡◌, ◌∙◌, Bool, false, true, [], ◌∷◌, refl, sym, ap}
-use Rattle.std.proofs.lemmas.Bool.{eqb-true}
-use Rattle.kt_text.specs.Words.{Text, is_blank}
-use Rattle.kt_text.proofs.CondensedLemmas.{without_newline}
-use Rattle.kt_syntax.specs.Comments.{begins_comment}
-use Rattle.kt_syntax.specs.Kinds.{before_comment, blank, kind_of, kind_within, line_kind}
-use Rattle.kt_syntax.specs.Mask.{mask_from, mask_of, more_masked}
+use Rattle.kt_syntax.proofs.Common.{eqb-true, Text, is_blank, without_newline, begins_comment, before_comment, blank, kind_of, kind_within, line_kind, mask_from, mask_of, more_masked}
 use Rattle.kt_syntax.proofs.CondensedBegins.{begins_alike}
 
 comment_kind : (text : Text) (tab : Bool) → blank ≡ kind_of (35 ∷ text) tab

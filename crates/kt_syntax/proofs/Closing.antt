@@ -1,12 +1,6 @@
 -- Where a reference is closed.
 use Rattle.std.proofs.Common.{◌≡◌, ◌≢◌, ◌==◌, ◌≤◌, ◌<◌, ◌-◌, ◌+◌, ℕ, zero, suc, Bool, true, false, [], ◌∷◌, ◌++◌, Option, Some, None, length, take, drop, refl, sym, ap, subst, ◌∙◌, arith, filter, ⊎_elim, add-zero, zero-add}
-use Rattle.std.proofs.lemmas.Bool.{cases_Bool, false_from_ne_true, eqb-true, eq-eqb}
-use Rattle.std.proofs.lemmas.List.Sums.{length-filter}
-use Rattle.std.proofs.lemmas.Option.{same_Some}
-use Rattle.kt_list.proofs.general.Places.{take_nil}
-use Rattle.kt_list.proofs.general.Numbers.{above_zero, sum_suc}
-use Rattle.kt_text.specs.Words.{Text}
-use Rattle.kt_syntax.specs.Terms.{count_of, IsBalanced, IsUnclosed, closing}
+use Rattle.kt_syntax.proofs.Common.{cases_Bool, false_from_ne_true, eqb-true, eq-eqb, length-filter, same_Some, take_nil, above_zero, sum_suc, Text, count_of, IsBalanced, IsUnclosed, closing}
 
 -- no front of the text closes more than is open before it, and the whole closes all that
 pub record Closes (opener closer depth : ℕ) (text : Text) : Type 0 where

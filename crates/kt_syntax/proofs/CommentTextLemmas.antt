@@ -1,13 +1,6 @@
 -- What is left of a text without its comment, cut by cut.
-use Rattle.std.proofs.Common.{◌≡◌, ◌≢◌, ◌⊎◌, ◌≤◌, ◌+◌, ◌/◌, ◌%◌, ◌==◌, ℕ, zero, suc, Bool, true, false, not, List, [], ◌∷◌, ◌++◌, length, drop, if◌then◌else◌, refl, sym, ap, subst, ◌∙◌, arith, append_assoc, append-nil, length-append, zero-add, inl, inr, ⊎_elim}
-use Rattle.std.proofs.lemmas.Bool.{and_parts, cases_Bool, eq-eqb, eqb-true, false≢true, ne_eqb, not-true}
-use Rattle.std.proofs.lemmas.List.{nil_from_length}
-use Rattle.std.specs.Prelude.{slice_index}
-use Rattle.kt_list.proofs.general.Numbers.{one_more_odd, suc_sum}
-use Rattle.kt_text.specs.Words.{Text}
-use Rattle.kt_syntax.specs.Mask.{goes_odd, mask_byte, mask_from, mask_of, more_masked}
-use Rattle.kt_syntax.specs.Kinds.{before_comment, comment_place}
-use Rattle.kt_syntax.specs.Comments.{backslashes, uncommented, uncommented_of}
+use Rattle.std.proofs.Common.{◌≡◌, ◌≢◌, ◌⊎◌, ◌≤◌, ◌+◌, ◌/◌, ◌%◌, ◌==◌, ℕ, zero, suc, Bool, true, false, not, List, [], ◌∷◌, ◌++◌, length, drop, if◌then◌else◌, refl, sym, ap, subst, ◌∙◌, arith, append_assoc, append-nil, length-append, zero-add, inl, inr, ⊎_elim, slice_index}
+use Rattle.kt_syntax.proofs.Common.{and_parts, cases_Bool, eq-eqb, eqb-true, false≢true, ne_eqb, not-true, nil_from_length, one_more_odd, suc_sum, Text, goes_odd, mask_byte, mask_from, mask_of, more_masked, before_comment, comment_place, backslashes, uncommented, uncommented_of}
 use Rattle.kt_syntax.proofs.SignLemmas.{comment-nil}
 use Rattle.kt_syntax.specs.CommentTexts.{CommentLaw, IsFirstSign, Uncomments, has_no_sign, signed}
 

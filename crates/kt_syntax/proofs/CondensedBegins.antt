@@ -1,15 +1,7 @@
 -- The first byte of a line whose continuations are condensed: that of the line, unless it is a blank, a backslash or one
 -- of a line's end.
-use Rattle.std.proofs.Common.{◌≡◌, ◌≤◌, ◌==◌, ◌&&◌, ◌-◌, ◌%◌, ℕ, suc, List, [], ◌∷◌, ◌++◌, true, false, true≢false, length, take, reverse, arith, refl, sym, ap, ◌∙◌, subst, cond, ⊎_elim}
-use Rattle.std.proofs.lemmas.Bool.{cases_Bool}
-use Rattle.std.proofs.lemmas.List.{length-reverse, reverse-append}
-use Rattle.std.specs.Prelude.{nat_lt, slice_index}
-use Rattle.std.specs.List.{flat_map, onto_first, prefix_len, suffix_len}
-use Rattle.bstr.specs.Text.{no_cr, without_terminator}
-use Rattle.kt_list.proofs.general.Booleans.{and_second}
-use Rattle.kt_list.proofs.general.Numbers.{less_one}
-use Rattle.kt_text.specs.Words.{Text, is_blank, trimmed_end}
-use Rattle.kt_text.specs.Lines.{before_backslash, condensed_group, condensed_line, condensed_of, groups, is_continued, is_continued_text, newline_after, pieces_of}
+use Rattle.std.proofs.Common.{◌≡◌, ◌≤◌, ◌==◌, ◌&&◌, ◌-◌, ◌%◌, ℕ, suc, List, [], ◌∷◌, ◌++◌, true, false, true≢false, length, take, reverse, arith, refl, sym, ap, ◌∙◌, subst, cond, ⊎_elim, nat_lt, slice_index}
+use Rattle.kt_syntax.proofs.Common.{cases_Bool, length-reverse, reverse-append, flat_map, onto_first, prefix_len, suffix_len, no_cr, without_terminator, and_second, less_one, Text, is_blank, trimmed_end, before_backslash, condensed_group, condensed_line, condensed_of, groups, is_continued, is_continued_text, newline_after, pieces_of}
 
 abbrev Begins : ℕ → Text → Type 0
 Begins byte text = (rest : Text) × (text ≡ byte ∷ rest)

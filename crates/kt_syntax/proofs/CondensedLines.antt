@@ -1,12 +1,6 @@
 -- What a line says is what its condensed text says.
 use Rattle.std.proofs.Common.{◌≡◌, take, refl, sym, ap, ◌∙◌, ⊎_elim}
-use Rattle.std.proofs.lemmas.Bool.{cases_Bool}
-use Rattle.kt_text.specs.Words.{Text}
-use Rattle.kt_text.specs.Lines.{condensed_of}
-use Rattle.kt_text.proofs.CondensingLemmas.{condensed_once}
-use Rattle.kt_syntax.specs.Mask.{mask_of}
-use Rattle.kt_syntax.specs.Kinds.{kind_of}
-use Rattle.kt_syntax.specs.Heads.{head_end, is_target_specific, rule_texts}
+use Rattle.kt_syntax.proofs.Common.{cases_Bool, Text, condensed_of, condensed_once, mask_of, kind_of, head_end, is_target_specific, rule_texts}
 use Rattle.kt_syntax.specs.Condensed.{LineLaw, head_of_parts}
 
 -- the head is that of the text, whatever the line as it stands

@@ -1,14 +1,6 @@
 -- Heads of rule lines from the places of their parts.
-use Rattle.std.proofs.Common.{◌≡◌, ◌≤◌, ◌<◌, ◌-◌, ◌+◌, ℕ, zero, suc, true, false, length, take, drop, refl, sym, ap, ◌∙◌, arith, Option, Some, None}
-use Rattle.std.proofs.lemmas.Bool.{eq-eqb, eqb-true, false_from_ne_true, or_left, or_right}
-use Rattle.kt_text.specs.Words.{Text}
-use Rattle.kt_syntax.specs.Mask.{mask_of}
-use Rattle.std.specs.Prelude.{is_some, ◌==◌, ◌||◌}
-use Rattle.memchr.specs.Find.{IsFirstByte, is_byte, is_byte3}
-use Rattle.std.proofs.lemmas.List.{take_rest}
-use Rattle.kt_list.proofs.general.Numbers.{less_one}
-use Rattle.kt_syntax.specs.Kinds.{Parts, assignment_parts, comment_place, past_blanks}
-use Rattle.kt_syntax.specs.Heads.{after_modifier, after_modifiers, found_or, head_end, colon_place, after_colon, assigns_after, is_target_specific, head_text, first_recipe, parts_with, rule_texts}
+use Rattle.std.proofs.Common.{◌≡◌, ◌≤◌, ◌<◌, ◌-◌, ◌+◌, ℕ, zero, suc, true, false, length, take, drop, refl, sym, ap, ◌∙◌, arith, Option, Some, None, is_some, ◌==◌, ◌||◌}
+use Rattle.kt_syntax.proofs.Common.{eq-eqb, eqb-true, false_from_ne_true, or_left, or_right, Text, mask_of, IsFirstByte, is_byte, is_byte3, take_rest, less_one, Parts, assignment_parts, comment_place, past_blanks, after_modifier, after_modifiers, found_or, head_end, colon_place, after_colon, assigns_after, is_target_specific, head_text, first_recipe, parts_with, rule_texts}
 use Rattle.kt_syntax.proofs.Masking.{length-front}
 use Rattle.kt_syntax.proofs.SymbolLemmas.{no_comment, no_semicolon, none_of, not_found, nowhere_any}
 use Rattle.kt_syntax.proofs.Unsigned.{unsigned_is_unspecific}

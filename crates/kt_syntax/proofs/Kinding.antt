@@ -1,12 +1,6 @@
 -- Kinds of lines from the places of their parts.
 use Rattle.std.proofs.Common.{◌≡◌, ◌≤◌, ◌-◌, ◌+◌, ◌==◌, ℕ, Bool, true, false, length, take, drop, refl, sym, ap, ◌∙◌, Option, Some}
-use Rattle.std.proofs.lemmas.Bool.{eq-eqb, false_from_ne_true, eqb-true}
-use Rattle.std.proofs.lemmas.List.{take_rest}
-use Rattle.std.specs.List.{slice_range}
-use Rattle.kt_text.specs.Words.{Text}
-use Rattle.kt_syntax.specs.declared.form.Operator.{Operator}
-use Rattle.kt_syntax.specs.Mask.{mask_of}
-use Rattle.kt_syntax.specs.Kinds.{Parts, blank, comment_place, past_blanks, past_word, operator_of, name_end, parts_at, parts_after, assignment_parts, directive_of, kind_by_word, kind_by_parts, worded, kind_within, kind_of}
+use Rattle.kt_syntax.proofs.Common.{eq-eqb, false_from_ne_true, eqb-true, take_rest, slice_range, Text, Operator, mask_of, Parts, blank, comment_place, past_blanks, past_word, operator_of, name_end, parts_at, parts_after, assignment_parts, directive_of, kind_by_word, kind_by_parts, worded, kind_within, kind_of}
 use Rattle.kt_syntax.proofs.Masking.{length-front}
 
 pub parts_found : (text mask : Text) (begin name place : ℕ) (found : Operator × ℕ) (value : ℕ) → Some name ≡ name_end begin (drop begin mask) (drop begin text)

@@ -1,18 +1,9 @@
 -- Lines that begin with a name or a target: assignments, and rule lines by their first word.
-use Rattle.std.proofs.Common.{◌≡◌, ◌==◌, ◌||◌, ◌+◌, ◌-◌, ◌≤◌, ◌<◌, ℕ, zero, suc, Bool, true, false, List, [], ◌∷◌, ◌++◌, Option, Some, None, length, take, drop, refl, sym, ap, subst, ◌∙◌, arith, ⊎_elim, true≢false, take-append-drop, length-take-le, drop-drop}
-use Rattle.std.proofs.Math.Seq.{drop-append-add, take-append-add}
-use Rattle.std.proofs.lemmas.Bool.{and_parts, cases_Bool, eqb-true, false_from_ne_true, or_cases, or_parts}
-use Rattle.std.proofs.lemmas.Slice.Eq.{bytes_eq-Decides}
-use Rattle.std.specs.List.{list_all, list_any, position_or_len, prefix_len, slice_range, starts_with}
-use Rattle.std.specs.Str.{bytes_eq}
-use Rattle.std.specs.Prelude.{codes, is_some, nat_eq}
-use Rattle.kt_text.specs.Words.{Text, is_blank, trimmed_start}
-use Rattle.kt_syntax.specs.declared.form.Operator.{Operator}
+use Rattle.std.proofs.Common.{◌≡◌, ◌==◌, ◌||◌, ◌+◌, ◌-◌, ◌≤◌, ◌<◌, ℕ, zero, suc, Bool, true, false, List, [], ◌∷◌, ◌++◌, Option, Some, None, length, take, drop, refl, sym, ap, subst, ◌∙◌, arith, ⊎_elim, true≢false, take-append-drop, length-take-le, drop-drop, codes, is_some, nat_eq}
+use Rattle.kt_syntax.proofs.Common.{drop-append-add, take-append-add, and_parts, cases_Bool, eqb-true, false_from_ne_true, or_cases, or_parts, bytes_eq-Decides, list_all, list_any, position_or_len, prefix_len, slice_range, starts_with, bytes_eq, Text, is_blank, trimmed_start, Operator, Parts, assignment, assignment_parts, before_comment, block_word, directive_of, include_word, is_refused_word, kind_by_word, kind_of, name_end, operator_of, parts_after, past_blanks, past_word, rule, worded, inside, mask_from, mask_of}
 use Rattle.kt_syntax.proofs.LeadingWords.{all_quiet, assignment_led, cut_led, is_own, is_quiet, is_solid, kind_by, kind_worded, left_before, length_run, mask_apart, mask_led, name_led, name_over, own_over, prefix_over, quiet, run_of, run_whole, symbols_of, taken_all}
 use Rattle.kt_syntax.proofs.OwnRuns.{no_operator}
 use Rattle.kt_syntax.proofs.OwnSymbols.{own_byte}
-use Rattle.kt_syntax.specs.Kinds.{Parts, assignment, assignment_parts, before_comment, block_word, directive_of, include_word, is_refused_word, kind_by_word, kind_of, name_end, operator_of, parts_after, past_blanks, past_word, rule, worded}
-use Rattle.kt_syntax.specs.Mask.{inside, mask_from, mask_of}
 use Rattle.kt_syntax.specs.inner.Leading.{IsQuietWord, begins_colon, begins_slash, is_apart, is_loud, may_be_word}
 use Rattle.kt_syntax.specs.inner.OwnRuns.{begins_operator, is_mark}
 

@@ -1,20 +1,12 @@
 -- Lines that begin with a word of blocks: their symbols, and their kind.
-use Rattle.std.proofs.Common.{◌≡◌, ◌==◌, ◌&&◌, ◌+◌, ◌-◌, ◌<◌, ℕ, zero, suc, Bool, true, false, not, List, [], ◌∷◌, ◌++◌, Option, Some, None, length, take, drop, refl, sym, ap, ◌∙◌, arith, zero-add, ⊎_elim, true≢false, take-append-drop}
-use Rattle.std.proofs.Math.Seq.{take-append_seam, take-append-add, drop-append_seam, drop-append-add}
-use Rattle.std.proofs.lemmas.Bool.{and_parts, cases_Bool, eqb-true, false_from_ne_true, not-true, not_from_false, or_parts}
-use Rattle.std.specs.List.{list_all, prefix_len, slice_range}
-use Rattle.std.specs.Prelude.{is_some}
-use Rattle.kt_list.proofs.general.Places.{take_nil}
-use Rattle.kt_text.specs.Words.{Text, is_blank, trimmed_start}
+use Rattle.std.proofs.Common.{◌≡◌, ◌==◌, ◌&&◌, ◌+◌, ◌-◌, ◌<◌, ℕ, zero, suc, Bool, true, false, not, List, [], ◌∷◌, ◌++◌, Option, Some, None, length, take, drop, refl, sym, ap, ◌∙◌, arith, zero-add, ⊎_elim, true≢false, take-append-drop, is_some}
+use Rattle.kt_syntax.proofs.Common.{take-append_seam, take-append-add, drop-append_seam, drop-append-add, and_parts, cases_Bool, eqb-true, false_from_ne_true, not-true, not_from_false, or_parts, list_all, prefix_len, slice_range, take_nil, Text, is_blank, trimmed_start, Parts, assignment_parts, before_comment, block_word, comment_place, directive, directive_of, kind_by_parts, kind_by_word, kind_of, kind_within, name_end, operator_of, parts_after, parts_at, past_blanks, past_word, worded, mask_byte, mask_from, mask_of, more_masked, Operator}
 use Rattle.kt_syntax.specs.declared.form.Directive.{Directive}
 use Rattle.kt_syntax.specs.declared.form.Directive.TheVariants.{Ifdef, Ifndef, Ifeq, Ifneq, Else, Endif, Define, Endef, Include, OptionalInclude}
 use Rattle.kt_syntax.proofs.Masking.{mask_from-nil}
 use Rattle.kt_syntax.proofs.OwnRuns.{name_goes_on, no_operator}
 use Rattle.kt_syntax.proofs.OwnSymbols.{own_byte, same_symbol}
-use Rattle.kt_syntax.specs.Kinds.{Parts, assignment_parts, before_comment, block_word, comment_place, directive, directive_of, kind_by_parts, kind_by_word, kind_of, kind_within, name_end, operator_of, parts_after, parts_at, past_blanks, past_word, worded}
-use Rattle.kt_syntax.specs.Mask.{mask_byte, mask_from, mask_of, more_masked}
 use Rattle.kt_syntax.specs.Roles.{first_word, starts_condition}
-use Rattle.kt_syntax.specs.declared.form.Operator.{Operator}
 use Rattle.kt_syntax.specs.inner.Leading.{IsLed, begins_slash, block_text, is_apart, is_loud, may_assign}
 use Rattle.kt_syntax.specs.inner.OwnRuns.{begins_operator, ends_own_name, ends_own_word, is_mark}
 

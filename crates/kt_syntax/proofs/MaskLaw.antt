@@ -1,15 +1,6 @@
 -- The mask that is computed is that of the line's terms.
-use Rattle.std.proofs.Common.{◌≡◌, ◌==◌, ◌≤◌, ◌<◌, ◌-◌, ◌+◌, not, ℕ, zero, suc, Bool, true, false, List, [], ◌∷◌, ◌++◌, length, take, drop, get_or, replicate, refl, sym, ap, subst, ◌∙◌, arith, ⊎_elim, ◌⊎◌, inl, inr, length-drop, length-take-le, add-zero, append_assoc}
-use Rattle.std.proofs.lemmas.Bool.{and_parts, cases_Bool, cases_lt, eq-eqb, eqb-true, false_from_ne_true, false≢true}
-use Rattle.std.proofs.lemmas.List.{drop_more, drop_at, drop-drop, get_or-drop}
-use Rattle.std.specs.Prelude.{nat_eq, slice_index}
-use Rattle.std.specs.List.{starts_with}
-use Rattle.kt_text.specs.Words.{Text}
-use Rattle.std.proofs.lemmas.List.{append-nil, ext_get_or, length-append, drop_all, take-append-drop}
-use Rattle.std.proofs.Math.Seq.{get_or-append_seam}
-use Rattle.kt_syntax.specs.declared.term.Mark.TheVariants.{Byte, Parentheses, Braces}
-use Rattle.kt_syntax.specs.Terms.{Token, literal, dollar, reference, unclosed, kept, unit_length, IsTerm, IsSplittingIn, EndsRun, count_of, after_dollar, first_term, literal_run}
-use Rattle.kt_syntax.specs.Mask.{inside, goes_odd, mask_byte, more_masked, mask_from, mask_of}
+use Rattle.std.proofs.Common.{◌≡◌, ◌==◌, ◌≤◌, ◌<◌, ◌-◌, ◌+◌, not, ℕ, zero, suc, Bool, true, false, List, [], ◌∷◌, ◌++◌, length, take, drop, get_or, replicate, refl, sym, ap, subst, ◌∙◌, arith, ⊎_elim, ◌⊎◌, inl, inr, length-drop, length-take-le, add-zero, append_assoc, nat_eq, slice_index}
+use Rattle.kt_syntax.proofs.Common.{and_parts, cases_Bool, cases_lt, eq-eqb, eqb-true, false_from_ne_true, false≢true, drop_more, drop_at, drop-drop, get_or-drop, starts_with, Text, append-nil, ext_get_or, length-append, drop_all, take-append-drop, get_or-append_seam, Byte, Parentheses, Braces, Token, literal, dollar, reference, unclosed, kept, unit_length, IsTerm, IsSplittingIn, EndsRun, count_of, after_dollar, first_term, literal_run, inside, goes_odd, mask_byte, more_masked, mask_from, mask_of}
 use Rattle.kt_syntax.specs.Masked.{IsContinued, IsSymbol, IsMasked, IsMaskOf, MaskLaw, is_outside}
 use Rattle.kt_syntax.proofs.Masking.{mask_from-nil, length-mask_of}
 use Rattle.kt_syntax.proofs.Runs.{run, run-no, run-yes, run_within, run_ends, no_dollar}

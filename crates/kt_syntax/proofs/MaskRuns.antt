@@ -1,17 +1,6 @@
 -- Places of a line, the continuations round them, and runs of symbols of its mask.
-use Rattle.std.proofs.Common.{◌≡◌, ◌==◌, ◌≤◌, ◌<◌, ◌-◌, ◌+◌, ◌%◌, ℕ, zero, suc, Bool, true, false, List, [], ◌∷◌, ◌++◌, length, take, drop, get_or, replicate, refl, sym, ap, subst, ◌∙◌, arith, ⊎_elim, ◌⊎◌, inl, inr, length-drop, add-zero}
-use Rattle.std.proofs.lemmas.Bool.{cases_Bool, cases_lt}
-use Rattle.std.proofs.lemmas.Bool.Decides.{Decides-eqb}
-use Rattle.std.proofs.lemmas.List.{drop_more, drop_at, drop-drop, get_or-drop, get_or-replicate, get_or_append_left, length-replicate}
-use Rattle.std.proofs.lemmas.List.Sums.{suffix_len-take_yes, suffix_len-take_no}
-use Rattle.std.proofs.lemmas.Slice.Eq.{starts_is}
-use Rattle.std.specs.Prelude.{nat_eq, slice_index}
-use Rattle.std.specs.List.{starts_with, suffix_len}
-use Rattle.kt_list.proofs.general.Numbers.{one_more_odd}
-use Rattle.kt_text.specs.Words.{Text}
-use Rattle.kt_text.specs.Lines.{is_continued_text}
-use Rattle.kt_syntax.specs.Terms.{kept, unit_length}
-use Rattle.kt_syntax.specs.Mask.{goes_odd, mask_byte, more_masked, mask_from}
+use Rattle.std.proofs.Common.{◌≡◌, ◌==◌, ◌≤◌, ◌<◌, ◌-◌, ◌+◌, ◌%◌, ℕ, zero, suc, Bool, true, false, List, [], ◌∷◌, ◌++◌, length, take, drop, get_or, replicate, refl, sym, ap, subst, ◌∙◌, arith, ⊎_elim, ◌⊎◌, inl, inr, length-drop, add-zero, nat_eq, slice_index}
+use Rattle.kt_syntax.proofs.Common.{cases_Bool, cases_lt, Decides-eqb, drop_more, drop_at, drop-drop, get_or-drop, get_or-replicate, get_or_append_left, length-replicate, suffix_len-take_yes, suffix_len-take_no, starts_is, starts_with, suffix_len, one_more_odd, Text, is_continued_text, kept, unit_length, goes_odd, mask_byte, more_masked, mask_from}
 use Rattle.kt_syntax.specs.Masked.{IsContinued, IsSymbol}
 use Rattle.kt_syntax.proofs.Masking.{step-inside, step-outside}
 

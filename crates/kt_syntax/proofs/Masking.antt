@@ -1,18 +1,7 @@
 -- Masks of lines, one byte at a time.
-use Rattle.std.proofs.Common.{◌≡◌, ◌≤◌, ◌<◌, ◌-◌, ◌+◌, true, false, ℕ, zero, suc, Bool, Option, Some, None, List, [], ◌∷◌, length, take, drop, unwrap_or, refl, sym, ap, ◌∙◌, arith}
-use Rattle.std.proofs.lemmas.List.{length-take-le, length-drop, take_all, drop-drop, get_or-drop}
-use Rattle.std.proofs.lemmas.List.Sums.{prefix_len-le-length}
-use Rattle.std.proofs.lemmas.Bool.Decides.{Decides-eqb}
-use Rattle.std.proofs.lemmas.Slice.Eq.{starts_is}
-use Rattle.std.specs.Prelude.{nat_eq, slice_index}
-use Rattle.std.specs.List.{starts_with}
+use Rattle.std.proofs.Common.{◌≡◌, ◌≤◌, ◌<◌, ◌-◌, ◌+◌, true, false, ℕ, zero, suc, Bool, Option, Some, None, List, [], ◌∷◌, length, take, drop, unwrap_or, refl, sym, ap, ◌∙◌, arith, nat_eq, slice_index}
+use Rattle.kt_syntax.proofs.Common.{length-take-le, length-drop, take_all, drop-drop, get_or-drop, prefix_len-le-length, Decides-eqb, starts_is, starts_with, less_one, take_nil, Text, is_blank, past_blanks, kept, dropped, after_dollar, goes_odd, mask_byte, more_masked, mask_from, mask_of}
 use Rattle.std.specs.Iterator.{YieldsFirst}
-use Rattle.kt_list.proofs.general.Numbers.{less_one}
-use Rattle.kt_list.proofs.general.Places.{take_nil}
-use Rattle.kt_text.specs.Words.{Text, is_blank}
-use Rattle.kt_syntax.specs.Kinds.{past_blanks}
-use Rattle.kt_syntax.specs.Terms.{kept, dropped, after_dollar}
-use Rattle.kt_syntax.specs.Mask.{goes_odd, mask_byte, more_masked, mask_from, mask_of}
 
 pub mask_from-nil : (skip symbol : ℕ) (odd : Bool) → mask_from skip symbol odd [] ≡ []
 unfolding mask_from

@@ -1,12 +1,7 @@
 -- The words that may stand before a target-specific macro, one symbol at a time.
 use Rattle.std.proofs.Common.{◌≡◌, ◌≤◌, ◌<◌, ◌-◌, ◌+◌, ℕ, Bool, true, false, not, List, [], ◌∷◌, length, drop, refl, sym, ap, ◌∙◌, arith, Some, None, ltb, ⊎_elim}
 use Rattle.std.proofs.Math.Bool.{and-false}
-use Rattle.std.proofs.lemmas.Bool.{cases_order, lt-ltb, le-ltb}
-use Rattle.std.proofs.lemmas.List.{drop-drop}
-use Rattle.std.specs.List.{prefix_len, slice_range}
-use Rattle.kt_text.specs.Words.{Text, is_blank}
-use Rattle.kt_syntax.specs.Kinds.{past_blanks, past_word}
-use Rattle.kt_syntax.specs.Heads.{is_modifier, after_modifier, after_modifiers}
+use Rattle.kt_syntax.proofs.Common.{cases_order, lt-ltb, le-ltb, drop-drop, prefix_len, slice_range, Text, is_blank, past_blanks, past_word, is_modifier, after_modifier, after_modifiers}
 use Rattle.kt_syntax.proofs.HeadLemmas.{modifiers_next, modifiers_end}
 
 pub next_rest : (mask rest : List ℕ) (place symbol : ℕ) → drop place mask ≡ symbol ∷ rest → rest ≡ drop (place + 1) mask

@@ -1,14 +1,6 @@
 -- The place after the words that may stand before a target-specific macro, by the places of those words.
-use Rattle.std.proofs.Common.{◌≡◌, ◌≤◌, ◌<◌, ◌-◌, ◌+◌, ◌&&◌, ℕ, zero, suc, Bool, true, false, not, if◌then◌else◌, List, [], ◌∷◌, length, drop, take, refl, sym, ap, subst, ◌∙◌, arith, Option, Some, None, ⊎_elim}
-use Rattle.std.proofs.lemmas.Bool.{and_parts, cases_Bool, cases_order, false≢true, lt-ltb, ltb-true, not-false, not-true}
-use Rattle.std.proofs.lemmas.List.{get_or-drop, length-drop}
-use Rattle.std.proofs.lemmas.List.Sums.{prefix_len_passes, prefix_len_stops}
-use Rattle.std.specs.Prelude.{nat_lt, slice_index}
-use Rattle.std.specs.List.{prefix_len, slice_range}
-use Rattle.std.proofs.lemmas.Option.{same_Some}
-use Rattle.kt_text.specs.Words.{Text, is_blank}
-use Rattle.kt_syntax.specs.Kinds.{past_blanks, past_word}
-use Rattle.kt_syntax.specs.Heads.{after_modifier, after_modifiers, found_or, is_modifier, modifier_at}
+use Rattle.std.proofs.Common.{◌≡◌, ◌≤◌, ◌<◌, ◌-◌, ◌+◌, ◌&&◌, ℕ, zero, suc, Bool, true, false, not, if◌then◌else◌, List, [], ◌∷◌, length, drop, take, refl, sym, ap, subst, ◌∙◌, arith, Option, Some, None, ⊎_elim, nat_lt, slice_index}
+use Rattle.kt_syntax.proofs.Common.{and_parts, cases_Bool, cases_order, false≢true, lt-ltb, ltb-true, not-false, not-true, get_or-drop, length-drop, prefix_len_passes, prefix_len_stops, prefix_len, slice_range, same_Some, Text, is_blank, past_blanks, past_word, after_modifier, after_modifiers, found_or, is_modifier, modifier_at}
 use Rattle.kt_syntax.specs.Modifiers.{AreModifiers, IsAfterModifiers, IsModifier, ModifierLaw}
 use Rattle.kt_syntax.proofs.AssignmentLemmas.{blanks_are, blanks_only}
 

@@ -1,16 +1,8 @@
 -- One line more in the passes over the lines of a text.
 use Rattle.std.proofs.Common.{◌≡◌, ◌≤◌, ◌<◌, ◌+◌, ℕ, zero, suc, arith, List, [], ◌∷◌, ◌++◌, drop, length, replicate, set, Option, Some, None, refl, sym, ap, ◌∙◌, append_assoc, append-nil, get_or, add-one}
-use Rattle.std.proofs.Math.Seq.{drop-cons}
-use Rattle.std.proofs.lemmas.List.{drop_all}
+use Rattle.kt_syntax.proofs.Common.{drop-cons, drop_all, OpenDefine, OpenConditional, BlockPart, Head, Role, Step, Text}
 use Rattle.kt_text.specs.declared.line.Line.{Line}
-use Rattle.kt_syntax.specs.declared.part.OpenDefine.{OpenDefine}
-use Rattle.kt_syntax.specs.declared.part.OpenConditional.{OpenConditional}
-use Rattle.kt_syntax.specs.declared.part.BlockPart.{BlockPart}
-use Rattle.kt_syntax.specs.declared.role.Head.{Head}
-use Rattle.kt_syntax.specs.declared.role.Role.{Role}
 use Rattle.kt_syntax.specs.declared.role.Role.TheVariants as role
-use Rattle.kt_syntax.specs.declared.step.Step.{Step}
-use Rattle.kt_text.specs.Words.{Text}
 use Rattle.kt_syntax.specs.Roles.{head_of, heads_of}
 use Rattle.kt_syntax.specs.Parts.{Open, after, define_after, depth_of, open_at_end, part_of, parts_from}
 use Rattle.kt_syntax.specs.declared.step.Step.TheVariants as step

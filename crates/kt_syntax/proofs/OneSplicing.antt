@@ -1,23 +1,7 @@
 -- The text of a recipe line is spliced in one way alone: what is done at its first newline leaves no choice.
-use Rattle.std.proofs.Common.{◌≡◌, ◌⊎◌, ◌≤◌, ◌-◌, ◌==◌, ◌||◌, ◌&&◌, ℕ, zero, suc, Bool, true, false, not, List, [], ◌∷◌, ◌++◌, length, drop, refl, sym, ap, subst, ◌∙◌, arith, append_assoc, append-nil, length-append, inl, inr, ⊎_elim}
-use Rattle.std.proofs.lemmas.Bool.{and_from, and_parts, cases_Bool, eq-eqb, eqb-true, false≢true, ne_eqb, or_parts}
-use Rattle.std.proofs.lemmas.Bool.Decides.{Decides-eqb}
+use Rattle.std.proofs.Common.{◌≡◌, ◌⊎◌, ◌≤◌, ◌-◌, ◌==◌, ◌||◌, ◌&&◌, ℕ, zero, suc, Bool, true, false, not, List, [], ◌∷◌, ◌++◌, length, drop, refl, sym, ap, subst, ◌∙◌, arith, append_assoc, append-nil, length-append, inl, inr, ⊎_elim, nat_eq, slice_index}
+use Rattle.kt_syntax.proofs.Common.{and_from, and_parts, cases_Bool, eq-eqb, eqb-true, false≢true, ne_eqb, or_parts, Decides-eqb, starts_is, list_any, starts_with, Text, is_continued_text, FirstStands, HasNoNewline, IsNewline, Spacing, is_continuation, spelled, space, tab, continuation, returned, FirstNewline, first_newline, no_newline, first_continued, first_ended, past, ends_plain, newline_end, shorter, spelling, IsFree, free_at, free_front, any_last, first_of_run, less_left, some_left, nothing_ends, spelled_long, trailing, AllBlank, Joint, Edge, Inside, inside, mask_of}
 use Rattle.std.proofs.lemmas.Grind.{flat_map-append}
-use Rattle.std.proofs.lemmas.Slice.Eq.{starts_is}
-use Rattle.std.specs.Prelude.{nat_eq, slice_index}
-use Rattle.std.specs.List.{list_any, starts_with}
-use Rattle.kt_text.specs.Words.{Text}
-use Rattle.kt_text.specs.Lines.{is_continued_text}
-use Rattle.kt_text.specs.Condensing.{FirstStands, HasNoNewline, IsNewline, Spacing, is_continuation, spelled, space, tab, continuation, returned}
-use Rattle.kt_text.proofs.CuttingLemmas.{FirstNewline, first_newline}
-use Rattle.kt_text.proofs.CuttingLemmas.{no_newline, first_continued, first_ended}
-use Rattle.kt_text.proofs.GapLemmas.{past, ends_plain, newline_end, shorter, spelling}
-use Rattle.kt_text.proofs.NewlineLemmas.{IsFree, free_at, free_front}
-use Rattle.kt_text.proofs.OneCondensing.{any_last, first_of_run, less_left, some_left, nothing_ends, spelled_long, trailing}
-use Rattle.kt_text.proofs.TrimLemmas.{AllBlank}
-use Rattle.kt_syntax.specs.declared.recipe.Joint.{Joint}
-use Rattle.kt_syntax.specs.declared.recipe.Joint.TheVariants.{Edge, Inside}
-use Rattle.kt_syntax.specs.Mask.{inside, mask_of}
 use Rattle.kt_syntax.specs.Recipes.{recipe_of}
 use Rattle.kt_syntax.specs.RecipeCuts.{AreInside, IsInnerGap, IsInside, IsOneTab, IsOuter, Splices, SplicingLaw, spliced}
 use Rattle.kt_syntax.proofs.SplicingLemmas.{BeginsOuter, drop_both, from_continued, from_ended, from_free, from_newline, from_outer, from_outside, joined, Joined, joint_outside, part, recipe_from}

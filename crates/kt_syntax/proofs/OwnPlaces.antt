@@ -1,13 +1,8 @@
 -- The first place of a byte in bytes that are their own symbols.
 use Rattle.std.proofs.Common.{◌≡◌, ◌==◌, ℕ, zero, suc, true, false, List, [], ◌∷◌, take, refl, sym, ap, ◌∙◌, arith, ⊎_elim}
-use Rattle.std.proofs.lemmas.Bool.{cases_Bool, eqb-true, or_parts}
-use Rattle.std.specs.List.{position_or_len}
-use Rattle.kt_text.specs.Words.{Text}
+use Rattle.kt_syntax.proofs.Common.{cases_Bool, eqb-true, or_parts, position_or_len, Text, uncommented, uncommented_of, before_comment, comment_place, mask_from, mask_of}
 use Rattle.kt_syntax.proofs.Masking.{mask_from-nil}
 use Rattle.kt_syntax.proofs.OwnSymbols.{own_byte, run_no, run_yes}
-use Rattle.kt_syntax.specs.Comments.{uncommented, uncommented_of}
-use Rattle.kt_syntax.specs.Kinds.{before_comment, comment_place}
-use Rattle.kt_syntax.specs.Mask.{mask_from, mask_of}
 use Rattle.kt_syntax.specs.inner.OwnRuns.{is_mark}
 
 abbrev first_of : ℕ → Text → ℕ

@@ -1,15 +1,8 @@
 -- Runs of bytes that are their own symbols: where they end, the walk over symbols is.
-use Rattle.std.proofs.Common.{◌≡◌, ◌==◌, ◌||◌, ◌&&◌, ◌≤◌, ◌-◌, ◌+◌, ℕ, zero, suc, Bool, true, false, not, List, [], ◌∷◌, length, take, drop, refl, sym, ap, ◌∙◌, arith, ⊎_elim, true≢false}
-use Rattle.std.proofs.lemmas.Bool.{and_right, cases_Bool, eqb-true, or_parts, or_right}
-use Rattle.std.proofs.lemmas.List.{drop-drop}
-use Rattle.std.specs.Prelude.{slice_index, None, is_some}
-use Rattle.std.specs.List.{position_or_len, prefix_len, slice_range}
-use Rattle.kt_text.specs.Words.{Text, is_blank}
-use Rattle.kt_text.proofs.PlaceLemmas.{differ_turned}
+use Rattle.std.proofs.Common.{◌≡◌, ◌==◌, ◌||◌, ◌&&◌, ◌≤◌, ◌-◌, ◌+◌, ℕ, zero, suc, Bool, true, false, not, List, [], ◌∷◌, length, take, drop, refl, sym, ap, ◌∙◌, arith, ⊎_elim, true≢false, slice_index, None, is_some}
+use Rattle.kt_syntax.proofs.Common.{and_right, cases_Bool, eqb-true, or_parts, or_right, drop-drop, position_or_len, prefix_len, slice_range, Text, is_blank, differ_turned, name_end, operator_of, past_blanks, past_word, inside, mask_byte, mask_from, mask_of, more_masked}
 use Rattle.kt_syntax.proofs.Masking.{mask_from-nil, step-outside}
 use Rattle.kt_syntax.proofs.OwnSymbols.{after_own, own_byte, run_no, run_yes}
-use Rattle.kt_syntax.specs.Kinds.{name_end, operator_of, past_blanks, past_word}
-use Rattle.kt_syntax.specs.Mask.{inside, mask_byte, mask_from, mask_of, more_masked}
 use Rattle.kt_syntax.specs.inner.OwnRuns.{begins_operator, ends_own_name, ends_own_word, is_mark}
 
 pub prefix_yes : (test : ℕ → Bool) (byte : ℕ) (bytes : List ℕ) → test byte ≡ true → prefix_len test (byte ∷ bytes) ≡ suc (prefix_len test bytes)

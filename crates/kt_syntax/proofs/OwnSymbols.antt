@@ -1,13 +1,7 @@
 -- Bytes before the first dollar and backslash of a line are their own symbols.
 use Rattle.std.proofs.Common.{◌≡◌, ◌==◌, ◌≤◌, ◌-◌, ℕ, zero, suc, Bool, true, false, List, [], ◌∷◌, ◌++◌, length, take, drop, refl, sym, ap, ◌∙◌, arith, ⊎_elim, length-take-le}
-use Rattle.std.proofs.lemmas.Bool.{cases_Bool, or_parts}
-use Rattle.std.proofs.Math.Seq.{drop-append_seam}
-use Rattle.std.proofs.lemmas.List.{take_rest}
-use Rattle.std.specs.List.{position_or_len}
-use Rattle.kt_list.proofs.general.Places.{take_nil}
-use Rattle.kt_text.specs.Words.{Text}
+use Rattle.kt_syntax.proofs.Common.{cases_Bool, or_parts, drop-append_seam, take_rest, position_or_len, take_nil, Text, mask_from, mask_of, more_masked, goes_odd}
 use Rattle.kt_syntax.proofs.Masking.{step-outside}
-use Rattle.kt_syntax.specs.Mask.{mask_from, mask_of, more_masked, goes_odd}
 use Rattle.kt_syntax.specs.inner.OwnRuns.{is_mark}
 
 -- before a text that nothing reaches into, the last symbol counts for nothing

@@ -1,11 +1,9 @@
 -- The steps of a text's lines can be read one after another.
 use Rattle.std.proofs.Common.{◌≡◌, ◌≤◌, ℕ, zero, suc, ◌+◌, arith, List, [], ◌∷◌, drop, length, Some, refl, sym, ap, subst, ◌∙◌, zero-add}
-use Rattle.std.specs.List.{slice_get}
-use Rattle.kt_syntax.specs.declared.part.BlockPart.{BlockPart}
+use Rattle.kt_syntax.proofs.Common.{slice_get, BlockPart, Step}
 use Rattle.kt_syntax.specs.declared.part.BlockPart.TheVariants as part
 use Rattle.kt_syntax.specs.declared.part.Stray.TheVariants as stray
 use Rattle.kt_syntax.specs.declared.step.Exits.{Exits}
-use Rattle.kt_syntax.specs.declared.step.Step.{Step}
 use Rattle.kt_syntax.specs.Steps.{Ahead, ahead_of, exits_of, places_after, step_of, steps_from}
 use Rattle.kt_syntax.specs.Blocks.{Items, Level, none, line, definition, conditional, innermost, levels_from, levels_with, outer}
 use Rattle.kt_syntax.specs.Reading.{AreReadable, AreTried, IsAhead, ReadsOn, after_branches, append, left_at, left_of}

@@ -1,17 +1,7 @@
 -- Recipe lines, one physical line at a time.
-use Rattle.std.proofs.Common.{◌≡◌, ◌<◌, ◌-◌, ◌+◌, ◌==◌, ℕ, suc, true, false, Some, None, List, [], ◌∷◌, ◌++◌, length, take, drop, length-take-le, append_assoc, refl, sym, ap, ◌∙◌, arith, ⊎_elim}
-use Rattle.std.proofs.lemmas.Bool.{cases_Bool}
-use Rattle.std.specs.Prelude.{slice_index}
-use Rattle.std.proofs.lemmas.List.{append-nil}
-use Rattle.std.specs.List.{onto_first, position_or_len}
-use Rattle.memchr.specs.Find.{IsFirstByte, is_byte}
-use Rattle.kt_text.specs.Words.{Text}
-use Rattle.kt_text.specs.Lines.{pieces_of}
-use Rattle.kt_syntax.specs.declared.recipe.Joint.{Joint}
-use Rattle.kt_syntax.specs.declared.recipe.Joint.TheVariants.{Edge}
-use Rattle.kt_syntax.specs.Mask.{mask_of}
+use Rattle.std.proofs.Common.{◌≡◌, ◌<◌, ◌-◌, ◌+◌, ◌==◌, ℕ, suc, true, false, Some, None, List, [], ◌∷◌, ◌++◌, length, take, drop, length-take-le, append_assoc, refl, sym, ap, ◌∙◌, arith, ⊎_elim, slice_index}
+use Rattle.kt_syntax.proofs.Common.{cases_Bool, append-nil, onto_first, position_or_len, IsFirstByte, is_byte, Text, pieces_of, Joint, Edge, mask_of, first_byte_place}
 use Rattle.kt_syntax.specs.Recipes.{joint_of, recipe_line, recipe_lines, recipe_of}
-use Rattle.kt_text.proofs.PlaceLemmas.{first_byte_place}
 
 -- how many bytes stand before the first newline
 abbrev run : Text → ℕ

@@ -1,23 +1,6 @@
 -- The text of a recipe line, by its physical lines.
-use Rattle.std.proofs.Common.{◌≡◌, ◌<◌, ◌-◌, ◌+◌, ◌==◌, ◌%◌, ◌&&◌, ℕ, ◌≤◌, suc, zero, Bool, true, false, not, List, [], ◌∷◌, ◌++◌, length, length-append, take, drop, filter, refl, sym, ap, subst, ◌∙◌, arith, append-nil, cond, ⊎_elim}
-use Rattle.std.proofs.lemmas.Bool.{and_parts, cases_Bool, eqb-true, false≢true}
-use Rattle.std.proofs.lemmas.List.{reverse-append, take-append-le}
-use Rattle.std.proofs.lemmas.List.Elements.{filter-append}
-use Rattle.std.proofs.lemmas.List.Sums.{sum_by-append, sum_by-cons}
-use Rattle.std.proofs.Math.Seq.{take-append_seam, take-length}
-use Rattle.std.specs.Prelude.{count_by, nat_lt, slice_index}
-use Rattle.std.specs.List.{concat, onto_first, prefix_len, suffix_len}
-use Rattle.bstr.specs.Text.{no_cr, without_terminator}
-use Rattle.kt_text.specs.Words.{Text, is_blank, trimmed_end, trimmed_start}
-use Rattle.kt_text.specs.Lines.{before_backslash, is_continued, is_continued_text, pieces_of}
-use Rattle.kt_text.proofs.NewlineLemmas.{IsFree, free_nil, free_space}
-use Rattle.kt_text.proofs.CondensedLemmas.{one_piece}
-use Rattle.kt_text.proofs.CondensingLemmas.{ArePieces, are_pieces, free_backslash, free_end, free_start, front_content}
-use Rattle.kt_text.proofs.CuttingLemmas.{HasLast, last_at, last_of}
-use Rattle.kt_text.proofs.LineTextLemmas.{content_ended}
-use Rattle.kt_syntax.specs.declared.recipe.Joint.{Joint}
-use Rattle.kt_syntax.specs.declared.recipe.Joint.TheVariants.{Edge, Newline, Outside, Inside}
-use Rattle.kt_syntax.specs.Mask.{inside, mask_of}
+use Rattle.std.proofs.Common.{◌≡◌, ◌<◌, ◌-◌, ◌+◌, ◌==◌, ◌%◌, ◌&&◌, ℕ, ◌≤◌, suc, zero, Bool, true, false, not, List, [], ◌∷◌, ◌++◌, length, length-append, take, drop, filter, refl, sym, ap, subst, ◌∙◌, arith, append-nil, cond, ⊎_elim, count_by, nat_lt, slice_index}
+use Rattle.kt_syntax.proofs.Common.{and_parts, cases_Bool, eqb-true, false≢true, reverse-append, take-append-le, filter-append, sum_by-append, sum_by-cons, take-append_seam, take-length, concat, onto_first, prefix_len, suffix_len, no_cr, without_terminator, Text, is_blank, trimmed_end, trimmed_start, before_backslash, is_continued, is_continued_text, pieces_of, IsFree, free_nil, free_space, one_piece, ArePieces, are_pieces, free_backslash, free_end, free_start, front_content, HasLast, last_at, last_of, content_ended, Joint, Edge, Newline, Outside, Inside, inside, mask_of}
 use Rattle.kt_syntax.specs.Recipes.{begun, content, ended, joint_of, newline_after, recipe_line, recipe_lines, recipe_of, space_before, without_tab}
 use Rattle.kt_syntax.specs.RecipeTexts.{RecipeLaw, is_shown}
 

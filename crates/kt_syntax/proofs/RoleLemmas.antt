@@ -1,24 +1,12 @@
 -- Roles of lines by their first words alone.
 use Rattle.std.proofs.Common.{◌≡◌, ◌==◌, ◌||◌, ◌-◌, ℕ, zero, suc, List, [], ◌∷◌, Bool, true, false, Option, None, Some, length, take, drop, codes, zero-add, refl, sym, ap, ◌∙◌, ⊎_elim}
-use Rattle.std.proofs.lemmas.Bool.{cases_Bool, eqb-true}
-use Rattle.std.proofs.lemmas.Slice.Eq.{bytes_eq-Decides}
-use Rattle.std.specs.List.{prefix_len}
-use Rattle.std.specs.List.{slice_range}
-use Rattle.std.specs.Str.{bytes_eq}
-use Rattle.kt_list.proofs.general.Booleans.{or_first, or_second}
-use Rattle.kt_text.proofs.CondensedLemmas.{without_newline}
-use Rattle.kt_text.proofs.PlaceLemmas.{drop-prefix_len}
-use Rattle.kt_text.specs.Words.{Text, is_blank, trimmed_start}
-use Rattle.kt_text.specs.Lines.{condensed_of}
+use Rattle.kt_syntax.proofs.Common.{cases_Bool, eqb-true, bytes_eq-Decides, prefix_len, slice_range, bytes_eq, or_first, or_second, without_newline, drop-prefix_len, Text, is_blank, trimmed_start, condensed_of, take_nil, mask_byte, mask_from, mask_of, more_masked, Parts, before_comment, block_word, comment_place, directive_of, include_word, is_refused_word, kind_by_parts, kind_by_word, kind_of, kind_within, assignment_parts, line_kind, name_end, operator_of, past_blanks, past_word, worded}
 use Rattle.kt_syntax.specs.declared.role.Role.TheVariants.{Else, Endif, Ordinary}
-use Rattle.kt_list.proofs.general.Places.{take_nil}
 use Rattle.kt_syntax.proofs.CondensedBegins.{begins_alike}
 use Rattle.kt_syntax.proofs.LeadingWords.{none_taken}
 use Rattle.kt_syntax.proofs.Masking.{mask_from-nil}
 use Rattle.kt_syntax.proofs.OwnRuns.{blank_unmarked, prefix_no, prefix_yes}
 use Rattle.kt_syntax.proofs.OwnSymbols.{own_byte}
-use Rattle.kt_syntax.specs.Mask.{mask_byte, mask_from, mask_of, more_masked}
-use Rattle.kt_syntax.specs.Kinds.{Parts, before_comment, block_word, comment_place, directive_of, include_word, is_refused_word, kind_by_parts, kind_by_word, kind_of, kind_within, assignment_parts, line_kind, name_end, operator_of, past_blanks, past_word, worded}
 use Rattle.kt_syntax.specs.Roles.{first_word, may_open, role_by_word, role_of, starts_condition}
 
 refused_or_rule : (first rest : Text) → role_of (kind_by_word None first rest) ≡ Ordinary

@@ -1,9 +1,6 @@
 -- Runs of bytes without a dollar.
 use Rattle.std.proofs.Common.{◌≡◌, ◌==◌, ◌≤◌, ℕ, suc, true, false, [], ◌∷◌, ◌++◌, length, take, drop, refl, sym, ap, subst, ◌∙◌, arith, ⊎_elim}
-use Rattle.std.proofs.lemmas.Bool.{cases_Bool, eqb-true, eq-eqb}
-use Rattle.std.specs.List.{position_or_len}
-use Rattle.kt_text.specs.Words.{Text}
-use Rattle.kt_syntax.specs.Terms.{count_of, EndsRun}
+use Rattle.kt_syntax.proofs.Common.{cases_Bool, eqb-true, eq-eqb, position_or_len, Text, count_of, EndsRun}
 use Rattle.kt_syntax.proofs.Closing.{count_yes, count_no, count_nil}
 
 -- how many bytes stand before the first dollar

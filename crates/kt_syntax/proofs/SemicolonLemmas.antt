@@ -1,20 +1,6 @@
 -- The first semicolon of a line is that of its condensed text.
 use Rattle.std.proofs.Common.{◌≡◌, ◌<◌, ◌≤◌, ◌+◌, ◌&&◌, ℕ, zero, suc, Bool, true, false, not, List, [], ◌∷◌, ◌++◌, length, take, drop, refl, sym, ap, subst, ◌∙◌, arith, append_assoc, zero-add, take-append-drop, ⊎_elim}
-use Rattle.std.proofs.lemmas.Bool.{and_parts, cases_Bool, false_from_ne_true, false≢true, not-true}
-use Rattle.std.proofs.lemmas.List.{nil_from_length, take-append-le}
-use Rattle.std.proofs.Math.Seq.{take-append-add, take-length}
-use Rattle.std.specs.List.{list_any}
-use Rattle.kt_list.proofs.general.Numbers.{suc_sum}
-use Rattle.kt_text.specs.Words.{Text}
-use Rattle.kt_text.specs.Lines.{condensed_of}
-use Rattle.kt_text.specs.Condensing.{IsGap, IsNewline, Spacing, is_continuation, spelled, space, tab, continuation, returned}
-use Rattle.kt_text.proofs.CondensedLemmas.{condensed_alone}
-use Rattle.kt_text.proofs.CuttingLemmas.{FirstNewline, first_newline}
-use Rattle.kt_text.proofs.CuttingLemmas.{no_newline, first_continued, first_ended}
-use Rattle.kt_text.proofs.GapLemmas.{past, condenses, newline_end, shorter, spelling}
-use Rattle.kt_text.proofs.NewlineLemmas.{IsFree, free_at, free_take}
-use Rattle.kt_text.proofs.OneCondensing.{Around, around, left_of_gap}
-use Rattle.kt_syntax.specs.Heads.{head_end}
+use Rattle.kt_syntax.proofs.Common.{and_parts, cases_Bool, false_from_ne_true, false≢true, not-true, nil_from_length, take-append-le, take-append-add, take-length, list_any, suc_sum, Text, condensed_of, IsGap, IsNewline, Spacing, is_continuation, spelled, space, tab, continuation, returned, condensed_alone, FirstNewline, first_newline, no_newline, first_continued, first_ended, past, condenses, newline_end, shorter, spelling, IsFree, free_at, free_take, Around, around, left_of_gap, head_end}
 use Rattle.kt_syntax.specs.Condensed.{HasNoSemicolon, SemicolonLaw}
 use Rattle.kt_syntax.proofs.StopLemmas.{State, at-no, at-yes, found_at, head_found, next, stops}
 use Rattle.kt_syntax.proofs.StopPlaces.{Stop, ahead, later}

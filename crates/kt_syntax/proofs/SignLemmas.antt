@@ -1,11 +1,6 @@
 -- The first colon and the begin of the comment are found.
-use Rattle.std.proofs.Common.{◌≡◌, ◌==◌, ◌≤◌, ◌<◌, ◌-◌, ◌+◌, not, ◌&&◌, ℕ, zero, suc, Bool, true, false, List, [], ◌∷◌, length, drop, Option, Some, None, refl, sym, ap, subst, ◌∙◌, arith, ⊎_elim, length-drop, add-zero}
-use Rattle.std.proofs.lemmas.Bool.{and_parts, cases_Bool, cases_lt, eq-eqb, eqb-true, false_from_ne_true, false≢true, not-true}
-use Rattle.std.proofs.lemmas.List.{drop-drop, get_or-drop}
-use Rattle.std.specs.Prelude.{slice_index, MatchOption}
-use Rattle.kt_syntax.specs.Mask.{goes_odd}
-use Rattle.kt_syntax.specs.Kinds.{before_comment}
-use Rattle.kt_syntax.specs.Heads.{colon_place}
+use Rattle.std.proofs.Common.{◌≡◌, ◌==◌, ◌≤◌, ◌<◌, ◌-◌, ◌+◌, not, ◌&&◌, ℕ, zero, suc, Bool, true, false, List, [], ◌∷◌, length, drop, Option, Some, None, refl, sym, ap, subst, ◌∙◌, arith, ⊎_elim, length-drop, add-zero, slice_index, MatchOption}
+use Rattle.kt_syntax.proofs.Common.{and_parts, cases_Bool, cases_lt, eq-eqb, eqb-true, false_from_ne_true, false≢true, not-true, drop-drop, get_or-drop, goes_odd, before_comment, colon_place}
 use Rattle.kt_syntax.specs.Signs.{BeginsComment, IsCommentPlace, IsColon, IsFirstColon, SignLaw}
 use Rattle.kt_syntax.proofs.MaskRuns.{odd_at, odd-next}
 

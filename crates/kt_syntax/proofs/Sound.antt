@@ -1,11 +1,7 @@
 -- The tree of the steps of a text's lines is one of these lines.
 use Rattle.std.proofs.Common.{◌≡◌, ℕ, zero, suc, ◌+◌, Bool, true, false, not, List, [], ◌∷◌, Option, Some, None, refl}
-use Rattle.kt_syntax.specs.declared.part.Missing.{Missing}
+use Rattle.kt_syntax.proofs.Common.{Missing, OpenConditional, OpenDefine, Head, Role}
 use Rattle.kt_syntax.specs.declared.part.Missing.TheVariants as missing
-use Rattle.kt_syntax.specs.declared.part.OpenConditional.{OpenConditional}
-use Rattle.kt_syntax.specs.declared.part.OpenDefine.{OpenDefine}
-use Rattle.kt_syntax.specs.declared.role.Head.{Head}
-use Rattle.kt_syntax.specs.declared.role.Role.{Role}
 use Rattle.kt_syntax.specs.declared.role.Role.TheVariants as role
 use Rattle.kt_syntax.specs.Parts.{Open, after, missing_in, open_at_end, part_of, parts_from}
 use Rattle.kt_syntax.specs.Steps.{ahead_of, places_after, step_of, steps_from}

@@ -1,24 +1,6 @@
 -- The text of a recipe line at its first newline.
-use Rattle.std.proofs.Common.{◌≡◌, ◌≢◌, ◌-◌, ◌+◌, ◌==◌, ◌||◌, ℕ, suc, Bool, true, false, not, List, [], ◌∷◌, ◌++◌, length, drop, take, if◌then◌else◌, refl, sym, ap, subst, ◌∙◌, arith, append_assoc, append-nil, length-append, inl, inr, ⊎_elim}
-use Rattle.std.proofs.lemmas.Bool.{cases_Bool, eq-eqb, eqb-true, false≢true, ne_eqb}
-use Rattle.std.proofs.lemmas.List.{drop-drop, get_or-drop, take_at}
-use Rattle.std.specs.Prelude.{slice_index}
-use Rattle.std.specs.List.{list_any}
-use Rattle.bstr.specs.Text.{without_terminator}
-use Rattle.kt_text.specs.Words.{Text, is_blank, trimmed_end, trimmed_start}
-use Rattle.kt_text.specs.Lines.{before_backslash, is_continued, is_continued_text, pieces_of}
-use Rattle.kt_text.specs.Condensing.{FirstStands, IsNewline, Spacing, is_continuation, spelled, space, tab, continuation, returned}
-use Rattle.kt_text.proofs.CondensedLemmas.{one_piece}
-use Rattle.kt_text.proofs.CuttingLemmas.{Ending, FirstNewline, ending_continued, ending_newline, first_newline, odd_more}
-use Rattle.kt_text.proofs.OneCondensing.{spelled_long}
-use Rattle.kt_text.proofs.CuttingLemmas.{no_newline, first_continued, first_ended}
-use Rattle.kt_text.proofs.GapLemmas.{blank_free, newline_blank, not_either, spelling}
-use Rattle.kt_text.proofs.LineTextLemmas.{content_ended, pieces_after}
-use Rattle.kt_text.proofs.NewlineLemmas.{IsFree, free_append, free_at}
-use Rattle.kt_text.proofs.TrimLemmas.{AllBlank, EndsPlain, end_blanks, end_first, even_blank, even_past, free_blanks, start_blank, start_plain}
-use Rattle.kt_syntax.specs.declared.recipe.Joint.{Joint}
-use Rattle.kt_syntax.specs.declared.recipe.Joint.TheVariants.{Edge, Newline, Outside, Inside}
-use Rattle.kt_syntax.specs.Mask.{inside}
+use Rattle.std.proofs.Common.{◌≡◌, ◌≢◌, ◌-◌, ◌+◌, ◌==◌, ◌||◌, ℕ, suc, Bool, true, false, not, List, [], ◌∷◌, ◌++◌, length, drop, take, if◌then◌else◌, refl, sym, ap, subst, ◌∙◌, arith, append_assoc, append-nil, length-append, inl, inr, ⊎_elim, slice_index}
+use Rattle.kt_syntax.proofs.Common.{cases_Bool, eq-eqb, eqb-true, false≢true, ne_eqb, drop-drop, get_or-drop, take_at, list_any, without_terminator, Text, is_blank, trimmed_end, trimmed_start, before_backslash, is_continued, is_continued_text, pieces_of, FirstStands, IsNewline, Spacing, is_continuation, spelled, space, tab, continuation, returned, one_piece, Ending, FirstNewline, ending_continued, ending_newline, first_newline, odd_more, spelled_long, no_newline, first_continued, first_ended, blank_free, newline_blank, not_either, spelling, content_ended, pieces_after, IsFree, free_append, free_at, AllBlank, EndsPlain, end_blanks, end_first, even_blank, even_past, free_blanks, start_blank, start_plain, Joint, Edge, Newline, Outside, Inside, inside}
 use Rattle.kt_syntax.specs.Recipes.{begun, content, ended, joint_of, newline_after, recipe_line, recipe_lines, space_before, without_tab}
 use Rattle.kt_syntax.specs.RecipeCuts.{AreInside, IsInside, IsOneTab}
 use Rattle.kt_syntax.proofs.RecipeLemmas.{followed, pieces-some}

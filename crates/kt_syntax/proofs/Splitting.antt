@@ -1,14 +1,7 @@
 -- A text has exactly one splitting into terms.
 use Rattle.std.proofs.Common.{◌≡◌, ◌≢◌, ◌==◌, ◌≤◌, ◌<◌, ◌+◌, not, ℕ, zero, suc, Bool, true, false, ◌&&◌, ◌||◌, List, [], ◌∷◌, ◌++◌, Option, Some, None, length, take, drop, refl, sym, ap, subst, ◌∙◌, arith, ⊎_elim, inl, inr, append_assoc, length-drop}
-use Rattle.std.proofs.lemmas.Bool.Decides.{nat_tests}
-use Rattle.std.proofs.lemmas.Bool.{cases_Bool, eqb-true, false≢true, and_parts}
-use Rattle.std.proofs.lemmas.List.{take-append-drop, take_all, drop_all, take_at, drop_at, length-take-le, take-take, append-nil}
-use Rattle.std.proofs.Math.Seq.{take-append-add, drop-append-add}
-use Rattle.std.specs.List.{list_all}
-use Rattle.kt_text.specs.Words.{Text}
+use Rattle.kt_syntax.proofs.Common.{nat_tests, cases_Bool, eqb-true, false≢true, and_parts, take-append-drop, take_all, drop_all, take_at, drop_at, length-take-le, take-take, append-nil, take-append-add, drop-append-add, list_all, Text, Byte, Parentheses, Braces, Token, Continuations, kept, dropped, literal, dollar, reference, unclosed, count_of, is_special, unit_length, IsBalanced, IsUnclosed, EndsRun, IsSingle, IsTerm, IsSplittingIn, OneSplitting, closing, referred, single, after_dollar, literal_run, first_term, terms_after, terms_of}
 use Rattle.kt_syntax.specs.declared.term.Mark.{Mark}
-use Rattle.kt_syntax.specs.declared.term.Mark.TheVariants.{Byte, Parentheses, Braces}
-use Rattle.kt_syntax.specs.Terms.{Token, Continuations, kept, dropped, literal, dollar, reference, unclosed, count_of, is_special, unit_length, IsBalanced, IsUnclosed, EndsRun, IsSingle, IsTerm, IsSplittingIn, OneSplitting, closing, referred, single, after_dollar, literal_run, first_term, terms_after, terms_of}
 use Rattle.kt_syntax.proofs.Closing.{count_no, closed_found, closed_sound, unclosed_sound, unclosed_found}
 use Rattle.kt_syntax.proofs.Runs.{run, run_within, run_free, run_ends, run_length, no_dollar}
 

@@ -1,10 +1,6 @@
 -- Steps by numbers, and those that are held.
 use Rattle.std.proofs.Common.{◌≡◌, ◌≤◌, ◌+◌, ℕ, zero, suc, All, List, [], ◌∷◌, ◌++◌, length, map, replicate, set, slice_get, Some, refl, sym, ap, ◌∙◌, add-one, arith}
-use Rattle.std.proofs.Math.Seq.{get_or-append_seam}
-use Rattle.std.proofs.lemmas.List.{get_or_append_left, length-append, set-get_or}
-use Rattle.std.proofs.lemmas.List.Elements.{All-cons, All-head, All-nil, All-tail}
-use Rattle.std.proofs.lemmas.Option.{get_or_from_slice_get, unwrap_or-slice_get}
-use Rattle.kt_syntax.specs.declared.step.Step.{Step}
+use Rattle.kt_syntax.proofs.Common.{get_or-append_seam, get_or_append_left, length-append, set-get_or, All-cons, All-head, All-nil, All-tail, get_or_from_slice_get, unwrap_or-slice_get, Step}
 use Rattle.kt_syntax.specs.declared.step.Step.TheVariants as step
 use Rattle.kt_syntax.specs.inner.ShortSteps.{numbered_step}
 

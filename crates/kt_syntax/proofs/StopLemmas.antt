@@ -1,15 +1,6 @@
 -- Where the first semicolon or the comment of a line stands, found by its bytes alone.
-use Rattle.std.proofs.Common.{◌≡◌, ◌≤◌, ◌-◌, ◌+◌, ◌==◌, ℕ, zero, suc, Bool, true, false, not, List, [], ◌∷◌, length, drop, if◌then◌else◌, Option, Some, None, option_map, refl, sym, ap, subst, ◌∙◌, arith, ⊎_elim}
-use Rattle.std.proofs.lemmas.Bool.{and_parts, cases_Bool, eqb-true, not-true}
-use Rattle.std.proofs.lemmas.Bool.Decides.{Decides-eqb}
-use Rattle.std.proofs.lemmas.List.{nil_from_length}
-use Rattle.std.proofs.lemmas.Slice.Eq.{starts_is}
-use Rattle.std.specs.Prelude.{nat_eq}
-use Rattle.std.specs.List.{starts_with}
-use Rattle.kt_text.specs.Words.{Text}
-use Rattle.kt_syntax.specs.Terms.{after_dollar, closing, kept, referred, unit_length}
-use Rattle.kt_syntax.specs.declared.term.Mark.TheVariants.{Parentheses, Braces}
-use Rattle.kt_syntax.specs.Mask.{goes_odd, inside, mask_byte, mask_from, mask_of, more_masked}
+use Rattle.std.proofs.Common.{◌≡◌, ◌≤◌, ◌-◌, ◌+◌, ◌==◌, ℕ, zero, suc, Bool, true, false, not, List, [], ◌∷◌, length, drop, if◌then◌else◌, Option, Some, None, option_map, refl, sym, ap, subst, ◌∙◌, arith, ⊎_elim, nat_eq}
+use Rattle.kt_syntax.proofs.Common.{and_parts, cases_Bool, eqb-true, not-true, Decides-eqb, nil_from_length, starts_is, starts_with, Text, after_dollar, closing, kept, referred, unit_length, Parentheses, Braces, goes_odd, inside, mask_byte, mask_from, mask_of, more_masked}
 use Rattle.kt_syntax.proofs.Masking.{mask_from-nil}
 use Rattle.kt_syntax.proofs.MaskRuns.{no_unit}
 use Rattle.kt_syntax.proofs.StopPlaces.{IsFound, Stop, found_stop, is_stop, later, stop, stop-nil, stop-no, stop-yes}

@@ -1,10 +1,6 @@
 -- Where the head of a line ends, by its mask in one walk: at the first semicolon or at the comment.
 use Rattle.std.proofs.Common.{◌≡◌, ◌<◌, ◌+◌, ◌==◌, ◌&&◌, ◌||◌, ℕ, suc, Bool, true, false, not, List, [], ◌∷◌, take, if◌then◌else◌, refl, sym, ap, subst, ◌∙◌, arith, ⊎_elim}
-use Rattle.std.proofs.lemmas.Bool.{cases_Bool, eqb-true, false≢true}
-use Rattle.std.specs.List.{position_or_len}
-use Rattle.kt_list.proofs.general.Booleans.{and_first}
-use Rattle.kt_syntax.specs.Mask.{goes_odd}
-use Rattle.kt_syntax.specs.Kinds.{before_comment}
+use Rattle.kt_syntax.proofs.Common.{cases_Bool, eqb-true, false≢true, position_or_len, and_first, goes_odd, before_comment}
 use Rattle.kt_syntax.proofs.SignLemmas.{comment-nil, comment-no, comment-yes}
 
 -- a place, and whether a semicolon stands there

@@ -1,15 +1,6 @@
 -- A byte that doesn't stand in a line doesn't stand in its mask either, unless as what stands for others.
 use Rattle.std.proofs.Common.{◌≡◌, ◌==◌, ◌≤◌, ◌<◌, ◌+◌, ℕ, zero, suc, Bool, true, false, List, [], ◌∷◌, ◌++◌, None, length, take, refl, sym, ap, ◌∙◌, arith, ⊎_elim, ◌⊎◌, inl, inr, append_assoc}
-use Rattle.std.proofs.lemmas.Bool.{cases_Bool, eqb-true, false_from_ne_true, or_parts}
-use Rattle.std.proofs.lemmas.List.{append-nil, replicate-append-replicate}
-use Rattle.std.specs.List.{list_any, position_or_len}
-use Rattle.memchr.specs.Find.{IsFirstByte}
-use Rattle.kt_text.specs.Words.{Text}
-use Rattle.kt_syntax.specs.Mask.{inside, goes_odd, mask_byte, more_masked, mask_from, mask_of}
-use Rattle.kt_syntax.specs.Kinds.{before_comment, comment_place}
-use Rattle.kt_syntax.specs.Heads.{head_end}
-use Rattle.kt_syntax.specs.Comments.{backslashes, uncommented, uncommented_of}
-use Rattle.kt_text.proofs.PlaceLemmas.{first_byte_place}
+use Rattle.kt_syntax.proofs.Common.{cases_Bool, eqb-true, false_from_ne_true, or_parts, append-nil, replicate-append-replicate, list_any, position_or_len, IsFirstByte, Text, inside, goes_odd, mask_byte, more_masked, mask_from, mask_of, before_comment, comment_place, head_end, backslashes, uncommented, uncommented_of, first_byte_place}
 
 -- what stands for other bytes
 abbrev IsOther : ℕ → Type 0

@@ -1,9 +1,6 @@
 -- Texts without their comments, one symbol at a time.
 use Rattle.std.proofs.Common.{◌≡◌, ◌<◌, ◌+◌, ◌/◌, ◌%◌, ◌==◌, ℕ, false, List, [], ◌∷◌, ◌++◌, length, get_or, drop, refl, sym, ap, ◌∙◌, arith, append_assoc}
-use Rattle.std.proofs.lemmas.Bool.{eq-eqb, false_from_ne_true, eqb-true}
-use Rattle.std.proofs.lemmas.List.{drop_more, append-nil}
-use Rattle.kt_text.specs.Words.{Text}
-use Rattle.kt_syntax.specs.Comments.{backslashes, uncommented}
+use Rattle.kt_syntax.proofs.Common.{eq-eqb, false_from_ne_true, eqb-true, drop_more, append-nil, Text, backslashes, uncommented}
 
 not_equal : (a b : ℕ) → (a ≡ b → ⊥) → (a == b) ≡ false
 not_equal a b h = false_from_ne_true (a == b) (λ e. h (eqb-true a b e))

@@ -1,11 +1,8 @@
 -- Any tree of a text's lines is that of their steps.
 use Rattle.std.proofs.Common.{◌≡◌, ℕ, zero, suc, ◌+◌, Bool, true, false, not, List, [], ◌∷◌, Option, Some, None, refl, sym, ap, subst, ◌∙◌}
-use Rattle.kt_syntax.specs.declared.part.Missing.{Missing}
+use Rattle.kt_syntax.proofs.Common.{Missing, OpenConditional, Head, Role}
 use Rattle.kt_syntax.specs.declared.part.Missing.TheVariants as missing
-use Rattle.kt_syntax.specs.declared.part.OpenConditional.{OpenConditional}
 use Rattle.kt_syntax.specs.declared.part.Stray.TheVariants as stray
-use Rattle.kt_syntax.specs.declared.role.Head.{Head}
-use Rattle.kt_syntax.specs.declared.role.Role.{Role}
 use Rattle.kt_syntax.specs.declared.role.Role.TheVariants as role
 use Rattle.kt_syntax.specs.Parts.{Open, after, open_at_end, part_of, parts_from}
 use Rattle.kt_syntax.specs.Steps.{ahead_of, places_after, step_of, steps_from}

@@ -1,11 +1,6 @@
 -- Texts without an equals sign, which each operator ends in: they hold no assignment.
-use Rattle.std.proofs.Common.{◌≡◌, ◌==◌, ℕ, zero, suc, Bool, true, false, List, [], ◌∷◌, Option, Some, None, drop, refl, sym, ap, ◌∙◌, ⊎_elim, true≢false}
-use Rattle.std.proofs.lemmas.Bool.{and_right, cases_Bool, eqb-true, false_from_ne_true, or_parts}
-use Rattle.std.specs.Prelude.{codes, is_some, nat_eq}
-use Rattle.std.specs.List.{list_any, starts_with}
-use Rattle.kt_text.specs.Words.{Text}
-use Rattle.kt_syntax.specs.Heads.{assigns_after, colon_place, is_target_specific}
-use Rattle.kt_syntax.specs.Kinds.{assignment_parts, name_end, operator_of, parts_after, past_blanks}
+use Rattle.std.proofs.Common.{◌≡◌, ◌==◌, ℕ, zero, suc, Bool, true, false, List, [], ◌∷◌, Option, Some, None, drop, refl, sym, ap, ◌∙◌, ⊎_elim, true≢false, codes, is_some, nat_eq}
+use Rattle.kt_syntax.proofs.Common.{and_right, cases_Bool, eqb-true, false_from_ne_true, or_parts, list_any, starts_with, Text, assigns_after, colon_place, is_target_specific, assignment_parts, name_end, operator_of, parts_after, past_blanks}
 
 abbrev is_sign : ℕ → Bool
 is_sign byte = byte == 61

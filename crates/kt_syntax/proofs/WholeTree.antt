@@ -1,9 +1,6 @@
 -- At the first line of a text its whole tree is left.
 use Rattle.std.proofs.Common.{◌≡◌, ℕ, zero, suc, ◌+◌, Bool, true, false, not, List, [], ◌∷◌, Option, Some, None, refl, ap, ◌∙◌}
-use Rattle.kt_syntax.specs.declared.part.OpenConditional.{OpenConditional}
-use Rattle.kt_syntax.specs.declared.part.OpenDefine.{OpenDefine}
-use Rattle.kt_syntax.specs.declared.role.Head.{Head}
-use Rattle.kt_syntax.specs.declared.role.Role.{Role}
+use Rattle.kt_syntax.proofs.Common.{OpenConditional, OpenDefine, Head, Role}
 use Rattle.kt_syntax.specs.declared.role.Role.TheVariants as role
 use Rattle.kt_syntax.specs.Blocks.{Branches, Level, no_branch, blocks_of, innermost, levels_from, outer, tree_of}
 use Rattle.kt_syntax.specs.Parts.{after, part_of, parts_from}

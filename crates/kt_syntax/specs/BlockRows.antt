@@ -2,12 +2,9 @@
 use Rattle.std.specs.Prelude.{◌≡◌, ℕ, ◌+◌, true, false, List, [], ◌∷◌, Some, None, codes}
 use Rattle.kt_syntax.specs.declared.part.Missing.TheVariants as missing
 use Rattle.kt_syntax.specs.declared.part.Stray.TheVariants as stray
-use Rattle.kt_syntax.specs.declared.role.Head.{Head}
-use Rattle.kt_syntax.specs.declared.role.Role.{Role}
+use Rattle.kt_syntax.specs.Prelude.{Head, Role, Step, kind_of}
 use Rattle.kt_syntax.specs.declared.role.Role.TheVariants.{Ordinary, Conditional, Else, Endif, Define, Endef}
-use Rattle.kt_syntax.specs.declared.step.Step.{Step}
 use Rattle.kt_syntax.specs.declared.step.Step.TheVariants as step
-use Rattle.kt_syntax.specs.Kinds.{kind_of}
 use Rattle.kt_syntax.specs.Parts.{missing_end, parts_of}
 use Rattle.kt_syntax.specs.Roles.{role_of}
 use Rattle.kt_syntax.specs.Steps.{steps_from}

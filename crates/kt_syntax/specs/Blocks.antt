@@ -1,11 +1,8 @@
 -- The lines of a text as a tree of conditionals and defines (GNU make manual, "Syntax of Conditionals" and "Defining
 -- Multi-Line Variables"), and the flat list that stands for it. Places are those of lines, from 0.
 use Rattle.std.specs.Prelude.{ℕ, ◌+◌, Bool, List, [], ◌∷◌, Option}
-use Rattle.kt_syntax.specs.declared.part.Missing.{Missing}
-use Rattle.kt_syntax.specs.declared.part.Stray.{Stray}
+use Rattle.kt_syntax.specs.Prelude.{Missing, Stray, Head, Step}
 use Rattle.kt_syntax.specs.declared.part.Stray.TheVariants as stray
-use Rattle.kt_syntax.specs.declared.role.Head.{Head}
-use Rattle.kt_syntax.specs.declared.step.Step.{Step}
 use Rattle.kt_syntax.specs.declared.step.Step.TheVariants as step
 use Rattle.kt_syntax.specs.Parts.{missing_end, parts_of}
 use Rattle.kt_syntax.specs.Steps.{steps_from}

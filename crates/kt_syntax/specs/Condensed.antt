@@ -1,9 +1,6 @@
 -- What a line says is what its condensed text says (GNU make manual, "Splitting Long Lines").
 use Rattle.std.specs.Prelude.{◌≡◌, Bool, Option, option_map, ◌↔◌, take}
-use Rattle.kt_text.specs.Words.{Text}
-use Rattle.kt_text.specs.Lines.{condensed_of}
-use Rattle.kt_text.specs.Condensing.{IsLine}
-use Rattle.kt_syntax.specs.Kinds.{kind_of, line_kind, comment_place}
+use Rattle.kt_syntax.specs.Prelude.{Text, condensed_of, IsLine, kind_of, line_kind, comment_place}
 use Rattle.kt_syntax.specs.Heads.{RuleTexts, line_parts, head_end}
 
 -- the head, or none of a line that assigns a target-specific macro

@@ -2,13 +2,9 @@
 -- kati's own): whether the lines from a place on begin with those of a tree, and what follows these is as a rest must
 -- be. With it goes the missing end that was found so far: that of the innermost block which the text doesn't end.
 use Rattle.std.specs.Prelude.{◌≡◌, ℕ, zero, suc, ◌+◌, Bool, true, false, not, List, [], ◌∷◌, Option, Some, None}
-use Rattle.std.specs.Prelude.{MatchOption}
-use Rattle.kt_syntax.specs.declared.part.Missing.{Missing}
+use Rattle.kt_syntax.specs.Prelude.{MatchOption, Missing, Stray, Head, Role}
 use Rattle.kt_syntax.specs.declared.part.Missing.TheVariants as missing
-use Rattle.kt_syntax.specs.declared.part.Stray.{Stray}
 use Rattle.kt_syntax.specs.declared.part.Stray.TheVariants as stray
-use Rattle.kt_syntax.specs.declared.role.Head.{Head}
-use Rattle.kt_syntax.specs.declared.role.Role.{Role}
 use Rattle.kt_syntax.specs.declared.role.Role.TheVariants.{Ordinary, Conditional, Else, Endif, Define, Endef}
 use Rattle.kt_syntax.specs.Blocks.{Items, Branches, none, line, fault, definition, conditional, no_branch, branch, late}
 

@@ -4,13 +4,10 @@
 use Rattle.std.specs.Prelude.{ℕ, zero, suc, ◌+◌, Bool, false, not, ◌==◌, ◌&&◌, ◌||◌, nat_eq, nat_lt, List, [], ◌∷◌}
 use Rattle.std.specs.Prelude.{length, take, drop, codes, Option, Some, None, option_map, Result, Ok, Err, is_some}
 use Rattle.std.specs.Prelude.{if◌then◌else◌}
-use Rattle.std.specs.List.{starts_with, position_or_len, slice_range}
+use Rattle.kt_syntax.specs.Prelude.{starts_with, position_or_len, slice_range, Text, condensed_of, mask_of}
 use Rattle.std.specs.Str.{bytes_eq}
-use Rattle.kt_text.specs.Words.{Text}
-use Rattle.kt_text.specs.Lines.{condensed_of}
 use Rattle.kt_syntax.specs.declared.heads.RuleParts.{RuleParts}
 use Rattle.kt_syntax.specs.declared.heads.TargetSpecific.{TargetSpecific}
-use Rattle.kt_syntax.specs.Mask.{mask_of}
 use Rattle.kt_syntax.specs.Kinds.{assignment_parts, comment_place, past_blanks, past_word}
 
 -- the head of a rule line, and its first recipe line if there is one

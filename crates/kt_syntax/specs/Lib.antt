@@ -1,3 +1,4 @@
+pub mod Prelude
 pub mod Assignments
 pub mod BlockRows
 pub mod Blocks

@@ -2,10 +2,7 @@
 -- GNU make manual, "Splitting Long Lines"): each byte is inside a reference, or of a continuation, or stands for
 -- itself.
 use Rattle.std.specs.Prelude.{◌≡◌, ℕ, ◌+◌, ◌<◌, ◌≤◌, Bool, true, false, List, [], ◌∷◌, ◌++◌, length, take, drop}
-use Rattle.std.specs.Prelude.{slice_index}
-use Rattle.kt_text.specs.Words.{Text}
-use Rattle.kt_text.specs.Lines.{is_continued_text}
-use Rattle.kt_syntax.specs.Terms.{Token, literal, kept, unit_length, IsTerm}
+use Rattle.kt_syntax.specs.Prelude.{slice_index, Text, is_continued_text, Token, literal, kept, unit_length, IsTerm}
 use Rattle.kt_syntax.specs.Mask.{inside, mask_of}
 
 -- a place of a line is one of a continuation: this begins at a backslash at which an odd number of them ends, and

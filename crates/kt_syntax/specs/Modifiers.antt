@@ -1,8 +1,7 @@
 -- The words before a target-specific macro, as a relation between places of a line (GNU make manual, "Target-specific
 -- Variable Values"; which words count is kati's own). The line is given by its text and by its mask up to the comment.
 use Rattle.std.specs.Prelude.{◌≡◌, ℕ, ◌<◌, ◌≤◌, true, false, List, [], ◌∷◌, length, slice_index}
-use Rattle.std.specs.List.{slice_range}
-use Rattle.kt_text.specs.Words.{Text, is_blank}
+use Rattle.kt_syntax.specs.Prelude.{slice_range, Text, is_blank}
 use Rattle.kt_syntax.specs.Assignments.{AreBlanks}
 use Rattle.kt_syntax.specs.Heads.{after_modifiers, is_modifier}
 

@@ -2,15 +2,12 @@
 -- "Defining Multi-Line Variables"; faults are kati's own).
 use Rattle.std.specs.Prelude.{ℕ, zero, suc, ◌+◌, Bool, false, not, ◌||◌, List, [], ◌∷◌, Option, Some, None}
 use Rattle.std.specs.Prelude.{if◌then◌else◌}
-use Rattle.kt_syntax.specs.declared.part.Missing.{Missing}
+use Rattle.kt_syntax.specs.Prelude.{Missing, BlockPart, Head, Role}
 use Rattle.kt_syntax.specs.declared.part.Missing.TheVariants as missing
 use Rattle.kt_syntax.specs.declared.part.OpenConditional.{OpenConditional}
 use Rattle.kt_syntax.specs.declared.part.OpenDefine.{OpenDefine}
-use Rattle.kt_syntax.specs.declared.part.BlockPart.{BlockPart}
 use Rattle.kt_syntax.specs.declared.part.BlockPart.TheVariants as part
 use Rattle.kt_syntax.specs.declared.part.Stray.TheVariants as stray
-use Rattle.kt_syntax.specs.declared.role.Head.{Head}
-use Rattle.kt_syntax.specs.declared.role.Role.{Role}
 use Rattle.kt_syntax.specs.declared.role.Role.TheVariants as role
 
 -- the blocks that are open at a line: a define, in whose body nothing else is a block, and conditionals, innermost

@@ -1,7 +1,6 @@
 -- What the text of a recipe line keeps of its physical lines (GNU make manual, "Splitting Recipe Lines").
 use Rattle.std.specs.Prelude.{◌≡◌, ◌<◌, ◌-◌, ◌==◌, ◌||◌, ℕ, Bool, not, length, take, filter, count_by, slice_index}
-use Rattle.kt_text.specs.Words.{Text, is_blank}
-use Rattle.kt_text.specs.Lines.{is_continued, pieces_of}
+use Rattle.kt_syntax.specs.Prelude.{Text, is_blank, is_continued, pieces_of}
 use Rattle.kt_syntax.specs.Recipes.{recipe_of}
 
 -- a byte that no continuation takes or leaves: no blank, backslash, carriage return or newline

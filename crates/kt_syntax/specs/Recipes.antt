@@ -2,11 +2,9 @@
 -- becomes is kati's own).
 use Rattle.std.specs.Prelude.{ℕ, ◌-◌, ◌==◌, List, [], ◌∷◌, ◌++◌, length, drop, slice_index, if◌then◌else◌}
 use Rattle.bstr.specs.Text.{without_terminator}
-use Rattle.kt_text.specs.Words.{Text, trimmed_start, trimmed_end}
+use Rattle.kt_syntax.specs.Prelude.{Text, trimmed_start, trimmed_end, Edge, Newline, Outside, Inside, inside, mask_of}
 use Rattle.kt_text.specs.Lines.{before_backslash, is_continued, pieces_of}
 use Rattle.kt_syntax.specs.declared.recipe.Joint.{Joint}
-use Rattle.kt_syntax.specs.declared.recipe.Joint.TheVariants.{Edge, Newline, Outside, Inside}
-use Rattle.kt_syntax.specs.Mask.{inside, mask_of}
 
 -- what the newline at the end of a physical line is: its symbol in the mask says whether it is inside a reference
 unfoldable pub joint_of : ℕ → Text → Joint

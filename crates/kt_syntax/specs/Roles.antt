@@ -2,17 +2,11 @@
 -- Variables"), by their kinds alone.
 use Rattle.std.specs.Prelude.{Bool, true, false, ◌&&◌, ◌||◌, ◌==◌, List, [], ◌∷◌, length, take, map, Option, Some}
 use Rattle.std.specs.Prelude.{leb, if◌then◌else◌}
-use Rattle.std.specs.List.{slice_range}
+use Rattle.kt_syntax.specs.Prelude.{slice_range, Directive, Head, Role, Text, mask_of, line_kind, past_word}
 use Rattle.kt_text.specs.declared.line.Line.{Line}
-use Rattle.kt_syntax.specs.declared.form.Directive.{Directive}
 use Rattle.kt_syntax.specs.declared.form.Directive.TheVariants as word
-use Rattle.kt_syntax.specs.declared.role.Head.{Head}
-use Rattle.kt_syntax.specs.declared.role.Role.{Role}
 use Rattle.kt_syntax.specs.declared.role.Role.TheVariants.{Ordinary, Conditional, Else, Endif, Define, Endef}
-use Rattle.kt_text.specs.Words.{Text}
-use Rattle.kt_syntax.specs.Mask.{mask_of}
 use Rattle.kt_syntax.specs.Kinds.{Kind, directive, block_word, comment_place}
-use Rattle.kt_syntax.specs.Kinds.{line_kind, past_word}
 
 -- whether a line begins with a blank, with a backslash, which may be that of a continuation, with a byte of a line's
 -- end, or with a letter that words of blocks begin with

@@ -1,10 +1,9 @@
 -- Worked values of the definitions, as facts that compute, of the GNU make manual's forms and of kati's own rules.
 use Rattle.std.specs.Prelude.{◌≡◌, [], ◌∷◌, ◌++◌, Option, Some, None, true, false, codes}
-use Rattle.kt_text.specs.Words.{Text}
+use Rattle.kt_syntax.specs.Prelude.{Text, literal, dollar, reference, unclosed, terms_of}
 use Rattle.kt_syntax.specs.declared.term.Mark.TheVariants.{Byte, Parentheses, Braces}
 use Rattle.kt_syntax.specs.declared.form.Operator.TheVariants.{Deferred, Escaped}
 use Rattle.kt_syntax.specs.declared.form.Directive.TheVariants.{Endef}
-use Rattle.kt_syntax.specs.Terms.{literal, dollar, reference, unclosed, terms_of}
 use Rattle.kt_syntax.specs.Kinds.{assignment, directive, rule, kind_of, line_kind}
 use Rattle.kt_syntax.specs.Heads.{RuleTexts, line_parts}
 use Rattle.kt_syntax.specs.Comments.{plain_of}

@@ -1,11 +1,10 @@
 -- The steps of reading blocks line by line: where a conditional and its branches go on, and where a body ends. Kati's
 -- own.
 use Rattle.std.specs.Prelude.{ℕ, ◌+◌, List, [], ◌∷◌, drop}
-use Rattle.kt_syntax.specs.declared.part.BlockPart.{BlockPart}
+use Rattle.kt_syntax.specs.Prelude.{BlockPart, Step}
 use Rattle.kt_syntax.specs.declared.part.BlockPart.TheVariants as part
 use Rattle.kt_syntax.specs.declared.part.Stray.TheVariants as stray
 use Rattle.kt_syntax.specs.declared.step.Exits.{Exits}
-use Rattle.kt_syntax.specs.declared.step.Step.{Step}
 use Rattle.kt_syntax.specs.declared.step.Step.TheVariants as step
 
 -- what is known at a place of the lines from there on: the end of the text, the end of the body that is open there, and

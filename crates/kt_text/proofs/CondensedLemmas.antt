@@ -1,11 +1,6 @@
 -- A text condensed physical line by physical line.
-use Rattle.std.proofs.Common.{◌≡◌, ℕ, Bool, true, false, List, [], ◌∷◌, ◌++◌, ◌&&◌, ◌==◌, refl, sym, ◌∙◌, ap, append_assoc, append-nil, length, if◌then◌else◌, ⊎_elim, arith, zero, suc, ◌<◌, ◌-◌, true≢false}
-use Rattle.std.proofs.lemmas.Bool.{cases_Bool, eqb-true, eq-eqb, false_from_ne_true, lt-ltb, or_parts}
-use Rattle.std.proofs.lemmas.List.{nil_from_length}
-use Rattle.std.specs.Prelude.{slice_index}
-use Rattle.std.specs.List.{flat_map, list_any, onto_first}
-use Rattle.kt_text.specs.Words.{Text}
-use Rattle.kt_text.specs.Lines.{is_continued, is_ended, groups, pieces_of, condensed_line, condensed_rest, condensed_group, condensed_of}
+use Rattle.std.proofs.Common.{◌≡◌, ℕ, Bool, true, false, List, [], ◌∷◌, ◌++◌, ◌&&◌, ◌==◌, refl, sym, ◌∙◌, ap, append_assoc, append-nil, length, if◌then◌else◌, ⊎_elim, arith, zero, suc, ◌<◌, ◌-◌, true≢false, slice_index}
+use Rattle.kt_text.proofs.Common.{cases_Bool, eqb-true, eq-eqb, false_from_ne_true, lt-ltb, or_parts, nil_from_length, flat_map, list_any, onto_first, Text, is_continued, is_ended, groups, pieces_of, condensed_line, condensed_rest, condensed_group, condensed_of}
 use Rattle.kt_text.proofs.GroupLemmas.{groups-ended, groups-continued, groups-begins}
 
 -- the text of groups of which the first may have begun before

@@ -1,10 +1,6 @@
 -- The condensed text of a line has no newline.
 use Rattle.std.proofs.Common.{◌≡◌, ◌<◌, ◌-◌, ◌==◌, ℕ, Bool, true, false, List, [], ◌∷◌, ◌++◌, length, take, refl, sym, ap, subst, ◌∙◌, arith, append-nil, cond, ⊎_elim}
-use Rattle.std.proofs.lemmas.Bool.{cases_Bool, eqb-true, false_from_ne_true}
-use Rattle.std.specs.List.{onto_first, flat_map}
-use Rattle.bstr.specs.Text.{no_cr, without_terminator}
-use Rattle.kt_text.specs.Words.{Text, trimmed_start, trimmed_end}
-use Rattle.kt_text.specs.Lines.{is_continued, is_ended, groups, pieces_of, before_backslash, trimmed_line, space_before, condensed_line, condensed_rest, condensed_group, condensed_of}
+use Rattle.kt_text.proofs.Common.{cases_Bool, eqb-true, false_from_ne_true, onto_first, flat_map, no_cr, without_terminator, Text, trimmed_start, trimmed_end, is_continued, is_ended, groups, pieces_of, before_backslash, trimmed_line, space_before, condensed_line, condensed_rest, condensed_group, condensed_of}
 use Rattle.kt_text.specs.Condensing.{IsLine}
 use Rattle.kt_text.proofs.CondensedLemmas.{condensed_alone, one_group}
 use Rattle.kt_text.proofs.NewlineLemmas.{IsFree, free_append, free_take, free_drop, free_space, free_nil, free_at}

@@ -1,13 +1,6 @@
 -- A text cut at its first newline, and what condensing makes of what stands before it.
-use Rattle.std.proofs.Common.{◌≡◌, ◌≢◌, ◌⊎◌, ◌-◌, ◌+◌, ◌==◌, ◌%◌, ◌&&◌, ℕ, Bool, true, false, not, List, [], ◌∷◌, ◌++◌, length, take, refl, sym, ap, ap₂, subst, ◌∙◌, arith, append_assoc, append-nil, length-append, cond, if◌then◌else◌, inl, inr, ⊎_elim}
-use Rattle.std.proofs.lemmas.Bool.{cases_Bool, eq-eqb, eqb-true, false_from_ne_true, false≢true, lt-ltb, ne_eqb}
-use Rattle.std.proofs.lemmas.List.{reverse-append, take_at}
-use Rattle.std.proofs.Math.Seq.{get_or-append_seam}
-use Rattle.std.specs.Prelude.{nat_lt, slice_index}
-use Rattle.std.specs.List.{suffix_len, prefix_len}
-use Rattle.bstr.specs.Text.{no_cr, without_terminator}
-use Rattle.kt_text.specs.Words.{Text, trimmed_end, trimmed_start}
-use Rattle.kt_text.specs.Lines.{before_backslash, condensed_line, condensed_of, groups, is_continued, is_continued_text, is_ended, pieces_of, space_before}
+use Rattle.std.proofs.Common.{◌≡◌, ◌≢◌, ◌⊎◌, ◌-◌, ◌+◌, ◌==◌, ◌%◌, ◌&&◌, ℕ, Bool, true, false, not, List, [], ◌∷◌, ◌++◌, length, take, refl, sym, ap, ap₂, subst, ◌∙◌, arith, append_assoc, append-nil, length-append, cond, if◌then◌else◌, inl, inr, ⊎_elim, nat_lt, slice_index}
+use Rattle.kt_text.proofs.Common.{cases_Bool, eq-eqb, eqb-true, false_from_ne_true, false≢true, lt-ltb, ne_eqb, reverse-append, take_at, get_or-append_seam, suffix_len, prefix_len, no_cr, without_terminator, Text, trimmed_end, trimmed_start, before_backslash, condensed_line, condensed_of, groups, is_continued, is_continued_text, is_ended, pieces_of, space_before}
 use Rattle.kt_text.specs.Condensing.{IsNewline, Spacing, is_continuation, space, spelled, tab, continuation, returned}
 use Rattle.kt_text.proofs.CondensedLemmas.{condensed_of-start, left_text, left_text-alone, left_text-step, one_group, one_piece}
 use Rattle.kt_text.proofs.CondensingLemmas.{no_end}

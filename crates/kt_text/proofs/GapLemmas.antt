@@ -1,11 +1,6 @@
 -- A text is condensed cut by cut, and in no other way.
-use Rattle.std.proofs.Common.{◌≡◌, ◌≢◌, ◌⊎◌, ◌≤◌, ◌-◌, ◌+◌, ◌==◌, ◌||◌, ℕ, zero, suc, Bool, true, false, List, [], ◌∷◌, ◌++◌, length, refl, sym, ap, ap₂, subst, ◌∙◌, arith, append_assoc, append-nil, length-append, inl, inr, ⊎_elim}
-use Rattle.std.proofs.lemmas.Bool.{eq-eqb, eqb-true, false≢true}
-use Rattle.std.proofs.lemmas.List.{get_or-append-add}
-use Rattle.std.specs.Prelude.{slice_index}
-use Rattle.std.specs.List.{flat_map, list_any}
-use Rattle.kt_text.specs.Words.{Text, is_blank, trimmed_end, trimmed_start}
-use Rattle.kt_text.specs.Lines.{condensed_of, is_continued_text, space_before}
+use Rattle.std.proofs.Common.{◌≡◌, ◌≢◌, ◌⊎◌, ◌≤◌, ◌-◌, ◌+◌, ◌==◌, ◌||◌, ℕ, zero, suc, Bool, true, false, List, [], ◌∷◌, ◌++◌, length, refl, sym, ap, ap₂, subst, ◌∙◌, arith, append_assoc, append-nil, length-append, inl, inr, ⊎_elim, slice_index}
+use Rattle.kt_text.proofs.Common.{eq-eqb, eqb-true, false≢true, get_or-append-add, flat_map, list_any, Text, is_blank, trimmed_end, trimmed_start, condensed_of, is_continued_text, space_before}
 use Rattle.kt_text.specs.Condensing.{Condenses, IsGap, IsNewline, FirstStands, Spacing, StandsAfter, is_continuation, spelled}
 use Rattle.kt_text.specs.Condensing.{space, tab, continuation, returned}
 use Rattle.kt_text.proofs.CondensedLemmas.{condensed_alone}

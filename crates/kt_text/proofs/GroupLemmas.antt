@@ -1,11 +1,6 @@
 -- The groups of physical lines that make logical ones.
 use Rattle.std.proofs.Common.{◌≡◌, ◌<◌, Bool, true, false, List, [], ◌∷◌, refl, sym, length, arith}
-use Rattle.std.proofs.lemmas.Bool.{false≢true}
-use Rattle.std.specs.List.{onto_first}
-use Rattle.bstr.specs.Text.{lines_of}
-use Rattle.bstr.proofs.lemmas.LineLemmas.{lines-nil, lines-step}
-use Rattle.kt_text.specs.Words.{Text, is_nonempty}
-use Rattle.kt_text.specs.Lines.{is_continued, groups}
+use Rattle.kt_text.proofs.Common.{false≢true, onto_first, lines_of, lines-nil, lines-step, Text, is_nonempty, is_continued, groups}
 
 pub groups-ended : (line : Text) (lines : List Text) → is_continued line ≡ false → groups (line ∷ lines) ≡ (line ∷ []) ∷ groups lines
 unfolding groups

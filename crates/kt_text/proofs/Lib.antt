@@ -1,3 +1,4 @@
+pub mod Common
 pub mod BegunLemmas
 pub mod CondensedLemmas
 pub mod CondensingLemmas

@@ -1,15 +1,6 @@
 -- The text of each logical line of a text is a line: each newline of it is continued.
-use Rattle.std.proofs.Common.{◌≡◌, ◌⊎◌, ◌<◌, ◌≤◌, ◌+◌, ◌-◌, ◌==◌, ℕ, zero, suc, Bool, true, false, List, [], ◌∷◌, ◌++◌, length, take, drop, get_or, refl, sym, ap, subst, ◌∙◌, arith, append-nil, append_assoc, length-append, length-drop, length-take-le, take-append-drop, drop-drop, cond, inl, inr, ⊎_elim}
-use Rattle.std.proofs.lemmas.Bool.{cases_Bool, eqb-true, eq-eqb, lt-ltb}
-use Rattle.std.proofs.lemmas.List.{take_at, drop_at, take-append-le}
-use Rattle.std.proofs.Math.Seq.{get_or-append_seam, take-append-add}
-use Rattle.std.specs.Prelude.{slice_index, slice_range}
-use Rattle.std.specs.List.{All, onto_first, concat, flat_map}
-use Rattle.bstr.specs.Text.{line_len, lines_of, no_cr, without_terminator}
-use Rattle.bstr.proofs.lemmas.LineLemmas.{line_len-bounds, lines-nil, lines-step}
-use Rattle.kt_text.specs.declared.line.Line.{Line}
-use Rattle.kt_text.specs.Words.{Text}
-use Rattle.kt_text.specs.Lines.{is_continued, groups, pieces_of, kept_of_last, kept_length, lines_from, logical_lines_of}
+use Rattle.std.proofs.Common.{◌≡◌, ◌⊎◌, ◌<◌, ◌≤◌, ◌+◌, ◌-◌, ◌==◌, ℕ, zero, suc, Bool, true, false, List, [], ◌∷◌, ◌++◌, length, take, drop, get_or, refl, sym, ap, subst, ◌∙◌, arith, append-nil, append_assoc, length-append, length-drop, length-take-le, take-append-drop, drop-drop, cond, inl, inr, ⊎_elim, slice_index, slice_range}
+use Rattle.kt_text.proofs.Common.{cases_Bool, eqb-true, eq-eqb, lt-ltb, take_at, drop_at, take-append-le, get_or-append_seam, take-append-add, All, onto_first, concat, flat_map, line_len, lines_of, no_cr, without_terminator, line_len-bounds, lines-nil, lines-step, Line, Text, is_continued, groups, pieces_of, kept_of_last, kept_length, lines_from, logical_lines_of}
 use Rattle.kt_text.specs.Condensing.{IsLine}
 use Rattle.kt_text.proofs.CondensedLemmas.{one_piece, one_group}
 use Rattle.kt_text.proofs.GroupLemmas.{groups-ended, groups-continued, groups-begins, length-onto}

@@ -1,9 +1,6 @@
 -- A list of words that is written one after another.
 use Rattle.std.proofs.Common.{◌≡◌, ℕ, suc, List, [], ◌∷◌, ◌++◌, refl, sym, ◌∙◌, ap, filter, append_assoc, append-nil, unwrap_or, length, ◌-◌, ◌<◌, arith, take, drop, zero}
-use Rattle.std.specs.List.{join_with_byte, slice_get, slice_range}
-use Rattle.std.proofs.lemmas.List.{drop_all, take_all}
-use Rattle.kt_text.specs.Words.{Text, is_nonempty, list_text, put_word}
-use Rattle.kt_text.specs.Functions.{word_at, joined_pairs}
+use Rattle.kt_text.proofs.Common.{join_with_byte, slice_get, slice_range, drop_all, take_all, Text, is_nonempty, list_text, put_word, word_at, joined_pairs}
 
 -- the words of a list after a list of words as a text
 abbrev pub put_words : Text → List Text → Text

@@ -1,11 +1,7 @@
 -- Logical lines, physical line by physical line.
 use Rattle.std.proofs.Common.{◌≡◌, ℕ, ◌+◌, Bool, true, false, List, [], ◌∷◌, ◌++◌, ◌&&◌, refl, sym, ◌∙◌, ap, append_assoc, append-nil, length, length-append, arith, cond, ◌==◌, slice_index}
-use Rattle.std.specs.List.{onto_first, concat}
-use Rattle.bstr.specs.Text.{lines_of}
-use Rattle.kt_text.specs.declared.line.Line.{Line}
+use Rattle.kt_text.proofs.Common.{onto_first, concat, lines_of, Line, Text, is_nonempty, is_continued, groups, kept_of_last, kept_length, lines_from, logical_lines_of}
 use Rattle.kt_text.specs.declared.logical.Begin.{Begin}
-use Rattle.kt_text.specs.Words.{Text, is_nonempty}
-use Rattle.kt_text.specs.Lines.{is_continued, groups, kept_of_last, kept_length, lines_from, logical_lines_of}
 use Rattle.kt_text.proofs.GroupLemmas.{groups-ended, groups-continued, groups-begins, lines-some, lines-none, lines-empty}
 
 groups-nil : groups [] ≡ []

@@ -1,14 +1,7 @@
 -- What a pattern with a percent sign matches.
 use Rattle.std.proofs.Common.{◌≡◌, ℕ, ◌+◌, ◌-◌, ◌<◌, ◌≤◌, Bool, true, false, List, [], ◌∷◌, ◌++◌, length, get_or, drop, take, refl, sym, ◌∙◌, ap, eqb, leb, ltb, arith, ⊎_elim, All, Option, Some, None, append_assoc, length-append, MatchOption, IfNone}
-use Rattle.std.specs.List.{position_or_len, list_any, starts_with, ends_with, slice_range}
-use Rattle.std.proofs.lemmas.Bool.{false≢true, cases_Bool, ltb-true, lt-ltb, le-ltb}
-use Rattle.std.proofs.lemmas.Bool.Decides.{nat_tests, Decides-eqb}
-use Rattle.std.proofs.lemmas.List.{take_at, drop_at, drop-drop, take-append-drop, get_or_at, get_or_append_left, drop_more, length-take, get_or-take}
+use Rattle.kt_text.proofs.Common.{position_or_len, list_any, starts_with, ends_with, slice_range, false≢true, cases_Bool, ltb-true, lt-ltb, le-ltb, nat_tests, Decides-eqb, take_at, drop_at, drop-drop, take-append-drop, get_or_at, get_or_append_left, drop_more, length-take, get_or-take, position_or_len_is, passes_at_first, fails_before_first, starts_is, ends_is, IsFirstByte, is_byte, Text}
 use Rattle.std.proofs.lemmas.List.Prefix.{end_rest}
-use Rattle.std.proofs.lemmas.List.Sums.{position_or_len_is, passes_at_first, fails_before_first}
-use Rattle.std.proofs.lemmas.Slice.Eq.{starts_is, ends_is}
-use Rattle.memchr.specs.Find.{IsFirstByte, is_byte}
-use Rattle.kt_text.specs.Words.{Text}
 use Rattle.kt_text.specs.Match.{Match, is_percent, has_percent, pattern_front, pattern_back, is_between, stem_span}
 use Rattle.kt_text.proofs.PlaceLemmas.{first_byte_place}
 

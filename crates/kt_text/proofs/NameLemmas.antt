@@ -1,11 +1,6 @@
 -- The parts of a file name, by the places of its last slash and dot.
 use Rattle.std.proofs.Common.{◌≡◌, ℕ, ◌+◌, ◌-◌, ◌<◌, ◌≤◌, length, drop, take, refl, sym, ◌∙◌, ap, arith, Some, None, not}
-use Rattle.std.specs.List.{suffix_len}
-use Rattle.std.proofs.lemmas.List.{take_rest, length-drop}
-use Rattle.std.proofs.lemmas.Bool.{eq-eqb, ne_eqb}
-use Rattle.memchr.specs.Find.{IsLastByte, is_byte}
-use Rattle.kt_text.specs.Words.{Text}
-use Rattle.kt_text.specs.Functions.{name_place, name_part, suffix_place}
+use Rattle.kt_text.proofs.Common.{suffix_len, take_rest, length-drop, eq-eqb, ne_eqb, IsLastByte, is_byte, Text, name_place, name_part, suffix_place}
 use Rattle.kt_text.proofs.PlaceLemmas.{last_found, none_found_last}
 
 pub slash_found : (word : Text) (place : ℕ) → IsLastByte (is_byte 47) word (Some place) → place + 1 ≡ name_place word

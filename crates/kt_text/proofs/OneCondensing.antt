@@ -1,14 +1,8 @@
 -- A text is condensed in one way alone: what is done at each cut of it leaves no choice.
-use Rattle.std.proofs.Common.{◌≡◌, ◌⊎◌, ◌<◌, ◌≤◌, ◌==◌, ◌||◌, ℕ, zero, suc, Bool, true, false, List, [], ◌∷◌, ◌++◌, length, drop, refl, sym, ap, subst, ◌∙◌, arith, append_assoc, append-nil, length-append, inl, inr, ⊎_elim}
-use Rattle.std.proofs.lemmas.Bool.{cases_Bool, eqb-true, false≢true}
-use Rattle.std.proofs.lemmas.Bool.Decides.{Decides-eqb}
+use Rattle.std.proofs.Common.{◌≡◌, ◌⊎◌, ◌<◌, ◌≤◌, ◌==◌, ◌||◌, ℕ, zero, suc, Bool, true, false, List, [], ◌∷◌, ◌++◌, length, drop, refl, sym, ap, subst, ◌∙◌, arith, append_assoc, append-nil, length-append, inl, inr, ⊎_elim, nat_eq}
+use Rattle.kt_text.proofs.Common.{cases_Bool, eqb-true, false≢true, Decides-eqb, starts_is, list_any, starts_with, Text, is_blank, condensed_of, is_continued_text}
 use Rattle.std.proofs.lemmas.Grind.{flat_map-append}
-use Rattle.std.proofs.lemmas.Slice.Eq.{starts_is}
 use Rattle.std.proofs.Math.Bool.{or-true}
-use Rattle.std.specs.Prelude.{nat_eq}
-use Rattle.std.specs.List.{list_any, starts_with}
-use Rattle.kt_text.specs.Words.{Text, is_blank}
-use Rattle.kt_text.specs.Lines.{condensed_of, is_continued_text}
 use Rattle.kt_text.specs.Condensing.{Condenses, CondensingLaw, FirstStands, HasNoNewline, IsGap, IsNewline, Spacing, is_continuation, spelled}
 use Rattle.kt_text.specs.Condensing.{space, tab, continuation, returned}
 use Rattle.kt_text.proofs.CondensingLemmas.{condensed_once, line_is_free}

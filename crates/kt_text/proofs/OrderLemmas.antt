@@ -1,13 +1,6 @@
 -- The logical lines of a text stand in it one after the other.
 use Rattle.std.proofs.Common.{◌≡◌, ◌≤◌, ◌<◌, ◌+◌, ◌-◌, ℕ, zero, suc, Bool, true, false, List, [], ◌∷◌, length, get_or, refl, sym, ap, subst, ◌∙◌, arith, take, drop, length-append}
-use Rattle.std.proofs.lemmas.Bool.Decides.{nat_tests}
-use Rattle.std.specs.List.{concat, onto_first}
-use Rattle.bstr.specs.Text.{line_len, lines_of, without_terminator}
-use Rattle.bstr.proofs.lemmas.LineLemmas.{line_len-bounds, lines-nil, lines-step}
-use Rattle.std.proofs.lemmas.List.{length-take-le, length-drop}
-use Rattle.kt_text.specs.declared.line.Line.{Line}
-use Rattle.kt_text.specs.Words.{Text}
-use Rattle.kt_text.specs.Lines.{AreInOrder, is_continued, groups, kept_of_last, kept_length, lines_from, logical_lines_of}
+use Rattle.kt_text.proofs.Common.{nat_tests, concat, onto_first, line_len, lines_of, without_terminator, line_len-bounds, lines-nil, lines-step, length-take-le, length-drop, Line, Text, AreInOrder, is_continued, groups, kept_of_last, kept_length, lines_from, logical_lines_of}
 use Rattle.kt_text.proofs.GroupLemmas.{groups-ended, groups-continued}
 
 -- ---- sizes

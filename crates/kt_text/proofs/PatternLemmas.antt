@@ -1,12 +1,8 @@
 -- Patterns as a set of literal ones and a list of others, pattern by pattern.
 use Rattle.std.proofs.Common.{◌≡◌, Bool, true, false, cond, ◌||◌, List, [], ◌∷◌, ◌++◌, refl, is_some}
-use Rattle.std.specs.Borrow.{Bor}
-use Rattle.std.specs.List.{list_any}
+use Rattle.kt_text.proofs.Common.{Bor, list_any, list_any-append, Text, matches_held, matches_some, matches_word}
 use Rattle.std.specs.Str.{bytes_eq}
-use Rattle.std.proofs.lemmas.List.Folds.{list_any-append}
-use Rattle.kt_text.specs.Words.{Text}
 use Rattle.kt_text.specs.Match.{has_percent, stem_span}
-use Rattle.kt_text.specs.Functions.{matches_held, matches_some, matches_word}
 
 or_wildcard : (a w t r : Bool) → (a || (w || (t || false))) || r ≡ (a || w) || (t || r)
 or_wildcard true w t r = refl

@@ -1,14 +1,8 @@
 -- The physical lines of a text.
-use Rattle.std.proofs.Common.{◌≡◌, ℕ, suc, ◌+◌, ◌-◌, ◌<◌, ◌≤◌, Bool, true, false, List, [], ◌∷◌, length, take, drop, length-take-le, refl, sym, ◌∙◌, ap, arith, Some, None, ◌==◌, if◌then◌else◌, ⊎_elim}
-use Rattle.std.proofs.lemmas.Bool.{lt-ltb, le-ltb, eqb-true, eq-eqb, cases_Bool, false≢true}
-use Rattle.std.specs.Prelude.{slice_index}
-use Rattle.std.specs.List.{list_any, before_first, position_or_len}
+use Rattle.std.proofs.Common.{◌≡◌, ℕ, suc, ◌+◌, ◌-◌, ◌<◌, ◌≤◌, Bool, true, false, List, [], ◌∷◌, length, take, drop, length-take-le, refl, sym, ◌∙◌, ap, arith, Some, None, ◌==◌, if◌then◌else◌, ⊎_elim, slice_index}
+use Rattle.kt_text.proofs.Common.{lt-ltb, le-ltb, eqb-true, eq-eqb, cases_Bool, false≢true, list_any, before_first, position_or_len, IsFirstByte, is_byte, line_len, is_ended, pieces_of, line_len-at, line_len-none, line_len-bounds, lines-step}
 use Rattle.kt_text.proofs.PlaceLemmas.{first_byte_place}
 use Rattle.kt_text.proofs.MatchLemmas.{list_any-place}
-use Rattle.memchr.specs.Find.{IsFirstByte, is_byte}
-use Rattle.bstr.specs.Text.{line_len}
-use Rattle.kt_text.specs.Lines.{is_ended, pieces_of}
-use Rattle.bstr.proofs.lemmas.LineLemmas.{line_len-at, line_len-none, line_len-bounds, lines-step}
 
 -- the size of the first line, by where its newline stands
 pub line_len-found : (text : List ℕ) (place : ℕ) → IsFirstByte (is_byte 10) text (Some place) → line_len text ≡ place + 1

@@ -1,12 +1,7 @@
 -- Where a byte stands first, as the searches of `memchr` answer it and as std's words on lists say it.
 use Rattle.std.proofs.Common.{◌≡◌, ◌==◌, ℕ, ◌+◌, ◌-◌, ◌≤◌, Bool, true, false, true≢false, List, [], ◌∷◌, Option, None, Some, length, get_or, add-sub_cancel, drop, refl, sym, ◌∙◌, ap, unwrap_or, is_some, not, ltb, position, ⊎_elim, arith}
-use Rattle.std.proofs.lemmas.Bool.{ltb-false, cases_Bool, eq-eqb, eqb-true, false_from_ne_true}
-use Rattle.std.specs.List.{position_or_len, prefix_len, suffix_len}
-use Rattle.std.proofs.lemmas.List.Sums.{position_or_len_is, suffix_len_is, prefix_len-le-length}
-use Rattle.memchr.specs.Find.{IsFirstByte, IsLastByte, FindsNeedle, first_of, matches}
+use Rattle.kt_text.proofs.Common.{ltb-false, cases_Bool, eq-eqb, eqb-true, false_from_ne_true, position_or_len, prefix_len, suffix_len, position_or_len_is, suffix_len_is, prefix_len-le-length, IsFirstByte, IsLastByte, FindsNeedle, first_of, matches, is_nonempty, occurs}
 use Rattle.memchr.proofs.lemmas.ValueLemmas.{FindsNeedle-value}
-use Rattle.kt_text.specs.Words.{is_nonempty}
-use Rattle.kt_text.specs.Functions.{occurs}
 
 -- the answer of a search for the first byte that passes, with the length where there is none
 pub first_byte_place : (test : ℕ → Bool) (text : List ℕ) (found : Option ℕ) → IsFirstByte test text found → unwrap_or found (length text) ≡ position_or_len test text

@@ -1,17 +1,12 @@
 -- Lists that rise by bytes, and the numbers by which words are told apart.
-use Rattle.std.proofs.Common.{◌≡◌, ℕ, zero, suc, ◌+◌, ◌*◌, ◌^◌, ◌<◌, ◌≤◌, true, false, List, [], ◌∷◌, ◌⊎◌, inl, inr, ⊎_elim, length, fold, refl, sym, ◌∙◌, ap, subst, arith, drop, add-one}
-use Rattle.std.specs.Prelude.{nat_eq, slice_index}
-use Rattle.std.specs.List.{All, Contains, dedup}
+use Rattle.std.proofs.Common.{◌≡◌, ℕ, zero, suc, ◌+◌, ◌*◌, ◌^◌, ◌<◌, ◌≤◌, true, false, List, [], ◌∷◌, ◌⊎◌, inl, inr, ⊎_elim, length, fold, refl, sym, ◌∙◌, ap, subst, arith, drop, add-one, nat_eq, slice_index}
+use Rattle.kt_text.proofs.Common.{All, Contains, dedup, MatchOrdering, nat_cmp, match_ordering, ordering_reverse, ordering_then, is_eq, Ordering, Less, Equal, Greater, drop_more, drop_all, get_or_past, bytes_eq-Decides, true≢false, cases_lt, Text, word_set}
 use Rattle.std.specs.List.Sorted.{IsPermutation, IsSorted, IsStrictlySortedBy}
-use Rattle.std.specs.Ordering.{MatchOrdering, nat_cmp, match_ordering, ordering_reverse, ordering_then, is_eq}
-use Rattle.std.specs.declared.cmp.Ordering.{Ordering}
-use Rattle.std.specs.declared.cmp.Ordering.TheVariants.{Less, Equal, Greater}
 use Rattle.std.specs.Cmp.Lexicographic.{slice_cmp, pointwise, bytes_decides, nat_list_eq_equiv, texts_ties}
 use Rattle.std.specs.BTreeSet.{insert_key}
 use Rattle.std.specs.Cmp.{nat_cmp_is}
 use Rattle.std.proofs.lemmas.Cmp.{nat_list_cmp_total, tied_itself, ranked}
 use Rattle.std.proofs.Math.Nat.{add-mul, mul_assoc, mul_comm, mul-le-mul_right, pow-suc, pow-le-pow_right}
-use Rattle.std.proofs.lemmas.List.{drop_more, drop_all, get_or_past}
 use Rattle.std.proofs.lemmas.Map.Text.{is_eq-slice_cmp}
 use Rattle.std.proofs.lemmas.Map.Keys.{sorted_tail}
 use Rattle.std.proofs.lemmas.Map.Views.{All-after_first, All-insert_key}
@@ -19,10 +14,6 @@ use Rattle.std.proofs.lemmas.Map.Made.{Contains-tail}
 use Rattle.std.proofs.lemmas.List.Kept.{IsStrictlySortedBy-dedup, Contains-dedup, Contains-from_dedup}
 use Rattle.std.proofs.lemmas.List.Sorted.{IsPermutation-sym, Contains-permutation}
 use Rattle.std.proofs.lemmas.List.Elements.{All-contains, All-weaker, All-cons, All-head, All-tail, Contains-append_right, recursion_from_All}
-use Rattle.std.proofs.lemmas.Slice.Eq.{bytes_eq-Decides}
-use Rattle.std.proofs.lemmas.Bool.{true≢false, cases_lt}
-use Rattle.kt_text.specs.Words.{Text}
-use Rattle.kt_text.specs.Functions.{word_set}
 use Rattle.kt_text.specs.Sorted.{IsSorting, SortLaw, front_number}
 
 -- the order of texts by bytes

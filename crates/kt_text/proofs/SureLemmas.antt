@@ -1,9 +1,6 @@
 -- Bytes that a look at sixteen at once passes over.
-use Rattle.std.proofs.Common.{◌≡◌, ℕ, zero, suc, ◌+◌, ◌≤◌, ◌<◌, Bool, true, false, not, cond, List, [], ◌∷◌, take, drop, refl, ap, ◌∙◌, arith}
-use Rattle.std.specs.Prelude.{nat_le}
-use Rattle.std.specs.List.{position_or_len, prefix_len}
-use Rattle.std.proofs.lemmas.Bool.{leb-false, ne_eqb, not-true}
-use Rattle.kt_text.specs.Words.{is_separator}
+use Rattle.std.proofs.Common.{◌≡◌, ℕ, zero, suc, ◌+◌, ◌≤◌, ◌<◌, Bool, true, false, not, cond, List, [], ◌∷◌, take, drop, refl, ap, ◌∙◌, arith, nat_le}
+use Rattle.kt_text.proofs.Common.{position_or_len, prefix_len, leb-false, ne_eqb, not-true, is_separator}
 use Rattle.kt_text.specs.inner.Sure.{is_sure}
 
 module _ {A : Type 0} (sure : A → Bool) where

@@ -1,12 +1,6 @@
 -- Blanks at the ends of a text, and runs of backslashes at its end.
 use Rattle.std.proofs.Common.{◌≡◌, ◌<◌, ◌-◌, ◌+◌, ◌==◌, ◌%◌, ℕ, suc, Bool, true, false, [], ◌∷◌, ◌++◌, length, reverse, take, drop, cond, refl, sym, ap, ◌∙◌, arith, append_assoc, length-append, ⊎_elim, eqb}
-use Rattle.std.proofs.lemmas.Bool.{cases_Bool, eq-eqb, eqb-true, false≢true, ne_eqb}
-use Rattle.std.proofs.lemmas.List.{length-reverse, reverse-append, take_at}
-use Rattle.std.proofs.lemmas.List.Folds.{prefix_len-append}
-use Rattle.std.proofs.lemmas.List.Sums.{suffix_len-le-length}
-use Rattle.std.specs.List.{prefix_len, suffix_len}
-use Rattle.kt_text.specs.Words.{Text, is_blank, trimmed_end, trimmed_start}
-use Rattle.kt_text.specs.Lines.{is_continued_text}
+use Rattle.kt_text.proofs.Common.{cases_Bool, eq-eqb, eqb-true, false≢true, ne_eqb, length-reverse, reverse-append, take_at, prefix_len-append, suffix_len-le-length, prefix_len, suffix_len, Text, is_blank, trimmed_end, trimmed_start, is_continued_text}
 use Rattle.kt_text.proofs.NewlineLemmas.{IsFree}
 
 -- ---- how much of the end of a text passes a test

@@ -1,11 +1,7 @@
 -- The words of a text, word by word.
 use Rattle.std.proofs.Common.{◌≡◌, ℕ, ◌+◌, ◌-◌, ◌<◌, ◌≤◌, Bool, true, false, List, [], ◌∷◌, length, get_or, drop, take, refl, sym, ◌∙◌, ap, filter, not, arith, add-zero, ⊎_elim}
-use Rattle.std.specs.List.{position_or_len, prefix_len, slice_split, onto_first}
-use Rattle.std.proofs.lemmas.List.{drop_more, take_all, drop_all, length-take-le, length-drop, get_or-drop, take_rest, nil_from_length}
-use Rattle.std.proofs.lemmas.List.Sums.{passes_at_first, fails_before_first}
+use Rattle.kt_text.proofs.Common.{position_or_len, prefix_len, slice_split, onto_first, drop_more, take_all, drop_all, length-take-le, length-drop, get_or-drop, take_rest, nil_from_length, passes_at_first, fails_before_first, cases_lt, cases_Bool, false≢true, Text, is_separator, is_nonempty, words_of}
 use Rattle.std.proofs.lemmas.List.Splits.{slice_split_first, slice_split_none, slice_split-cons_yes, slice_split-cons_no}
-use Rattle.std.proofs.lemmas.Bool.{cases_lt, cases_Bool, false≢true}
-use Rattle.kt_text.specs.Words.{Text, is_separator, is_nonempty, words_of}
 use Rattle.kt_text.proofs.PlaceLemmas.{drop-prefix_len}
 
 pub words_of-skip : (byte : ℕ) (text : Text) → is_separator byte ≡ true → words_of (byte ∷ text) ≡ words_of text

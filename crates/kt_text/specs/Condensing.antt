@@ -1,9 +1,7 @@
 -- What condensing makes of a text (GNU make manual, "Splitting Long Lines"; carriage returns, runs of backslashes and
 -- what a blank is are kati's own).
 use Rattle.std.specs.Prelude.{◌≡◌, ◌≢◌, ◌⊎◌, ◌<◌, ◌-◌, ℕ, Bool, true, false, List, [], ◌∷◌, ◌++◌, length}
-use Rattle.std.specs.Prelude.{slice_index, slice_range}
-use Rattle.std.specs.List.{All, flat_map, list_any}
-use Rattle.kt_text.specs.Words.{Text}
+use Rattle.kt_text.specs.Prelude.{slice_index, slice_range, All, flat_map, list_any, Text}
 use Rattle.kt_text.specs.Lines.{groups, is_continued_text, pieces_of, condensed_of, logical_lines_of}
 
 -- each newline of a text is continued, as in a logical line

@@ -5,23 +5,19 @@
 use Rattle.std.specs.Prelude.{◌≡◌, ℕ, ◌-◌, Bool, ◌||◌, ◌&&◌, ◌==◌, nat_le, not, List, [], ◌∷◌, ◌++◌, length, map}
 use Rattle.std.specs.Prelude.{filter, fold, take, drop, Option, Some, None, Result, unwrap_or, is_some, MatchResult}
 use Rattle.std.specs.Prelude.{if◌then◌else◌}
-use Rattle.std.specs.List.{list_any, list_all, slice_get, slice_range, suffix_len}
+use Rattle.kt_text.specs.Prelude.{list_any, list_all, slice_get, slice_range, suffix_len, bytes_eq, nat_cmp, slice_cmp}
+use Rattle.kt_text.specs.Prelude.{replaced_at, Text, is_nonempty, words_of, list_text, trimmed_start, trimmed_end}
 use Rattle.std.specs.Option.{option_and_then}
 use Rattle.std.specs.Char.{is_ascii_digit}
-use Rattle.std.specs.Str.{bytes_eq}
 use Rattle.std.specs.Str.Parse.{digits_value}
 use Rattle.std.specs.Fmt.{decimal}
-use Rattle.std.specs.Ordering.{nat_cmp}
-use Rattle.std.specs.Cmp.Lexicographic.{slice_cmp}
 use Rattle.std.specs.BTreeSet.{insert_key}
 use Rattle.std.specs.Borrow.{Bor}
 use Rattle.std.specs.declared.vec.Vec.{Vec}
 use Rattle.std.specs.declared.alloc.Global.{Global}
 use Rattle.memchr.specs.Find.{matches}
-use Rattle.bstr.specs.Text.{replaced_at}
 use Rattle.kt_text.specs.declared.fault.TextFault.{TextFault}
 use Rattle.kt_text.specs.declared.fault.TextFault.TheVariants.{BadArgument, Memory}
-use Rattle.kt_text.specs.Words.{Text, is_nonempty, words_of, list_text, trimmed_start, trimmed_end}
 use Rattle.kt_text.specs.Match.{has_percent, pattern_front, pattern_back, stem_span}
 
 -- a fault says that there is no text, or that memory was refused, which is always excused

@@ -1,3 +1,4 @@
+pub mod Prelude
 pub mod Condensing
 pub mod Words
 pub mod Begun

@@ -2,11 +2,9 @@
 use Rattle.std.specs.Prelude.{◌≡◌, ◌≤◌, ℕ, ◌+◌, ◌-◌, ◌%◌, Bool, true, false, ◌==◌, List, [], ◌∷◌, ◌++◌, length, take}
 use Rattle.std.specs.Prelude.{count_by, Option, Some, None, slice_index, if◌then◌else◌}
 use Rattle.std.specs.List.{All, AllAdjacentBelow, list_any, before_first, suffix_len, onto_first, flat_map, concat}
-use Rattle.bstr.specs.Text.{lines_of, without_terminator}
-use Rattle.kt_text.specs.declared.line.Line.{Line}
+use Rattle.kt_text.specs.Prelude.{lines_of, without_terminator, Line, Text, trimmed_start, trimmed_end}
 use Rattle.kt_text.specs.declared.line.LineFault.{LineFault}
 use Rattle.kt_text.specs.declared.line.LineFault.TheVariants.{Nul, Memory}
-use Rattle.kt_text.specs.Words.{Text, trimmed_start, trimmed_end}
 
 -- whether the text ends in an odd number of backslashes
 abbrev pub is_continued_text : Text → Bool

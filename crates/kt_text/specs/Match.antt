@@ -2,8 +2,7 @@
 -- and Analysis", on `patsubst`). Only the first percent sign of a pattern counts.
 use Rattle.std.specs.Prelude.{◌≡◌, ℕ, ◌+◌, ◌-◌, Bool, false, ◌&&◌, ◌==◌, nat_eq, nat_le, ◌∷◌, ◌++◌, length, All, Option}
 use Rattle.std.specs.Prelude.{Some, None, if◌then◌else◌}
-use Rattle.std.specs.List.{list_any, before_first, after_first, starts_with, ends_with}
-use Rattle.kt_text.specs.Words.{Text}
+use Rattle.kt_text.specs.Prelude.{list_any, before_first, after_first, starts_with, ends_with, Text}
 
 -- the byte that stands for any text [Introduction to Pattern Rules]
 unfoldable pub is_percent : ℕ → Bool

@@ -1,8 +1,7 @@
 -- Worked values of the definitions, as facts that compute. The texts are those of the GNU make manual's sections on the
 -- functions, and of kati's own rules where it has some.
 use Rattle.std.specs.Prelude.{◌≡◌, ℕ, [], ◌∷◌, ◌++◌, Some, None, false, codes}
-use Rattle.kt_text.specs.declared.line.Line.{Line}
-use Rattle.kt_text.specs.Words.{words_of}
+use Rattle.kt_text.specs.Prelude.{Line, words_of}
 use Rattle.kt_text.specs.Match.{stem_span}
 use Rattle.kt_text.specs.Lines.{logical_lines_of, nul_line, condensed_of}
 use Rattle.kt_text.specs.Functions.{subst_of, patsubst_of, findstring_of, sort_of, word_of, wordlist_of, words_count_of}

@@ -1,10 +1,7 @@
 -- Words in byte order (GNU make manual, "Functions for String Substitution and Analysis", on `sort`).
 use Rattle.std.specs.Prelude.{◌≡◌, ℕ, zero, suc, ◌+◌, ◌*◌, ◌^◌, ◌≤◌, ◌↔◌, List, [], ◌∷◌, length, take}
-use Rattle.std.specs.List.{Contains}
+use Rattle.kt_text.specs.Prelude.{Contains, nat_cmp, slice_cmp, Text}
 use Rattle.std.specs.List.Sorted.{IsStrictlySortedBy}
-use Rattle.std.specs.Ordering.{nat_cmp}
-use Rattle.std.specs.Cmp.Lexicographic.{slice_cmp}
-use Rattle.kt_text.specs.Words.{Text}
 use Rattle.kt_text.specs.Functions.{word_set}
 
 -- the second list rises by bytes, without a repeat, and has exactly the words of the first

@@ -1,13 +1,6 @@
 -- What a run writes to its outputs (kati's own).
 use Rattle.std.specs.Prelude.{◌≡◌, [], ◌++◌, Option, Some, None, Result, Ok, Err, codes}
-use Rattle.kt_list.specs.Counters.{Rises}
-use Rattle.kt_text.specs.Words.{Text}
-use Rattle.kt_eval.specs.Faults.{fault_line}
-use Rattle.kt_eval.specs.declared.fault.Fault.{Fault}
-use Rattle.kt_ninja.specs.declared.plan.Plan.{Plan}
-use Rattle.kt_ninja.specs.Text.{plan_text}
-use Rattle.kt_ninja.specs.Written.{GrowsByFront, SinkSeen, Takes}
-use Rattle.kati.specs.declared.faults.RunFault.{RunFault}
+use Rattle.kati.specs.Prelude.{Rises, Text, fault_line, Fault, Plan, plan_text, GrowsByFront, SinkSeen, Takes, RunFault}
 use Rattle.kati.specs.declared.faults.RunFault.TheVariants as faults
 use Rattle.kati.specs.declared.status.Status.{Status}
 use Rattle.kati.specs.declared.status.Status.TheVariants as statuses

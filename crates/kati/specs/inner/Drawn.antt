@@ -1,14 +1,9 @@
 -- A plan that is read from the graph (kati's own).
-use Rattle.std.specs.Prelude.{◌≡◌, ℕ, ◌&&◌, Bool, List, [], ◌∷◌, ◌++◌, Option, Some, None, option_map, is_some}
+use Rattle.std.specs.Prelude.{◌≡◌, ℕ, ◌&&◌, Bool, List, [], ◌∷◌, ◌++◌, Option, Some, None, option_map, is_some, ◌≤◌}
 use Rattle.std.specs.Prelude.{if◌then◌else◌}
-use Rattle.std.specs.List.{list_any, slice_range}
-use Rattle.kt_text.specs.Words.{Text}
-use Rattle.kt_rules.specs.Entry.{Rule}
+use Rattle.kati.specs.Prelude.{list_any, slice_range, Text, Rule, Table, Node, inputs_of, order_only_of, Statement}
 use Rattle.kt_eval.specs.Outcome.{StepOver, ◌>>=◌, done}
-use Rattle.kt_eval.specs.macros.Macros.{Table}
-use Rattle.kt_graph.specs.nodes.Node.{Node, inputs_of, order_only_of}
 use Rattle.kt_recipe.specs.Views.{command_in}
-use Rattle.kt_ninja.specs.declared.plan.Statement.{Statement}
 use Rattle.kati.specs.declared.sketch.Joined.{Joined as HeldJoined}
 use Rattle.kati.specs.declared.sketch.Mark.{Mark}
 use Rattle.kati.specs.declared.sketch.Drawing.{Drawing}

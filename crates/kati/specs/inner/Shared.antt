@@ -1,8 +1,6 @@
 -- Groups whose members are told to share their inputs (kati's own).
 use Rattle.std.specs.Prelude.{◌≡◌, Bool, List, true}
-use Rattle.std.specs.List.{AllZip}
-use Rattle.kt_graph.specs.nodes.Node.{Node}
-use Rattle.kt_graph.specs.nodes.Groups.{ShareInputs}
+use Rattle.kati.specs.Prelude.{AllZip, Node, ShareInputs}
 
 -- members that are told to share their inputs do
 abbrev pub MayShare : List Node → Bool → Type 0

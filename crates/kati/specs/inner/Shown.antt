@@ -1,8 +1,6 @@
 -- The plan in the code's own types (kati's own).
 use Rattle.std.specs.Prelude.{List, [], ◌∷◌, Option, Some, None}
-use Rattle.kt_text.specs.Words.{Text}
-use Rattle.kt_ninja.specs.declared.plan.Statement.{Statement}
-use Rattle.kt_ninja.specs.declared.plan.Plan.{Plan}
+use Rattle.kati.specs.Prelude.{Text, Statement, Plan}
 use Rattle.kati.specs.declared.name_list.NameList.{NameList}
 use Rattle.kati.specs.declared.name_list.NameList.TheVariants as lists
 use Rattle.kati.specs.declared.graph_plan.GraphPlan.{GraphPlan}

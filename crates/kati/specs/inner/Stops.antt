@@ -1,13 +1,8 @@
 -- What a step returns that stops (kati's own).
 use Rattle.std.specs.Prelude.{◌≡◌, List, None, Some}
-use Rattle.kt_text.specs.Words.{Text}
-use Rattle.kt_rules.specs.Entry.{Rule}
-use Rattle.kt_graph.specs.faults.Faults.{fault_number, fault_words}
-use Rattle.kt_graph.specs.Reach.{ComesFirst, Trouble}
+use Rattle.kati.specs.Prelude.{Text, Rule, fault_number, fault_words, ComesFirst, Trouble, Fault, fault_at}
 use Rattle.kt_graph.specs.declared.faults.fault.GraphFault.{GraphFault}
 use Rattle.kt_graph.specs.declared.faults.fault.GraphFault.TheVariants as graphs
-use Rattle.kt_eval.specs.declared.fault.Fault.{Fault}
-use Rattle.kt_eval.specs.Step.{fault_at}
 use Rattle.kt_eval.specs.declared.stop.Stop.{Stop}
 use Rattle.kt_eval.specs.declared.stop.Stop.TheVariants as stops
 

@@ -1,16 +1,9 @@
 -- The code's own types as those of the definitions (kati's own).
-use Rattle.std.specs.Prelude.{ℕ, Bool, true, false, List}
-use Rattle.kt_ninja.specs.Writable.{Obstacle, bad_name, bad_command}
-use Rattle.kt_text.specs.Words.{Text}
-use Rattle.kt_ninja.specs.declared.plan.Plan.{Plan}
-use Rattle.kt_eval.specs.files.Files.{Store}
-use Rattle.kt_eval.specs.reading.Machine.{Read, Trace, read_of}
-use Rattle.kt_eval.specs.Outcome.{Outcome}
-use Rattle.kati_args.specs.declared.args.Args.{Args}
+use Rattle.kati.specs.Prelude.{ℕ, Bool, true, false, List, Obstacle, bad_name, bad_command, Text, Plan, Store, Read}
+use Rattle.kati.specs.Prelude.{Trace, read_of, Outcome, Args, known_names}
 use Rattle.kati.specs.Meaning.{Means, MeansGoals, Wanted, meaning_of}
 use Rattle.kt_eval.specs.declared.macros.scope.Makefile.{Makefile}
 use Rattle.kati.specs.declared.translating.Found.{Found}
-use Rattle.kt_graph.specs.Known.{known_names}
 
 abbrev pub read_view : Makefile → Read
 read_view makefile = read_of makefile.macros makefile.book

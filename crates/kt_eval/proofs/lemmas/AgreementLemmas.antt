@@ -1,8 +1,6 @@
 -- What one answer more says of the stores that agree.
-use Rattle.std.proofs.Common.{◌≡◌, ◌≤◌, ◌+◌, ℕ, ap, refl, arith, List, [], ◌∷◌, ◌++◌, Bool, true, false}
-use Rattle.std.proofs.lemmas.Slice.Eq.{bytes_eq-Decides}
-use Rattle.std.specs.Prelude.{Option, Some, None, if◌then◌else◌}
-use Rattle.kt_eval.specs.files.Files.{Answer, Store, absent, differing, look, same_found}
+use Rattle.std.proofs.Common.{◌≡◌, ◌≤◌, ◌+◌, ℕ, ap, refl, arith, List, [], ◌∷◌, ◌++◌, Bool, true, false, Option, Some, None, if◌then◌else◌}
+use Rattle.kt_eval.proofs.Common.{bytes_eq-Decides, Answer, Store, absent, differing, look, same_found}
 
 -- 1 for an answer that isn't the store's
 abbrev pub off : Store → Answer → ℕ

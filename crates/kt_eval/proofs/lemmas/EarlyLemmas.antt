@@ -1,26 +1,12 @@
 -- Messages and names so far, if something fails: they are a prefix of those of the whole step.
 use Rattle.std.proofs.Common.{◌≡◌, ℕ, suc, ◌+◌, ◌<◌, ◌==◌, ◌||◌, Bool, true, cond, false, List, [], ◌∷◌, ◌++◌, length, map, drop, get_or, drop-cons, Some, codes, refl, sym, ap, subst, ◌∙◌, arith, Bor}
-use Rattle.std.specs.List.{slice_get}
-use Rattle.kt_text.specs.Words.{Text, words_of, stripped}
-use Rattle.kt_syntax.specs.Blocks.{Items, Branches, definition, conditional, no_branch, branch, late, tree_of}
-use Rattle.kt_syntax.specs.Kinds.{Kind, line_kind}
+use Rattle.kt_eval.proofs.Common.{slice_get, Text, words_of, stripped, Items, Branches, definition, conditional, no_branch, branch, late, tree_of, Kind, line_kind, left_at, AreTried, Stop, Store, World, bind, unbind, Loop, Outcome, Gave, Stopped, Fails, IfCutBy, then_do, left_of, Step, trail, GoesOn, is_function_name, expanded, each_argument, apply_or, apply_and, apply_eval, apply_foreach, call_by_name, each_word, evaluator, Sheet, at_line, line_at, body_at, branch_holds, late_else, read_bytes, read_define, read_first, read_items, read_branches, read_or, read_sheet}
 use Rattle.kt_syntax.specs.declared.step.Step.{Step as Found}
 use Rattle.kt_syntax.specs.declared.step.Step.TheVariants as step
-use Rattle.kt_syntax.specs.Reading.{left_at, AreTried}
-use Rattle.kt_eval.specs.declared.stop.Stop.{Stop}
 use Rattle.kt_eval.specs.declared.stop.Stop.TheVariants as stops
-use Rattle.kt_eval.specs.files.Files.{Store}
-use Rattle.kt_eval.specs.State.{World, bind, unbind}
-use Rattle.kt_eval.specs.declared.state.Frame.TheVariants.{Loop}
-use Rattle.kt_eval.specs.Outcome.{Outcome, Gave, Stopped, Fails, IfCutBy, then_do, left_of}
-use Rattle.kt_eval.specs.Step.{Step, trail, GoesOn}
-use Rattle.kt_eval.specs.expanding.Calls.{is_function_name}
 use Rattle.kt_eval.specs.reading.Conditions.{Compared}
 use Rattle.kt_eval.specs.reading.Conditionals.{are_equal}
-use Rattle.kt_eval.specs.expanding.Expansion.{expanded, each_argument, apply_or, apply_and, apply_eval, apply_foreach, call_by_name, each_word}
 use Rattle.kt_eval.specs.reading.Rules.{close_rule}
-use Rattle.kt_eval.specs.expanding.Levels.{evaluator}
-use Rattle.kt_eval.specs.reading.Reading.{Sheet, at_line, line_at, body_at, branch_holds, late_else, read_bytes, read_define, read_first, read_items, read_branches, read_or, read_sheet}
 use Rattle.kt_eval.proofs.LevelLemmas.{evaluator_reads}
 use Rattle.kt_eval.proofs.lemmas.reading.ReadingLemmas.{Tries}
 use Rattle.kt_eval.proofs.lemmas.GrowingLemmas.{front_next}

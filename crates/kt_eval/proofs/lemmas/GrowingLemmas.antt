@@ -1,32 +1,12 @@
 -- What is read or expanded with a given number of levels left, beside the same with one more: messages and names asked
 -- for are only added to, and the two are the same, unless the first is too deep.
 use Rattle.std.proofs.Common.{◌≡◌, ◌≤◌, ◌+◌, ◌==◌, ◌||◌, Bool, true, false, cond, List, [], ◌∷◌, ◌++◌, length, Option, Some, None, codes, ◌⊎◌, inl, inr, refl, ap, subst, ◌∙◌, arith, length-append}
-use Rattle.std.specs.List.{list_any}
-use Rattle.std.proofs.lemmas.List.{take-append-le}
-use Rattle.kt_text.specs.Words.{Text, words_of, stripped}
-use Rattle.kt_text.specs.Functions.{patsubst_of}
-use Rattle.kt_syntax.specs.declared.form.Operator.{Operator}
+use Rattle.kt_eval.proofs.Common.{list_any, take-append-le, Text, words_of, stripped, patsubst_of, Operator, Kind, blank, assignment, directive, refused, rule, Token, literal, dollar, reference, unclosed, terms_of, plain_of, Function, Flavour, Deferred, Immediate, Found, Loop, Call, Assigning, keeps, defers, expands, escapes, assigning, find, IsPrefix, World, lookup, bind, unbind, say, Outcome, Gave, Stopped, then_do, left_of, Step, Asked, calls, refuses, refers, asked_by, Naming, plainly, substituting, naming_of, is_function_name, arity, text_function_name, Evaluator, flavoured, value_of, each_argument, accepted, apply_text, apply_if, apply_or, apply_and, each_word, apply_foreach, called, call_by_name, apply_call, apply_value, apply_eval, apply_error, apply_warning, apply_info, apply_other, apply, body_of, value_named, referred, term_of, each_term, expanded}
 use Rattle.kt_syntax.specs.declared.form.Operator.TheVariants as operator
-use Rattle.kt_syntax.specs.Kinds.{Kind, blank, assignment, directive, refused, rule}
-use Rattle.kt_syntax.specs.Terms.{Token, literal, dollar, reference, unclosed, terms_of}
-use Rattle.kt_syntax.specs.Comments.{plain_of}
-use Rattle.kt_eval.specs.declared.expanding.function.Function.{Function}
 use Rattle.kt_eval.specs.declared.expanding.function.Function.TheVariants as function
 use Rattle.kt_text.specs.declared.functions.text_function.TextFunction.{TextFunction}
-use Rattle.kt_eval.specs.declared.macros.Flavour.{Flavour}
-use Rattle.kt_eval.specs.declared.macros.Flavour.TheVariants.{Deferred, Immediate}
-use Rattle.kt_eval.specs.declared.state.Found.{Found}
-use Rattle.kt_eval.specs.declared.state.Frame.TheVariants.{Loop, Call}
-use Rattle.kt_eval.specs.macros.Macros.{Assigning, keeps, defers, expands, escapes, assigning, find}
-use Rattle.kt_list.specs.Prefixes.{IsPrefix}
-use Rattle.kt_eval.specs.State.{World, lookup, bind, unbind, say}
-use Rattle.kt_eval.specs.Outcome.{Outcome, Gave, Stopped, then_do, left_of}
-use Rattle.kt_eval.specs.Step.{Step}
-use Rattle.kt_eval.specs.expanding.Calls.{Asked, calls, refuses, refers, asked_by, Naming, plainly, substituting, naming_of, is_function_name}
-use Rattle.kt_text.specs.TextFunctions.{arity, text_function_name}
 use Rattle.kt_eval.specs.expanding.TextFunctions.{text_result}
 use Rattle.kt_eval.specs.reading.Conditions.{trimmed}
-use Rattle.kt_eval.specs.expanding.Expansion.{Evaluator, flavoured, value_of, each_argument, accepted, apply_text, apply_if, apply_or, apply_and, each_word, apply_foreach, called, call_by_name, apply_call, apply_value, apply_eval, apply_error, apply_warning, apply_info, apply_other, apply, body_of, value_named, referred, term_of, each_term, expanded}
 use Rattle.kt_eval.specs.macros.Assignments.{assign, is_bad_name, assign_named, assign_line, define}
 use Rattle.kt_eval.specs.Growing.{Grows, IsTooDeep}
 use Rattle.kt_eval.specs.inner.Plain.{appended}

@@ -1,38 +1,18 @@
 -- Reading with a given number of levels left, beside the same with one more, like the lemmas of GrowingLemmas on
 -- expanding; and one more level.
 use Rattle.std.proofs.Common.{◌≡◌, ℕ, zero, suc, ◌+◌, Bool, true, false, cond, nat_lt, List, [], ◌∷◌, length, Option, Some, None, Result, Ok, Err, option_map, inl, inr, refl, sym}
-use Rattle.std.specs.Str.{is_utf8}
-use Rattle.kt_text.specs.Words.{Text, words_of}
-use Rattle.kt_text.specs.Lines.{nul_line}
-use Rattle.kt_syntax.specs.declared.form.Directive.{Directive}
+use Rattle.kt_eval.proofs.Common.{is_utf8, Text, words_of, nul_line, Directive, Missing, Kind, blank, assignment, directive, refused, rule, kind_of, line_kind, Items, Branches, none, line, fault, definition, conditional, no_branch, branch, late, tree_of, plain_of, RuleTexts, line_parts, recipe_of, Rule, rule_of, Function, Source, File, Held, Store, World, set_rule, Outcome, then_do, left_of, Step, stop, Evaluator, too_deep, apply, expanded, Raw, line_at, Sheet, sheet_of, at_number, at_line, read_include, read_kind, read_bare_tab, read_tab_in, read_tab, read_line, body_at, read_define, read_stray, late_else, branch_holds, read_items, read_branches, read_end, read_sheet, read_without_nul, read_text, read_held, largest_file, read_file, read_included, read_bytes, included, read_or, read_first, above, none_left, evaluator}
 use Rattle.kt_syntax.specs.declared.form.Directive.TheVariants as word
-use Rattle.kt_syntax.specs.declared.part.Missing.{Missing}
 use Rattle.kt_syntax.specs.declared.part.Missing.TheVariants as missing
 use Rattle.kt_syntax.specs.declared.part.Stray.{Stray}
 use Rattle.kt_syntax.specs.declared.part.Stray.TheVariants as stray
-use Rattle.kt_syntax.specs.Kinds.{Kind, blank, assignment, directive, refused, rule, kind_of, line_kind}
-use Rattle.kt_syntax.specs.Blocks.{Items, Branches, none, line, fault, definition, conditional, no_branch, branch, late, tree_of}
-use Rattle.kt_syntax.specs.Comments.{plain_of}
-use Rattle.kt_syntax.specs.Heads.{RuleTexts, line_parts}
-use Rattle.kt_syntax.specs.Recipes.{recipe_of}
 use Rattle.kt_rules.specs.declared.fault_kind.FaultKind.TheVariants as kinds
-use Rattle.kt_rules.specs.Entry.{Rule, rule_of}
 use Rattle.kt_rules.specs.Refusals.{Fault as RuleFault}
 use Rattle.kt_rules.specs.Book.{added, refusal_of}
-use Rattle.kt_eval.specs.declared.expanding.function.Function.{Function}
-use Rattle.kt_eval.specs.declared.reading.page.Source.{Source}
-use Rattle.kt_eval.specs.declared.reading.page.Source.TheVariants.{File, Held}
-use Rattle.kt_eval.specs.files.Files.{Store}
-use Rattle.kt_eval.specs.State.{World, set_rule}
-use Rattle.kt_eval.specs.Outcome.{Outcome, then_do, left_of}
-use Rattle.kt_eval.specs.Step.{Step, stop}
 use Rattle.kt_eval.specs.reading.Conditions.{Compared, compared_of}
-use Rattle.kt_eval.specs.expanding.Expansion.{Evaluator, too_deep, apply, expanded}
 use Rattle.kt_eval.specs.reading.Conditionals.{is_set, is_defined, are_equal, holds, word_before_blank, text_after_word, worded_holds, text_holds, else_holds, line_holds}
 use Rattle.kt_eval.specs.files.Including.{is_pattern, include_named, each_include, include_line}
 use Rattle.kt_eval.specs.reading.Rules.{rule_place, entered, enter_rule, close, close_rule, opened, open_rule, rule_of_parts, rule_line, recipe_line}
-use Rattle.kt_eval.specs.reading.Reading.{Raw, line_at, Sheet, sheet_of, at_number, at_line, read_include, read_kind, read_bare_tab, read_tab_in, read_tab, read_line, body_at, read_define, read_stray, late_else, branch_holds, read_items, read_branches, read_end, read_sheet, read_without_nul, read_text, read_held, largest_file, read_file, read_included, read_bytes, included, read_or, read_first}
-use Rattle.kt_eval.specs.expanding.Levels.{above, none_left, evaluator}
 use Rattle.kt_eval.specs.Growing.{Grows, TakesNothingBack, IsTooDeep, StaysOneDeeper}
 use Rattle.kt_eval.proofs.lemmas.GrowingLemmas.{front_same, front_more, still, further, Agree, Relates, plain_step, related_then, related_after, related_cond, Related, apply_related, expanded_related, assign_line_related, define_related}
 

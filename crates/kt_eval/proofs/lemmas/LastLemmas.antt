@@ -1,7 +1,6 @@
 -- The last element of a list.
 use Rattle.std.proofs.Common.{◌≡◌, ◌+◌, ◌-◌, List, [], ◌∷◌, ◌++◌, length, length-append, Some, refl, arith}
-use Rattle.std.specs.List.{slice_get}
-use Rattle.kt_list.specs.Prefixes.{last}
+use Rattle.kt_eval.proofs.Common.{slice_get, last}
 
 past : {A : Type 0} (xs : List A) (x : A) → slice_get (xs ++ x ∷ []) (length xs) ≡ Some x
 past [] x = refl

@@ -1,7 +1,6 @@
 -- Texts cut at the first byte of a kind.
 use Rattle.std.proofs.Common.{◌≡◌, ℕ, ◌+◌, true, false, List, None, Some, length, take, drop, ap, ◌∙◌, arith, nat_eq}
-use Rattle.std.specs.List.{position_or_len, list_any, before_first, after_first}
-use Rattle.std.proofs.lemmas.Bool.{le-ltb, lt-ltb}
+use Rattle.kt_eval.proofs.Common.{position_or_len, list_any, before_first, after_first, le-ltb, lt-ltb}
 use Rattle.memchr.specs.Find.{IsFirstByte, is_byte}
 use Rattle.kt_text.proofs.PlaceLemmas.{first_byte_place}
 use Rattle.kt_text.proofs.MatchLemmas.{list_any-place}

@@ -1,31 +1,11 @@
 -- Messages and names asked for before a step are a prefix of those at its end, for each step before which something may
 -- fail. The second and third of each are the two parts of the first, in the form that tactics take.
 use Rattle.std.proofs.Common.{◌≡◌, ℕ, zero, suc, ◌≤◌, Bool, true, List, [], ◌∷◌, ◌++◌, refl, arith, length, take, Option}
-use Rattle.kt_text.specs.Words.{Text}
-use Rattle.kt_syntax.specs.declared.form.Directive.{Directive}
-use Rattle.kt_syntax.specs.declared.form.Operator.{Operator}
-use Rattle.kt_syntax.specs.declared.part.Missing.{Missing}
-use Rattle.kt_syntax.specs.Kinds.{Kind}
-use Rattle.kt_syntax.specs.Terms.{Token}
-use Rattle.kt_syntax.specs.Blocks.{Items}
-use Rattle.kt_syntax.specs.Heads.{RuleTexts}
-use Rattle.kt_rules.specs.Entry.{Rule}
-use Rattle.kt_eval.specs.declared.expanding.function.Function.{Function}
-use Rattle.kt_eval.specs.declared.state.Found.{Found}
-use Rattle.kt_eval.specs.declared.reading.page.Source.{Source}
-use Rattle.kt_eval.specs.macros.Macros.{Assigning}
-use Rattle.kt_eval.specs.files.Files.{Store}
-use Rattle.kt_eval.specs.State.{World}
-use Rattle.kt_eval.specs.Outcome.{Outcome, left_of}
-use Rattle.kt_eval.specs.Step.{Trail, told, asked_for, one_of, trail, GoesOn}
-use Rattle.kt_eval.specs.expanding.Calls.{Asked, Naming}
-use Rattle.kt_eval.specs.expanding.Expansion.{value_of, each_argument, accepted, apply, apply_or, apply_and, each_word, called, call_by_name, value_named, referred, each_term, expanded}
+use Rattle.kt_eval.proofs.Common.{Text, Directive, Operator, Missing, Kind, Token, Items, RuleTexts, Rule, Function, Found, Source, Assigning, Store, World, Outcome, left_of, Trail, told, asked_for, one_of, trail, GoesOn, Asked, Naming, value_of, each_argument, accepted, apply, apply_or, apply_and, each_word, called, call_by_name, value_named, referred, each_term, expanded, Sheet, branch_holds, read_bare_tab, read_define, read_kind, read_items, read_end, read_sheet, read_without_nul, read_text, read_file, read_included, read_first, evaluator}
 use Rattle.kt_eval.specs.macros.Assignments.{assign, assign_named, assign_line, define}
 use Rattle.kt_eval.specs.reading.Conditionals.{is_set, holds, text_holds}
 use Rattle.kt_eval.specs.files.Including.{each_include, include_line}
 use Rattle.kt_eval.specs.reading.Rules.{enter_rule, close_rule, open_rule, rule_of_parts, rule_line}
-use Rattle.kt_eval.specs.reading.Reading.{Sheet, branch_holds, read_bare_tab, read_define, read_kind, read_items, read_end, read_sheet, read_without_nul, read_text, read_file, read_included, read_first}
-use Rattle.kt_eval.specs.expanding.Levels.{evaluator}
 use Rattle.kt_eval.specs.Growing.{Grows}
 use Rattle.kt_eval.specs.inner.Plain.{appended}
 use Rattle.kt_eval.proofs.lemmas.GrowingLemmas.{front_more, value_of_related, each_argument_related, accepted_related, apply_related, apply_or_related, apply_and_related, each_word_related, called_related, call_by_name_related, value_named_related, referred_related, appended_related, each_term_related, expanded_related, assign_related, assign_named_related, assign_line_related, define_related}

@@ -1,11 +1,6 @@
 -- When there is a store that agrees with answers, and what it holds.
-use Rattle.std.proofs.Common.{get_or, suc, ◌≡◌, ◌∙◌, ◌≤◌, ℕ, ap, sym, refl, arith, inl, inr, ◌⊎◌, List, [], ◌∷◌, ◌++◌, Bool, true, false}
-use Rattle.std.proofs.lemmas.List.Elements.{All-cons, All-contains, All-nil, Contains-get_or, Contains-append_cases, Contains-append_right, Contains-append_left, Contains-push, Contains-push_cases}
-use Rattle.std.proofs.lemmas.Slice.Eq.{bytes_eq-Decides}
-use Rattle.std.specs.Prelude.{Option, Some, None, if◌then◌else◌}
-use Rattle.std.specs.List.{Contains}
-use Rattle.std.specs.Str.{bytes_eq}
-use Rattle.kt_eval.specs.files.Files.{AgreeWith, Answer, AnswersGrow, Store, differing, look, same_found}
+use Rattle.std.proofs.Common.{get_or, suc, ◌≡◌, ◌∙◌, ◌≤◌, ℕ, ap, sym, refl, arith, inl, inr, ◌⊎◌, List, [], ◌∷◌, ◌++◌, Bool, true, false, Option, Some, None, if◌then◌else◌}
+use Rattle.kt_eval.proofs.Common.{All-cons, All-contains, All-nil, Contains-get_or, Contains-append_cases, Contains-append_right, Contains-append_left, Contains-push, Contains-push_cases, bytes_eq-Decides, Contains, bytes_eq, AgreeWith, Answer, AnswersGrow, Store, differing, look, same_found}
 use Rattle.kt_eval.specs.files.Agreement.{AreSteady, HoldsEach, store_of, with_found}
 use Rattle.kt_eval.specs.files.Memory.{Memory, answers_from, seen_of}
 use Rattle.kt_eval.proofs.lemmas.AgreementLemmas.{held_by, off}

@@ -1,9 +1,6 @@
 -- How the arguments of a call are cut (GNU make manual, "Function Call Syntax").
 use Rattle.std.specs.Prelude.{◌≡◌, ℕ, ◌-◌, ◌<◌, ◌≤◌, List, ◌∷◌, ◌++◌, length, take, drop, Option, Some, None}
-use Rattle.std.specs.List.{All, join_with_byte}
-use Rattle.kt_text.specs.Words.{Text}
-use Rattle.kt_syntax.specs.declared.term.Mark.{Mark}
-use Rattle.kt_syntax.specs.Terms.{count_of, IsBalanced}
+use Rattle.kt_eval.specs.Prelude.{All, join_with_byte, Text, Mark, count_of, IsBalanced}
 use Rattle.kt_eval.specs.expanding.Calls.{opener, closer, arguments_of}
 
 -- each mark that opens in the text is closed in it: no end part of it has more opening than closing marks (kati's own:

@@ -5,12 +5,8 @@ use Rattle.std.specs.Prelude.{take, drop, Option, Some, None, codes, bytes_eq, i
 use Rattle.std.specs.List.{position_or_len, before_first, after_first, list_any}
 use Rattle.kt_text.specs.Words.{Text, is_separator, stripped_start, is_colon, is_equals}
 use Rattle.kt_text.specs.Match.{has_percent}
-use Rattle.kt_syntax.specs.declared.term.Mark.{Mark}
-use Rattle.kt_syntax.specs.declared.term.Mark.TheVariants.{Byte, Parentheses, Braces}
-use Rattle.kt_eval.specs.declared.expanding.function.Function.{Function}
+use Rattle.kt_eval.specs.Prelude.{Mark, Byte, Parentheses, Braces, Function, TextFunction, arity, text_function}
 use Rattle.kt_eval.specs.declared.expanding.function.Function.TheVariants as function
-use Rattle.kt_text.specs.declared.functions.text_function.TextFunction.{TextFunction}
-use Rattle.kt_text.specs.TextFunctions.{arity, text_function}
 
 -- the functions that expand by themselves, bind names, read text or report
 unfoldable pub other_function : Text → Option Function

@@ -1,11 +1,6 @@
 -- What a text with each dollar doubled expands to (POSIX.1-2024 make, "Macros": `:::=`).
 use Rattle.std.specs.Prelude.{◌≡◌, ℕ, suc, Bool, Some}
-use Rattle.kt_text.specs.Words.{Text}
-use Rattle.kt_eval.specs.declared.macros.Flavour.TheVariants.{Deferred}
-use Rattle.kt_eval.specs.files.Files.{Store}
-use Rattle.kt_eval.specs.macros.Macros.{set_by_makefile, doubled}
-use Rattle.kt_eval.specs.State.{World, found_of}
-use Rattle.kt_eval.specs.Outcome.{Gave}
+use Rattle.kt_eval.specs.Prelude.{Text, Deferred, Store, set_by_makefile, doubled, World, found_of, Gave}
 use Rattle.kt_eval.specs.expanding.Expansion.{value_of, expanded}
 use Rattle.kt_eval.specs.expanding.Levels.{evaluator}
 

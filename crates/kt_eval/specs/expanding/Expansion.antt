@@ -1,24 +1,16 @@
 -- What a text expands to, level by level (POSIX.1-2024 make, "Macros"; GNU make manual, "Basics of Variable References"
 -- and "Functions for Transforming Text"). How levels are counted is kati's own.
 use Rattle.std.specs.Prelude.{Bool, ◌==◌, ◌||◌, List, [], ◌∷◌, ◌++◌, length, Option, Some, None, codes, if◌then◌else◌}
-use Rattle.std.specs.List.{list_any}
-use Rattle.kt_text.specs.Words.{Text, words_of, stripped}
+use Rattle.kt_eval.specs.Prelude.{list_any, Text, words_of, stripped, Token, literal, dollar, reference, unclosed}
+use Rattle.kt_eval.specs.Prelude.{terms_of, Flavour, Deferred, Immediate, TextFunction, Function, Found, lookup}
+use Rattle.kt_eval.specs.Prelude.{raw_value, bind, unbind, say, warn, Step, stop, change, arity, text_function_name}
 use Rattle.kt_text.specs.Functions.{patsubst_of}
-use Rattle.kt_syntax.specs.Terms.{Token, literal, dollar, reference, unclosed, terms_of}
 use Rattle.kt_rules.specs.declared.fault_kind.FaultKind.TheVariants as kinds
-use Rattle.kt_eval.specs.declared.macros.Flavour.{Flavour}
-use Rattle.kt_eval.specs.declared.macros.Flavour.TheVariants.{Deferred, Immediate}
-use Rattle.kt_text.specs.declared.functions.text_function.TextFunction.{TextFunction}
-use Rattle.kt_eval.specs.declared.expanding.function.Function.{Function}
 use Rattle.kt_eval.specs.declared.expanding.function.Function.TheVariants as function
-use Rattle.kt_eval.specs.declared.state.Found.{Found}
 use Rattle.kt_eval.specs.declared.state.Frame.TheVariants.{Loop, Call}
-use Rattle.kt_eval.specs.State.{lookup, raw_value, bind, unbind, say, warn}
 use Rattle.kt_eval.specs.Outcome.{Gave, ◌>>=◌, ◌>>◌, done}
-use Rattle.kt_eval.specs.Step.{Step, stop, change}
 use Rattle.kt_eval.specs.expanding.Calls.{Asked, calls, refuses, refers, asked_by, Naming, plainly, substituting}
 use Rattle.kt_eval.specs.expanding.Calls.{naming_of, is_function_name}
-use Rattle.kt_text.specs.TextFunctions.{arity, text_function_name}
 use Rattle.kt_eval.specs.expanding.TextFunctions.{text_result}
 
 -- what may be done one level deeper: expand a text, read the text of an `eval`, read an included file, which may be

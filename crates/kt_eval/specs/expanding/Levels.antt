@@ -1,6 +1,5 @@
 -- The levels of an evaluation, one above the other (kati's own).
-use Rattle.std.specs.Prelude.{ℕ, zero, suc, Bool}
-use Rattle.kt_eval.specs.files.Files.{Store}
+use Rattle.kt_eval.specs.Prelude.{ℕ, zero, suc, Bool, Store}
 use Rattle.kt_eval.specs.expanding.Expansion.{Evaluator, too_deep, expanded}
 use Rattle.kt_eval.specs.reading.Reading.{read_held, included}
 

@@ -1,14 +1,7 @@
 -- A text expanded after all reading, as recipes are: it leaves only messages (GNU make manual, "How to Use Variables",
 -- "Using Variables in Recipes").
-use Rattle.std.specs.Prelude.{ℕ, false, List, [], Option, Result}
-use Rattle.kt_text.specs.Words.{Text}
-use Rattle.kt_rules.specs.declared.place.Place.{Place}
-use Rattle.kt_eval.specs.files.Files.{Store}
-use Rattle.kt_eval.specs.macros.Macros.{Table}
-use Rattle.kt_eval.specs.State.{frozen_world}
-use Rattle.kt_eval.specs.declared.stop.Stop.{Stop}
-use Rattle.kt_list.specs.Prefixes.{IsPrefix}
-use Rattle.kt_eval.specs.Outcome.{AsksNothing, Gives, IfCut, StepOver, leaving, left_of}
+use Rattle.kt_eval.specs.Prelude.{ℕ, false, List, [], Option, Result, Text, Place, Store, Table, frozen_world, Stop}
+use Rattle.kt_eval.specs.Prelude.{IsPrefix, AsksNothing, Gives, IfCut, StepOver, leaving, left_of}
 use Rattle.kt_eval.specs.expanding.Expansion.{expanded}
 use Rattle.kt_eval.specs.expanding.Levels.{evaluator}
 

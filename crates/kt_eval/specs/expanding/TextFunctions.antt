@@ -1,9 +1,5 @@
 -- The arguments of text functions.
-use Rattle.std.specs.Prelude.{ℕ, List, [], Option, unwrap_or}
-use Rattle.std.specs.List.{slice_get}
-use Rattle.kt_text.specs.Words.{Text}
-use Rattle.kt_text.specs.TextFunctions.{applied}
-use Rattle.kt_text.specs.declared.functions.text_function.TextFunction.{TextFunction}
+use Rattle.kt_eval.specs.Prelude.{ℕ, List, [], Option, unwrap_or, slice_get, Text, applied, TextFunction}
 
 -- the argument at a place, from 0, or an empty text
 abbrev pub argument : List Text → ℕ → Text

@@ -1,7 +1,6 @@
 -- What it says that a store agrees with answers, and for which answers there is such a store.
 use Rattle.std.specs.Prelude.{◌≡◌, ℕ, List, [], ◌∷◌, ◌++◌, Option, Some, None}
-use Rattle.std.specs.List.{All, Contains}
-use Rattle.kt_eval.specs.files.Files.{AgreeWith, Answer, AnswersGrow, Store, look}
+use Rattle.kt_eval.specs.Prelude.{All, Contains, AgreeWith, Answer, AnswersGrow, Store, look}
 use Rattle.kt_eval.specs.files.Memory.{Memory, seen_of}
 
 -- a store holds what was answered, each time

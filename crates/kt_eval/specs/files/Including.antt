@@ -1,11 +1,9 @@
 -- The names of an include (GNU make manual, "Including Other Makefiles").
 use Rattle.std.specs.Prelude.{Bool, false, ◌==◌, ◌||◌, List, [], ◌∷◌, if◌then◌else◌}
-use Rattle.std.specs.List.{list_any}
+use Rattle.kt_eval.specs.Prelude.{list_any, Text, words_of, Step, stop}
 use Rattle.std.specs.Str.{is_utf8}
-use Rattle.kt_text.specs.Words.{Text, words_of}
 use Rattle.kt_rules.specs.declared.fault_kind.FaultKind.TheVariants as kinds
 use Rattle.kt_eval.specs.Outcome.{◌>>=◌, ◌>>◌, done}
-use Rattle.kt_eval.specs.Step.{Step, stop}
 use Rattle.kt_eval.specs.expanding.Expansion.{Evaluator, expanded}
 
 -- a name that is a shell pattern, which is refused (kati's own)

@@ -1,10 +1,7 @@
 -- What each method of an evaluation that expands or reads promises (kati's own).
 use Rattle.std.specs.Prelude.{◌≡◌, ℕ, Bool, Result}
 use Rattle.kt_syntax.specs.Reading.{left_at}
-use Rattle.kt_eval.specs.declared.stop.Stop.{Stop}
-use Rattle.kt_eval.specs.State.{World}
-use Rattle.kt_eval.specs.Outcome.{Gives, IfCut, left_of}
-use Rattle.kt_eval.specs.Step.{Blames, GoesOn, Keeps, Seen, Step, files_of}
+use Rattle.kt_eval.specs.Prelude.{Stop, World, Gives, IfCut, left_of, Blames, GoesOn, Keeps, Seen, Step, files_of}
 use Rattle.kt_eval.specs.expanding.Expansion.{Evaluator}
 use Rattle.kt_eval.specs.files.Files.{AgreeWith, Store}
 use Rattle.kt_eval.specs.expanding.Levels.{evaluator}

@@ -2,19 +2,12 @@
 -- itself (kati's own).
 use Rattle.std.specs.Prelude.{ℕ, Bool, true, not, ◌&&◌, ◌==◌, [], ◌++◌, length, Option, Some, None, codes}
 use Rattle.std.specs.Prelude.{if◌then◌else◌}
-use Rattle.std.specs.List.{list_all, list_any}
-use Rattle.kt_text.specs.Words.{Text, is_separator}
-use Rattle.kt_syntax.specs.declared.term.Mark.{Mark}
-use Rattle.kt_syntax.specs.declared.term.Mark.TheVariants.{Byte, Parentheses, Braces}
-use Rattle.kt_syntax.specs.Terms.{Token, literal, dollar, reference, unclosed}
-use Rattle.kt_eval.specs.declared.macros.Flavour.{Flavour}
-use Rattle.kt_eval.specs.declared.macros.Flavour.TheVariants.{Deferred, Immediate}
-use Rattle.kt_eval.specs.declared.state.Found.{Found}
+use Rattle.kt_eval.specs.Prelude.{list_all, list_any, Text, is_separator, Mark, Byte, Parentheses, Braces, Token}
+use Rattle.kt_eval.specs.Prelude.{literal, dollar, reference, unclosed, Flavour, Deferred, Immediate, Found, Step}
 use Rattle.kt_eval.specs.declared.state.Left.{Left}
 use Rattle.kt_eval.specs.declared.state.Left.TheVariants.{Nothing, Value, Whole}
 use Rattle.kt_eval.specs.State.{World, lookup}
 use Rattle.kt_eval.specs.Outcome.{◌>>=◌, done}
-use Rattle.kt_eval.specs.Step.{Step}
 use Rattle.kt_eval.specs.expanding.Expansion.{Evaluator, term_of}
 
 -- whether a value expands to itself: it isn't expanded again, or a level is left and it has no dollar

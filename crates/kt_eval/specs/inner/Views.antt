@@ -1,18 +1,15 @@
 -- The code's own types as those of the definitions, without their places in memory.
 use Rattle.std.specs.Prelude.{[], ◌++◌, Option, None, Some, map, codes}
-use Rattle.kt_text.specs.Words.{Text}
+use Rattle.kt_eval.specs.Prelude.{Text, Stop, fault_at, Assigning, keeps, defers, expands, escapes}
 use Rattle.kt_rules.specs.declared.fault.RuleFault.{RuleFault}
 use Rattle.kt_rules.specs.declared.fault.RuleFault.TheVariants.{Memory, Refused}
 use Rattle.kt_eval.specs.declared.macros.assigning.Assigning.{Assigning as AssigningType}
 use Rattle.kt_eval.specs.declared.macros.assigning.Assigning.TheVariants as does
 use Rattle.kt_eval.specs.declared.reading.conditions.Compared.{Compared as ComparedType}
 use Rattle.kt_eval.specs.declared.reading.page.RawLine.{RawLine}
-use Rattle.kt_eval.specs.declared.stop.Stop.{Stop}
 use Rattle.kt_eval.specs.declared.stop.Stop.TheVariants as stops
 use Rattle.kt_eval.specs.reading.Conditions.{Compared}
 use Rattle.kt_eval.specs.reading.Reading.{Raw}
-use Rattle.kt_eval.specs.Step.{fault_at}
-use Rattle.kt_eval.specs.macros.Macros.{Assigning, keeps, defers, expands, escapes}
 use Rattle.kt_eval.specs.expanding.Calls.{Asked, calls, refuses, refers, Naming, plainly, substituting}
 use Rattle.kt_eval.specs.declared.expanding.calls.Asked.{Asked as AskedType}
 use Rattle.kt_eval.specs.declared.expanding.calls.Asked.TheVariants as asked

@@ -1,20 +1,13 @@
 -- What an assignment and a define do (POSIX.1-2024 make, "Macros"; GNU make manual, "Setting Variables" and "Defining
 -- Multi-Line Variables").
 use Rattle.std.specs.Prelude.{Bool, ◌==◌, ◌||◌, List, [], ◌++◌, length, map, codes, if◌then◌else◌}
-use Rattle.std.specs.List.{list_any, join_with_byte}
-use Rattle.kt_text.specs.Words.{Text, is_separator}
-use Rattle.kt_text.specs.Lines.{condensed_of}
+use Rattle.kt_eval.specs.Prelude.{list_any, join_with_byte, Text, is_separator, condensed_of, Kind, assignment}
+use Rattle.kt_eval.specs.Prelude.{plain_of, Deferred, Immediate, find, set_macro, Step, stop, change}
 use Rattle.kt_syntax.specs.declared.form.Operator.{Operator}
 use Rattle.kt_syntax.specs.declared.form.Operator.TheVariants as operator
-use Rattle.kt_syntax.specs.Kinds.{Kind, assignment}
-use Rattle.kt_syntax.specs.Comments.{plain_of}
 use Rattle.kt_rules.specs.declared.fault_kind.FaultKind.TheVariants as kinds
-use Rattle.kt_eval.specs.declared.macros.Flavour.TheVariants.{Deferred, Immediate}
 use Rattle.kt_eval.specs.macros.Macros.{Assigning, keeps, defers, expands, escapes, assigning, set_by_makefile, doubled}
-use Rattle.kt_eval.specs.macros.Macros.{find}
-use Rattle.kt_eval.specs.State.{set_macro}
 use Rattle.kt_eval.specs.Outcome.{◌>>=◌, done}
-use Rattle.kt_eval.specs.Step.{Step, stop, change}
 use Rattle.kt_eval.specs.reading.Conditions.{trimmed}
 use Rattle.kt_eval.specs.expanding.Expansion.{Evaluator, expanded}
 

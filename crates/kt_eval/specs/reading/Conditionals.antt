@@ -1,15 +1,11 @@
 -- Which conditions hold (GNU make manual, "Syntax of Conditionals").
 use Rattle.std.specs.Prelude.{Bool, true, false, not, List, [], ◌∷◌, take, drop, bytes_eq, Option, Some, None}
-use Rattle.std.specs.List.{prefix_len}
+use Rattle.kt_eval.specs.Prelude.{prefix_len, Kind, directive, kind_of, plain_of, lookup, raw_value, Step, stop}
 use Rattle.kt_text.specs.Words.{Text, is_blank, is_nonempty, trimmed_start, words_of}
 use Rattle.kt_syntax.specs.declared.form.Directive.{Directive}
 use Rattle.kt_syntax.specs.declared.form.Directive.TheVariants as word
-use Rattle.kt_syntax.specs.Kinds.{Kind, directive, kind_of}
-use Rattle.kt_syntax.specs.Comments.{plain_of}
 use Rattle.kt_rules.specs.declared.fault_kind.FaultKind.TheVariants as kinds
-use Rattle.kt_eval.specs.State.{lookup, raw_value}
 use Rattle.kt_eval.specs.Outcome.{Gave, ◌>>=◌, done}
-use Rattle.kt_eval.specs.Step.{Step, stop}
 use Rattle.kt_eval.specs.reading.Conditions.{Compared, compared_of}
 use Rattle.kt_eval.specs.expanding.Expansion.{Evaluator, expanded}
 

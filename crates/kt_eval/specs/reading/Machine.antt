@@ -1,18 +1,10 @@
 -- The result of reading makefiles, and what a machine holds between two readings (kati's own; GNU make manual, "What
 -- Name to Give Your Makefile").
 use Rattle.std.specs.Prelude.{◌≡◌, ℕ, string_bytes, true, List, [], Option, Some, None, codes, Result, Ok, Err}
-use Rattle.kt_text.specs.Words.{Text}
-use Rattle.kt_rules.specs.Entry.{Rule}
-use Rattle.kt_eval.specs.declared.macros.Flavour.TheVariants.{Deferred}
-use Rattle.kt_eval.specs.declared.macros.Macro.{Macro}
-use Rattle.kt_eval.specs.declared.stop.Stop.{Stop}
+use Rattle.kt_eval.specs.Prelude.{Text, Rule, Deferred, Macro, Stop, Store, IsPrefix, World, Step}
 use Rattle.kt_eval.specs.declared.stop.Stop.TheVariants as stops
-use Rattle.kt_eval.specs.files.Files.{Store}
-use Rattle.kt_list.specs.Prefixes.{IsPrefix}
 use Rattle.kt_eval.specs.macros.Macros.{Table, find, put, set_by_makefile}
-use Rattle.kt_eval.specs.State.{World}
 use Rattle.kt_eval.specs.Outcome.{Outcome, Gave, StepOver, ◌>>◌, leaving}
-use Rattle.kt_eval.specs.Step.{Step}
 use Rattle.kt_eval.specs.expanding.Expansion.{Evaluator}
 use Rattle.kt_eval.specs.expanding.Levels.{evaluator}
 use Rattle.kt_eval.specs.reading.Reading.{read_first}

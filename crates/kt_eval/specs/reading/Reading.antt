@@ -2,28 +2,22 @@
 -- Makefiles" and "Conditional Parts of Makefiles").
 use Rattle.std.specs.Prelude.{ℕ, ◌+◌, Bool, true, false, nat_lt, List, [], ◌∷◌, length, map, Option, Some, None}
 use Rattle.std.specs.Prelude.{unwrap_or, if◌then◌else◌}
-use Rattle.std.specs.List.{slice_get, slice_range}
+use Rattle.kt_eval.specs.Prelude.{slice_get, slice_range, Text, logical_lines_of, nul_line, plain_of, Rule, Store, look}
+use Rattle.kt_eval.specs.Prelude.{World, move_to, ask, set_rule, Step, stop, change}
 use Rattle.kt_text.specs.declared.line.Line.{Line}
-use Rattle.kt_text.specs.Words.{Text}
-use Rattle.kt_text.specs.Lines.{logical_lines_of, nul_line}
 use Rattle.kt_syntax.specs.declared.form.Directive.TheVariants as word
 use Rattle.kt_syntax.specs.Kinds.{Kind, blank, assignment, directive, refused, rule, kind_of, line_kind}
 use Rattle.kt_syntax.specs.Blocks.{Items, Branches, Flat, none, line, fault, definition, conditional, no_branch, branch}
 use Rattle.kt_syntax.specs.Blocks.{late, blocks_of, tree_of}
-use Rattle.kt_syntax.specs.Comments.{plain_of}
 use Rattle.kt_syntax.specs.Roles.{line_text, heads_of}
 use Rattle.kt_syntax.specs.declared.part.Missing.{Missing}
 use Rattle.kt_syntax.specs.declared.part.Missing.TheVariants as missing
 use Rattle.kt_syntax.specs.declared.part.Stray.{Stray}
 use Rattle.kt_syntax.specs.declared.part.Stray.TheVariants as stray
 use Rattle.kt_rules.specs.declared.fault_kind.FaultKind.TheVariants as kinds
-use Rattle.kt_rules.specs.Entry.{Rule}
 use Rattle.kt_eval.specs.declared.reading.page.Source.{Source}
 use Rattle.kt_eval.specs.declared.reading.page.Source.TheVariants.{File, Held}
-use Rattle.kt_eval.specs.files.Files.{Store, look}
-use Rattle.kt_eval.specs.State.{World, move_to, ask, set_rule}
 use Rattle.kt_eval.specs.Outcome.{Gave, ◌>>=◌, ◌>>◌, done}
-use Rattle.kt_eval.specs.Step.{Step, stop, change}
 use Rattle.kt_eval.specs.expanding.Expansion.{Evaluator}
 use Rattle.kt_eval.specs.macros.Assignments.{assign_line, define, body_text, refused_form}
 use Rattle.kt_eval.specs.reading.Conditionals.{line_holds}

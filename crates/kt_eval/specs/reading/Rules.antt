@@ -1,16 +1,12 @@
 -- How rules are opened, continued and closed (POSIX.1-2024 make, "Target Rules"; GNU make manual, "Rule Syntax" and
 -- "Recipe Syntax"). When a rule is closed is kati's own.
 use Rattle.std.specs.Prelude.{List, [], ◌∷◌, ◌++◌, drop, Option, Some, None, option_map, Result, Ok, Err}
-use Rattle.kt_text.specs.Words.{Text}
-use Rattle.kt_syntax.specs.Comments.{plain_of}
+use Rattle.kt_eval.specs.Prelude.{Text, plain_of, Place, Rule, rule_of, with_line, set_rule}
 use Rattle.kt_syntax.specs.Heads.{RuleTexts, line_parts}
 use Rattle.kt_syntax.specs.Recipes.{recipe_of}
 use Rattle.kt_rules.specs.declared.fault_kind.FaultKind.TheVariants as kinds
-use Rattle.kt_rules.specs.declared.place.Place.{Place}
-use Rattle.kt_rules.specs.Entry.{Rule, rule_of, with_line}
 use Rattle.kt_rules.specs.Refusals.{Fault}
 use Rattle.kt_rules.specs.Book.{added, refusal_of}
-use Rattle.kt_eval.specs.State.{set_rule}
 use Rattle.kt_eval.specs.Outcome.{Gave, Stopped, ◌>>=◌, ◌>>◌, done}
 use Rattle.kt_eval.specs.Step.{Step, stop, change, fault_at}
 use Rattle.kt_eval.specs.expanding.Expansion.{Evaluator, expanded}

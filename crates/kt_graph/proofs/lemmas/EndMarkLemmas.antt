@@ -1,22 +1,8 @@
 -- Marks for the ends of names.
-use Rattle.std.proofs.Common.{◌≡◌, ℕ, zero, suc, ◌+◌, ◌-◌, ◌<◌, ◌≤◌, Bool, true, false, not, ◌&&◌, ◌||◌, if◌then◌else◌, List, [], ◌∷◌, ◌++◌, length, get_or, fold, slice_get, slice_set, Option, Some, None, option_map, unwrap_or, refl, sym, ap, ◌∙◌, subst, arith, ⊎_elim, true≢false, length-append}
-use Rattle.std.specs.Prelude.{◌==◌}
-use Rattle.std.specs.List.{position_or_len}
-use Rattle.std.specs.Str.{bytes_eq}
-use Rattle.std.proofs.lemmas.Bool.{cases_eq, cases_lt, eqb-true, ltb-false}
-use Rattle.std.proofs.lemmas.List.{append_assoc, drop_all, get_or-append-add, get_or_past}
-use Rattle.std.proofs.lemmas.Slice.Eq.{bytes_eq-Decides}
-use Rattle.kt_list.proofs.general.Booleans.{and_nothing, or_first, or_second}
-use Rattle.kt_list.specs.Names.{place_of}
-use Rattle.kt_list.proofs.NameLemmas.{number_found}
-use Rattle.kt_text.specs.Words.{Text}
-use Rattle.kt_text.specs.Match.{has_percent, is_percent, pattern_back, pattern_front}
-use Rattle.kt_text.proofs.MatchLemmas.{list_any-place}
-use Rattle.kt_rules.specs.Names.{after_dots, is_among, with_name, without_dots}
+use Rattle.std.proofs.Common.{◌≡◌, ℕ, zero, suc, ◌+◌, ◌-◌, ◌<◌, ◌≤◌, Bool, true, false, not, ◌&&◌, ◌||◌, if◌then◌else◌, List, [], ◌∷◌, ◌++◌, length, get_or, fold, slice_get, slice_set, Option, Some, None, option_map, unwrap_or, refl, sym, ap, ◌∙◌, subst, arith, ⊎_elim, true≢false, length-append, ◌==◌}
+use Rattle.kt_graph.proofs.Common.{position_or_len, bytes_eq, cases_eq, cases_lt, eqb-true, ltb-false, append_assoc, drop_all, get_or-append-add, get_or_past, bytes_eq-Decides, and_nothing, or_first, or_second, place_of, number_found, Text, has_percent, is_percent, pattern_back, pattern_front, list_any-place, after_dots, is_among, with_name, without_dots, IsFixedEnd, needed_name}
 use Rattle.kt_rules.proofs.BookLemmas.{among_fold}
 use Rattle.kt_graph.specs.inner.EndMarks.{AreMarked, AreMarkedTo, KeepsEnds, end_place, is_marked, with_end, with_end_of}
-use Rattle.kt_graph.specs.inner.search.Ends.{IsFixedEnd}
-use Rattle.kt_graph.specs.search.Candidates.{needed_name}
 
 -- ---- one more mark
 

@@ -1,8 +1,6 @@
 -- What lists contain.
 use Rattle.std.proofs.Common.{◌≡◌, ℕ, zero, suc, ⊎_elim, List, [], ◌∷◌, map, Some, slice_get, ap, subst}
-use Rattle.std.specs.List.{Contains}
-use Rattle.std.proofs.lemmas.Option.{none-some, same_Some}
-use Rattle.kt_list.proofs.general.Elements.{first_or_rest, in_first, in_rest, none_in_empty}
+use Rattle.kt_graph.proofs.Common.{Contains, none-some, same_Some, first_or_rest, in_first, in_rest, none_in_empty}
 
 pub Contains-none : {A : Type 0} {B : Type 0} (x : A) → Contains [] x → B
 Contains-none x h = absurd (none_in_empty x h)

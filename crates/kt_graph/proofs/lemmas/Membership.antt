@@ -1,9 +1,6 @@
 -- Elements of lists, and tests of all of them or of any.
 use Rattle.std.proofs.Common.{◌≡◌, Bool, true, false, cond, ◌||◌, List, [], ◌∷◌, filter, Option, Some, None, is_some, refl, sym, ap, ◌∙◌, subst, true≢false, ◌⊎◌, inl, inr, ⊎_elim}
-use Rattle.std.specs.List.{Contains, list_all, list_any, find}
-use Rattle.std.specs.Option.{option_or}
-use Rattle.std.proofs.lemmas.Bool.{and_parts, or_cases}
-use Rattle.kt_list.proofs.general.Elements.{first_or_rest, in_first, in_rest, none_in_empty}
+use Rattle.kt_graph.proofs.Common.{Contains, list_all, list_any, find, option_or, and_parts, or_cases, first_or_rest, in_first, in_rest, none_in_empty}
 
 module _ {X : Type 0} where
   -- a test that passes each element

@@ -1,13 +1,11 @@
 -- What is reported if there is no graph (kati's own).
 use Rattle.std.specs.Prelude.{◌≡◌, ℕ, List, [], Option, None, Some}
-use Rattle.kt_text.specs.Words.{Text}
+use Rattle.kt_graph.specs.Prelude.{Text, Rule, Node}
 use Rattle.kt_rules.specs.declared.fault_kind.FaultKind.{FaultKind}
 use Rattle.kt_rules.specs.declared.fault_kind.FaultKind.TheVariants as kind
-use Rattle.kt_rules.specs.Entry.{Rule}
 use Rattle.kt_rules.specs.FaultKinds.{number_of, words_with}
 use Rattle.kt_graph.specs.declared.faults.fault.GraphFault.{GraphFault}
 use Rattle.kt_graph.specs.declared.faults.fault.GraphFault.TheVariants.{Memory, Refused}
-use Rattle.kt_graph.specs.nodes.Node.{Node}
 use Rattle.kt_graph.specs.Reach.{Trouble, no_rule, circular, reserved_name, one_file, ComesFirst, IsDoubled, IsFirst}
 use Rattle.kt_graph.specs.Reach.{IsGraph, IsReserved}
 

@@ -1,8 +1,7 @@
 -- Which names are names of one file, and which name is reserved for kati.
 use Rattle.std.specs.Prelude.{Bool, true, false, not, ◌||◌, ◌==◌, List, [], ◌∷◌, ◌++◌, fold, reverse, codes, bytes_eq}
 use Rattle.std.specs.Prelude.{if◌then◌else◌}
-use Rattle.std.specs.List.{slice_split, join_with_byte}
-use Rattle.kt_text.specs.Words.{Text}
+use Rattle.kt_graph.specs.Prelude.{slice_split, join_with_byte, Text}
 
 -- `.`, `..`
 abbrev pub here_name : Text

@@ -1,8 +1,7 @@
 -- What the canonical spelling of a file is, as a law of `canon_of` (POSIX.1-2024, "Pathname Resolution", without
 -- looking at any file; that `..` removes a name is kati's own).
 use Rattle.std.specs.Prelude.{◌≡◌, ◌⊎◌, ◌==◌, ℕ, zero, Bool, true, false, List, [], ◌∷◌, ◌++◌, All, bytes_eq, replicate}
-use Rattle.std.specs.List.{slice_split}
-use Rattle.kt_text.specs.Words.{Text}
+use Rattle.kt_graph.specs.Prelude.{slice_split, Text}
 use Rattle.kt_graph.specs.faults.Paths.{above_name, is_idle, is_rooted, parts_of}
 use Rattle.kt_graph.specs.Reach.{Reaches}
 

@@ -1,8 +1,6 @@
 -- Marks for the ends of names, as the code holds them (kati's own).
 use Rattle.std.specs.Prelude.{◌≡◌, ℕ, ◌+◌, ◌-◌, ◌*◌, ◌%◌, ◌<◌, Bool, true, false, List, get_or, length}
-use Rattle.std.specs.Prelude.{Option, Some, None, slice_get, slice_set}
-use Rattle.kt_text.specs.Words.{Text}
-use Rattle.kt_rules.specs.Names.{is_among}
+use Rattle.kt_graph.specs.Prelude.{Option, Some, None, slice_get, slice_set, Text, is_among}
 
 -- the place of the mark for a text's last two bytes
 abbrev pub end_place : Text → ℕ

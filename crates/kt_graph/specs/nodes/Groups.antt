@@ -1,13 +1,7 @@
 -- Which made nodes one making makes (GNU make manual, "Multiple Targets in a Rule", "Introduction to Pattern Rules").
 use Rattle.std.specs.Prelude.{◌≡◌, ◌↔◌, Bool, false, not, ◌&&◌, ◌||◌, nat_eq, List, [], ◌∷◌, All, map, filter, find}
 use Rattle.std.specs.Prelude.{bytes_eq, Option, Some, None}
-use Rattle.std.specs.List.{Contains}
-use Rattle.std.specs.List.Sorted.{IsStrictlySortedBy}
-use Rattle.std.specs.Option.{option_map_or}
-use Rattle.std.specs.Ordering.{nat_cmp}
-use Rattle.std.specs.Cmp.Lexicographic.{slice_cmp}
-use Rattle.kt_text.specs.Words.{Text}
-use Rattle.kt_rules.specs.Entry.{Rule}
+use Rattle.kt_graph.specs.Prelude.{Contains, IsStrictlySortedBy, option_map_or, nat_cmp, slice_cmp, Text, Rule}
 use Rattle.kt_graph.specs.nodes.Node.{Instance, Node, of_group, of_pattern, inputs_of, is_leaf, order_only_of}
 use Rattle.kt_graph.specs.Reach.{IsInGroup}
 

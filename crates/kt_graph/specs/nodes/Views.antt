@@ -1,13 +1,10 @@
 -- The code's own types of nodes as those of the definitions (kati's own).
 use Rattle.std.specs.Prelude.{ℕ, List, [], map, filter_map, Option, option_map, unwrap_or, slice_get}
-use Rattle.std.specs.Option.{option_and_then}
-use Rattle.kt_text.specs.Words.{Text}
-use Rattle.kt_rules.specs.declared.entry.RecipeLine.{RecipeLine}
+use Rattle.kt_graph.specs.Prelude.{option_and_then, Text, RecipeLine, Instance, Node, Part, of_group, of_pattern}
 use Rattle.kt_graph.specs.declared.nodes.node.Instance.{Instance as Held}
 use Rattle.kt_graph.specs.declared.nodes.node.Instance.TheVariants as held
 use Rattle.kt_graph.specs.inner.nodes.Stems.{stem_in}
 use Rattle.kt_graph.specs.inner.nodes.Stored.{StoredNode, StoredPart}
-use Rattle.kt_graph.specs.nodes.Node.{Instance, Node, Part, of_group, of_pattern}
 
 -- the name with a number
 abbrev pub name_at : List Text → ℕ → Text

@@ -3,16 +3,10 @@ use Rattle.std.specs.Prelude.{◌≡◌, ℕ, ◌+◌, ◌-◌, ◌<◌, ◌≤�
 use Rattle.std.specs.Prelude.{filter, flat_map, filter_map, Option, Some, None, option_map, unwrap_or, slice_get}
 use Rattle.std.specs.Prelude.{if◌then◌else◌}
 use Rattle.std.specs.List.{list_any, range_with_len, slice_range}
-use Rattle.std.specs.Option.{option_and_then}
-use Rattle.kt_text.specs.Words.{Text}
-use Rattle.kt_rules.specs.Entry.{Rule}
+use Rattle.kt_graph.specs.Prelude.{option_and_then, Text, Rule, Question, Chosen, Candidate, needs_with, Sought}
 use Rattle.kt_rules.specs.Patterns.{is_terminal}
 use Rattle.kt_graph.specs.declared.search.candidate.Candidate.{Candidate as HeldCandidate}
 use Rattle.kt_graph.specs.declared.search.candidate.Fit.{Fit}
-use Rattle.kt_graph.specs.declared.search.question.Question.{Question}
-use Rattle.kt_graph.specs.declared.search.choice.Chosen.{Chosen}
-use Rattle.kt_graph.specs.search.Candidates.{Candidate, needs_with}
-use Rattle.kt_graph.specs.search.Search.{Sought}
 
 -- ---- candidates
 -- the places of a fit are in the name

@@ -1,16 +1,13 @@
 -- Pieces that are cut off a text one after another (the reader's own).
 use Rattle.std.specs.Prelude.{◌≡◌, ◌≤◌, ℕ, Bool, true, false, not, ◌==◌, ◌&&◌, List, [], ◌∷◌, ◌++◌, length, Option}
-use Rattle.std.specs.Prelude.{Some, None, option_map}
+use Rattle.kt_ninja_reader.specs.Prelude.{Some, None, option_map, Text, outside, pieces_from, list_any}
 use Rattle.kt_ninja_reader.specs.declared.spelling.Cut.{Cut}
 use Rattle.kt_ninja_reader.specs.declared.spelling.Dollar.{Dollar}
 use Rattle.kt_ninja_reader.specs.declared.spelling.Dollar.TheVariants.{Byte, Variable as Named}
-use Rattle.kt_ninja_reader.specs.JoinedLines.{Text}
 use Rattle.kt_ninja_reader.specs.Pieces.{Piece, Plain, Escaped, Variable, Where, in_name, is_long_name_byte}
-use Rattle.kt_ninja_reader.specs.Pieces.{outside, pieces_from}
 use Rattle.kt_ninja_reader.specs.Spellings.{name_goes_on}
 use Rattle.kt_ninja_reader.specs.inner.Spelled.{is_spelled, pieces_in}
 use Rattle.kt_ninja_reader.specs.Forms.{is_plain}
-use Rattle.std.specs.List.{list_any}
 
 -- what a dollar begins, as a piece
 abbrev pub dollar_piece : Dollar → Piece

@@ -1,16 +1,11 @@
 -- What the reader holds, as the definitions have it (the reader's own).
 use Rattle.std.specs.Prelude.{◌≡◌, Bool, false, ◌||◌, List, [], Option, Some, None, is_some, if◌then◌else◌}
-use Rattle.kt_ninja_reader.specs.declared.read_fault.Fault.{Fault}
-use Rattle.kt_ninja_reader.specs.declared.read_fault.Fault.TheVariants.{NoReading, Memory}
-use Rattle.kt_ninja.specs.declared.plan.Made.{Made}
-use Rattle.kt_ninja.specs.declared.plan.Made.TheVariants.{Command, Phony}
+use Rattle.kt_ninja_reader.specs.Prelude.{Fault, NoReading, Memory, Made, Command, Phony, Text, is_empty}
 use Rattle.kt_ninja_reader.specs.declared.pending_statement.More.{More}
 use Rattle.kt_ninja_reader.specs.declared.pending_statement.Making.{Making as HeldMaking}
 use Rattle.kt_ninja_reader.specs.declared.pending_statement.Making.TheVariants.{ByNothing, ByOwn, ByRule}
-use Rattle.kt_ninja_reader.specs.JoinedLines.{Text}
 use Rattle.kt_ninja_reader.specs.Forms.{Binding, Pieces}
 use Rattle.kt_ninja_reader.specs.Scopes.{Scope, command_value, expanded, find_in, put_in, refers_to, value_in}
-use Rattle.kt_ninja.specs.Writable.{is_empty}
 use Rattle.kt_ninja_reader.specs.NinjaRead.{Making, by_nothing, by_own, by_rule}
 
 -- how a statement with this block is made

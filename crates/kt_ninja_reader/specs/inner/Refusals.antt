@@ -1,7 +1,6 @@
 -- What a refusal within the reading says (the reader's own).
 use Rattle.std.specs.Prelude.{◌≡◌, Option, Result, Some, None, MatchResult}
-use Rattle.kt_ninja_reader.specs.declared.read_fault.Fault.{Fault}
-use Rattle.kt_ninja_reader.specs.declared.read_fault.Fault.TheVariants.{NoReading, Memory}
+use Rattle.kt_ninja_reader.specs.Prelude.{Fault, NoReading, Memory}
 
 -- there is no value, or memory was refused, which is always excused
 abbrev pub LacksReading : {X : Type 0} → Option X → Fault → Type 0

@@ -1,7 +1,5 @@
 -- Texts that are paths or values, and their pieces (the reader's own).
-use Rattle.std.specs.Prelude.{Bool, List, [], is_some, unwrap_or}
-use Rattle.kt_ninja_reader.specs.JoinedLines.{Text}
-use Rattle.kt_ninja_reader.specs.Pieces.{Piece, pieces}
+use Rattle.kt_ninja_reader.specs.Prelude.{Bool, List, [], is_some, unwrap_or, Text, Piece, pieces}
 
 -- whether each dollar of the text begins an escape or a variable
 abbrev pub is_spelled : Text → Bool

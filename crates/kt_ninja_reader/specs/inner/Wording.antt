@@ -1,10 +1,9 @@
 -- Words and names, one after another, and what the forms of a line tell (the reader's own).
 use Rattle.std.specs.Prelude.{List, [], ◌∷◌, Option, Some, None, option_map, if◌then◌else◌}
-use Rattle.std.specs.Option.{option_and_then}
+use Rattle.kt_ninja_reader.specs.Prelude.{option_and_then, Text}
 use Rattle.kt_ninja_reader.specs.declared.forms.Binding.{Binding as ReadBinding}
 use Rattle.kt_ninja_reader.specs.declared.forms.Build.{Build as ReadBuild}
 use Rattle.kt_ninja_reader.specs.declared.forms.Inputs.{Inputs as ReadInputs}
-use Rattle.kt_ninja_reader.specs.JoinedLines.{Text}
 use Rattle.kt_ninja_reader.specs.Forms.{Binding, Build, Inputs, Pieces, begins_with_at, is_keyword, name_in, words_of}
 
 -- the word, if it has a piece

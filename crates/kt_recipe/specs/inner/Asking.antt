@@ -1,13 +1,9 @@
 -- How the code finds the subject and form of an automatic macro by its name (the crate's own).
 use Rattle.std.specs.Prelude.{ℕ, ◌==◌, List, [], ◌∷◌, Option, Some, None, option_map, if◌then◌else◌}
 use Rattle.std.specs.Option.{option_and_then}
-use Rattle.kt_text.specs.Words.{Text}
-use Rattle.kt_graph.specs.nodes.Node.{Node}
-use Rattle.kt_recipe.specs.declared.forms.Form.{Form}
+use Rattle.kt_recipe.specs.Prelude.{Text, Node, Form, Subject, marks, has_parts, names_in}
 use Rattle.kt_recipe.specs.declared.forms.Form.TheVariants.{Whole, Directory, File}
-use Rattle.kt_recipe.specs.declared.subjects.Subject.{Subject}
 use Rattle.kt_recipe.specs.Forms.{text_of}
-use Rattle.kt_recipe.specs.Automatic.{marks, has_parts, names_in}
 
 -- the subject of a mark
 abbrev pub subject_in : List (ℕ × Subject) → ℕ → Option Subject

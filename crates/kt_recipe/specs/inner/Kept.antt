@@ -1,12 +1,7 @@
 -- Lines that are kept with what is known of their expansion (the crate's own).
 use Rattle.std.specs.Prelude.{◌≡◌, ℕ, List, IfSome}
-use Rattle.kt_text.specs.Words.{Text}
-use Rattle.kt_rules.specs.declared.place.Place.{Place}
-use Rattle.kt_eval.specs.Outcome.{Gave}
-use Rattle.kt_eval.specs.macros.Macros.{Table}
-use Rattle.kt_graph.specs.nodes.Node.{Node}
+use Rattle.kt_recipe.specs.Prelude.{Text, Place, Gave, Table, Node, automatic_in}
 use Rattle.kt_recipe.specs.declared.kept.KeptLine.{KeptLine}
-use Rattle.kt_recipe.specs.Automatic.{automatic_in}
 use Rattle.kt_recipe.specs.Shell.{CommandsOf, expansion, setting_of}
 use Rattle.kt_recipe.specs.inner.Prepared.{IsPrepared}
 

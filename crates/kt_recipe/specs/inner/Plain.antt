@@ -1,11 +1,9 @@
 -- A shell whose values expand to themselves.
 use Rattle.std.specs.Prelude.{ℕ, Bool, true, not, ◌&&◌, ◌==◌, ◌++◌, codes, Option, Some, None, if◌then◌else◌}
-use Rattle.std.specs.List.{list_any}
-use Rattle.kt_text.specs.Words.{Text}
+use Rattle.kt_recipe.specs.Prelude.{list_any, Text, Table, find}
 use Rattle.kt_eval.specs.declared.macros.Flavour.{Flavour}
 use Rattle.kt_eval.specs.declared.macros.Flavour.TheVariants.{Deferred, Immediate}
 use Rattle.kt_eval.specs.declared.macros.Macro.{Macro}
-use Rattle.kt_eval.specs.macros.Macros.{Table, find}
 
 -- whether a value expands to itself: it isn't expanded again, or a level is left and it has no dollar
 abbrev pub is_plain : ℕ → Flavour → Text → Bool

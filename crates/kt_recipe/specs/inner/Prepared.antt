@@ -1,19 +1,11 @@
 -- Texts of which all but the automatic macros is known before any node is (the crate's own).
 use Rattle.std.specs.Prelude.{◌≡◌, ℕ, false, List, [], ◌∷◌, ◌++◌, Option}
-use Rattle.kt_text.specs.Words.{Text}
-use Rattle.kt_rules.specs.declared.place.Place.{Place}
-use Rattle.kt_eval.specs.Outcome.{Gave}
+use Rattle.kt_recipe.specs.Prelude.{Text, Place, Gave, Step, Table, Node, Form, Subject, automatic_in, names_in}
 use Rattle.kt_eval.specs.State.{frozen_world}
-use Rattle.kt_eval.specs.Step.{Step}
 use Rattle.kt_eval.specs.expanding.Expansion.{expanded}
 use Rattle.kt_eval.specs.expanding.Levels.{evaluator}
-use Rattle.kt_eval.specs.macros.Macros.{Table}
-use Rattle.kt_graph.specs.nodes.Node.{Node}
-use Rattle.kt_recipe.specs.declared.forms.Form.{Form}
 use Rattle.kt_recipe.specs.declared.prepared.Gap.{Gap}
 use Rattle.kt_recipe.specs.declared.prepared.Pieces.{Pieces}
-use Rattle.kt_recipe.specs.declared.subjects.Subject.{Subject}
-use Rattle.kt_recipe.specs.Automatic.{automatic_in, names_in}
 use Rattle.kt_recipe.specs.Forms.{text_of}
 
 -- the automatic macros of a part of a node, each after the text before it

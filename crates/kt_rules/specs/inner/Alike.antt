@@ -1,12 +1,7 @@
 -- Rules that need the same, as the program tells them by their places (kati's own).
 use Rattle.std.specs.Prelude.{◌≡◌, Bool, false, List, Option, Some, None, is_some, map}
-use Rattle.kt_rules.specs.declared.book.held_rule.HeldRule.{HeldRule}
-use Rattle.kt_rules.specs.declared.book.spot.Spot.{Spot}
-use Rattle.kt_rules.specs.declared.entry.Kind.{Kind}
-use Rattle.kt_rules.specs.declared.entry.Needs.{Needs}
-use Rattle.kt_rules.specs.declared.entry.Target.{Target}
+use Rattle.kt_rules.specs.Prelude.{HeldRule, Spot, Kind, Needs, Target, Rule}
 use Rattle.kt_rules.specs.Book.{rule_needs}
-use Rattle.kt_rules.specs.Entry.{Rule}
 use Rattle.kt_rules.specs.Slots.{explicit_left, spot_rule}
 use Rattle.kt_rules.specs.Suffixes.{is_bare}
 

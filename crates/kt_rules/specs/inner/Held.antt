@@ -1,21 +1,12 @@
 -- Rules as the program holds them, storing each name once (kati's own).
 use Rattle.std.specs.Prelude.{◌≡◌, ℕ, ◌<◌, ◌≤◌, List, [], ◌∷◌, ◌++◌, drop, get_or, length, map, slice_get, take}
 use Rattle.std.specs.Prelude.{Bool, true, Option, Some, None, if◌then◌else◌, option_map}
-use Rattle.std.specs.List.{All}
-use Rattle.kt_list.specs.Names.{AreBelow}
-use Rattle.kt_text.specs.Words.{Text}
-use Rattle.kt_rules.specs.declared.book.book_rule.BookRule.{BookRule}
-use Rattle.kt_rules.specs.declared.book.held_rule.HeldRule.{HeldRule}
+use Rattle.kt_rules.specs.Prelude.{All, AreBelow, Text, BookRule, HeldRule, Spot, Kind, DoubleColon, Group, Needs}
+use Rattle.kt_rules.specs.Prelude.{Target, Rule, rule_by, target_of}
 use Rattle.kt_rules.specs.declared.book.kinds.Kinds.{Kinds}
 use Rattle.kt_rules.specs.declared.book.rules.LastList.{LastList}
 use Rattle.kt_rules.specs.declared.book.rules.ListRows.{ListRows}
-use Rattle.kt_rules.specs.declared.book.spot.Spot.{Spot}
-use Rattle.kt_rules.specs.declared.entry.Kind.{Kind}
-use Rattle.kt_rules.specs.declared.entry.Kind.TheVariants.{DoubleColon, Group}
-use Rattle.kt_rules.specs.declared.entry.Needs.{Needs}
 use Rattle.kt_rules.specs.declared.entry.RecipeLine.{RecipeLine}
-use Rattle.kt_rules.specs.declared.entry.Target.{Target}
-use Rattle.kt_rules.specs.Entry.{Rule, rule_by, target_of}
 use Rattle.kt_rules.specs.Slots.{IsKept}
 use Rattle.kt_rules.specs.Suffixes.{all_needs}
 use Rattle.kt_rules.specs.Targets.{line_needs, names_at}

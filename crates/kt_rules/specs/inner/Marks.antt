@@ -1,9 +1,7 @@
 -- Names that are marked by number, or by name (kati's own).
 use Rattle.std.specs.Prelude.{◌≡◌, ℕ, Bool, false, true, Option, Some, None, List, get_or, length}
-use Rattle.kt_list.specs.Names.{AreBelow, is_among, place_of}
-use Rattle.kt_text.specs.Words.{Text}
+use Rattle.kt_rules.specs.Prelude.{AreBelow, is_among, place_of, Text, BookRule}
 use Rattle.kt_rules.specs.declared.book.book_names.Marks.{Marks}
-use Rattle.kt_rules.specs.declared.book.book_rule.BookRule.{BookRule}
 use Rattle.kt_rules.specs.Suffixes.{all_needs}
 use Rattle.kt_rules.specs.Targets.{entry_view}
 

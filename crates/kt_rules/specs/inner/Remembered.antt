@@ -1,13 +1,8 @@
 -- The prerequisites that a reader of rule lines remembers (kati's own).
 use Rattle.std.specs.Prelude.{◌≡◌, ◌||◌, Bool, false, None, Some, map}
-use Rattle.std.specs.List.{list_any}
-use Rattle.kt_text.specs.Match.{has_percent}
-use Rattle.kt_text.specs.Words.{Text, words_of, is_colon}
-use Rattle.kt_rules.specs.declared.entry.Needs.{Needs}
-use Rattle.kt_rules.specs.declared.head.Separator.TheVariants.{Single}
+use Rattle.kt_rules.specs.Prelude.{list_any, has_percent, Text, words_of, is_colon, Needs, Single, is_nil, read_line}
+use Rattle.kt_rules.specs.Prelude.{tested_line, is_among, name_of, wait_name, without_repeats, written_words}
 use Rattle.kt_rules.specs.declared.reader.LongLine.{LongLine}
-use Rattle.kt_rules.specs.Entry.{is_nil, read_line, tested_line}
-use Rattle.kt_rules.specs.Names.{is_among, name_of, wait_name, without_repeats, written_words}
 use Rattle.kt_rules.specs.RuleLine.{colon_cut, group_targets, needs_of}
 use Rattle.kt_rules.specs.inner.Telling.{Tells, is_telling}
 

@@ -1,11 +1,7 @@
 -- How the program finds suffixes in a name by their lengths alone (kati's own).
 use Rattle.std.specs.Prelude.{◌≡◌, ℕ, min, nat_eq, nat_lt, Bool, true, false, ◌&&◌, List, [], ◌∷◌, ◌++◌, length, find}
 use Rattle.std.specs.Prelude.{Option, Some, None, if◌then◌else◌}
-use Rattle.std.specs.List.{ends_with, list_any, position_from, range_with_len}
-use Rattle.std.specs.Option.{option_map_or}
-use Rattle.kt_text.specs.Words.{Text}
-use Rattle.kt_rules.specs.declared.book.spot.Spot.{Spot}
-use Rattle.kt_rules.specs.Entry.{Rule}
+use Rattle.kt_rules.specs.Prelude.{ends_with, list_any, position_from, range_with_len, option_map_or, Text, Spot, Rule}
 use Rattle.kt_rules.specs.Names.{is_among}
 use Rattle.kt_rules.specs.Slots.{spot_rule}
 use Rattle.kt_rules.specs.Suffixes.{is_bare, is_cut_at}

@@ -1,11 +1,7 @@
 -- The bytes that tell of the names of a rule line (kati's own).
 use Rattle.std.specs.Prelude.{◌≡◌, ℕ, Bool, false, ◌==◌, ◌||◌, None}
-use Rattle.std.specs.List.{list_any}
-use Rattle.kt_text.specs.Match.{has_percent}
-use Rattle.kt_rules.specs.declared.line.Line.{Line}
+use Rattle.kt_rules.specs.Prelude.{list_any, has_percent, Line, is_wildcard, Head, name_refusal, option_list}
 use Rattle.kt_rules.specs.declared.signs.Signs.{Signs}
-use Rattle.kt_rules.specs.Names.{is_wildcard}
-use Rattle.kt_rules.specs.RuleLine.{Head, name_refusal, option_list}
 
 abbrev pub is_backslash : ℕ → Bool
 is_backslash byte = byte == 92

@@ -1,11 +1,8 @@
 -- Words of blocks at the begin of a line (kati's own).
 use Rattle.std.specs.Prelude.{◌≡◌, ◌<◌, ℕ, Bool, true, false, not, ◌==◌, ◌||◌, [], ◌∷◌, ◌++◌, codes, length, Some}
-use Rattle.std.specs.List.{list_all}
-use Rattle.kt_text.specs.Words.{Text, is_blank}
-use Rattle.kt_syntax.specs.declared.form.Directive.{Directive}
+use Rattle.kt_syntax.specs.Prelude.{list_all, Text, is_blank, Directive, block_word}
 use Rattle.kt_syntax.specs.declared.form.Directive.TheVariants.{Ifdef, Ifndef, Ifeq, Ifneq, Else, Endif, Define, Endef}
 use Rattle.kt_syntax.specs.declared.form.Directive.TheVariants.{Include, OptionalInclude}
-use Rattle.kt_syntax.specs.Kinds.{block_word}
 use Rattle.kt_syntax.specs.inner.OwnRuns.{begins_operator, ends_own_name}
 
 -- the text of a word of blocks; the words of included files are none

@@ -1,6 +1,5 @@
 -- Lines and their texts (kati's own).
-use Rattle.std.specs.Prelude.{Option, None, Some}
-use Rattle.kt_text.specs.Words.{Text}
+use Rattle.kt_syntax.specs.Prelude.{Option, None, Some, Text}
 
 -- the text that is held beside a line, or the line itself
 abbrev pub text_of : Text → Option Text → Text

@@ -1,8 +1,6 @@
 -- Steps by their parts and places (kati's own).
-use Rattle.std.specs.Prelude.{ℕ, zero, suc, List, slice_get, unwrap_or}
-use Rattle.kt_syntax.specs.declared.part.BlockPart.{BlockPart}
+use Rattle.kt_syntax.specs.Prelude.{ℕ, zero, suc, List, slice_get, unwrap_or, BlockPart, Step}
 use Rattle.kt_syntax.specs.declared.part.BlockPart.TheVariants as part
-use Rattle.kt_syntax.specs.declared.step.Step.{Step}
 use Rattle.kt_syntax.specs.declared.step.Step.TheVariants as step
 
 -- the step of a line with this part, which names these places or none

@@ -1,5 +1,4 @@
-use Rattle.std.proofs.Common.{rules}
-use Rattle.kt_eval.proofs.lemmas.LastLemmas.{last_after}
+use Rattle.kati.proofs.Common.{rules, last_after}
 use Rattle.kati.proofs.checking.check.Goals as goal
 
 pub returns-in-Err-Device-clause-blames : goal.returns-in-Err-Device-clause-blames

@@ -1,5 +1,4 @@
-use Rattle.std.proofs.Common.{rules, refl}
-use Rattle.std.proofs.lemmas.List.{take_rest}
+use Rattle.kati.proofs.Common.{rules, refl, take_rest}
 use Rattle.kati.proofs.ExpectingLemmas.{taken_next}
 use Rattle.kati.proofs.expecting.after.Goals as goal
 

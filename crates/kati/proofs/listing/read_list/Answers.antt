@@ -1,5 +1,4 @@
-use Rattle.std.proofs.Common.{rules}
-use Rattle.kt_eval.proofs.lemmas.LastLemmas.{last_after}
+use Rattle.kati.proofs.Common.{rules, last_after}
 use Rattle.kati.proofs.BlameLemmas.{asks_blames}
 use Rattle.kati.proofs.listing.read_list.Goals as goal
 

@@ -1,5 +1,4 @@
-use Rattle.std.proofs.Common.{[]}
-use Rattle.kt_eval.specs.reading.Machine.{traced}
+use Rattle.kati.proofs.Common.{[], traced}
 use Rattle.kati.proofs.AskedLemmas.{before_makefile}
 use Rattle.kati.proofs.makefile.makefile_read.Goals as goal
 

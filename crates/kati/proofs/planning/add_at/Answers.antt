@@ -1,5 +1,4 @@
-use Rattle.std.proofs.Common.{[], sym}
-use Rattle.std.proofs.lemmas.Option.{get_or_from_slice_get, slice_get-get_or}
+use Rattle.kati.proofs.Common.{[], sym, get_or_from_slice_get, slice_get-get_or}
 use Rattle.kati.proofs.SharedLemmas.{shared_at}
 use Rattle.kati.proofs.planning.add_at.Goals as goal
 

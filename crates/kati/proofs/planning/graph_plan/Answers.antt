@@ -1,5 +1,4 @@
-use Rattle.std.proofs.Common.{rules, subst, sym}
-use Rattle.kt_ninja.specs.Writable.{HasWritableTexts}
+use Rattle.kati.proofs.Common.{rules, subst, sym, HasWritableTexts}
 use Rattle.kati.specs.inner.Drawn.{statements_drawn}
 use Rattle.kati.specs.inner.Shown.{plan_view}
 use Rattle.kati.proofs.PlanLemmas.{plan_writable}

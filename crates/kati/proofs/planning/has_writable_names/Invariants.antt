@@ -1,7 +1,5 @@
 use Rattle.std.proofs.Common.{◌≡◌}
-use Rattle.std.specs.List.{list_all}
-use Rattle.kt_graph.specs.nodes.Node.{Node}
-use Rattle.kt_ninja.specs.Writable.{is_name}
+use Rattle.kati.proofs.Common.{list_all, Node, is_name}
 use Rattle.kati.proofs.planning.has_writable_names.Given as goal
 
 abbrev pub invariant-loop-node : goal.invariant-loop-node

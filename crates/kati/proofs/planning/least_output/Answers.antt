@@ -1,5 +1,4 @@
-use Rattle.std.proofs.Common.{◌∙◌, List, ap, sym}
-use Rattle.std.specs.Prelude.{slice_get}
+use Rattle.std.proofs.Common.{◌∙◌, List, ap, sym, slice_get}
 use Rattle.kt_text.specs.Words.{Text}
 use Rattle.kati.specs.inner.Shown.{plan_view}
 use Rattle.kati.proofs.PlanLemmas.{least_here, least_none}

@@ -1,8 +1,7 @@
 use Rattle.std.proofs.Common.{ap, sym, ◌∙◌}
 use Rattle.kt_rules.specs.declared.fault_kind.FaultKind.TheVariants.{CommandNotWritable, NameNotWritable}
-use Rattle.kt_ninja.specs.Writable.{told_obstacle}
+use Rattle.kati.proofs.Common.{told_obstacle, text_fault}
 use Rattle.kati.specs.Steps.{fault_nowhere}
-use Rattle.kati.specs.Planning.{text_fault}
 use Rattle.kati.specs.inner.Shown.{plan_view}
 use Rattle.kati.proofs.planning.stop_of.Goals as goal
 

@@ -1,5 +1,4 @@
-use Rattle.std.proofs.Common.{ap}
-use Rattle.kati.specs.Planning.{plan_unless, written}
+use Rattle.kati.proofs.Common.{ap, plan_unless, written}
 use Rattle.kati.specs.inner.Shown.{plan_view}
 use Rattle.kati.proofs.TextLemmas.{no_fault}
 use Rattle.kati.proofs.planning.written.Goals as goal

@@ -1,7 +1,4 @@
-use Rattle.std.proofs.Common.{subst}
-use Rattle.kt_text.specs.Words.{Text}
-use Rattle.kt_ninja.specs.Written.{GrowsByFront, Takes}
-use Rattle.kt_ninja.proofs.Growth.{front_after, front_of_more, takes_twice}
+use Rattle.kati.proofs.Common.{subst, Text, GrowsByFront, Takes, front_after, front_of_more, takes_twice}
 use Rattle.kati.proofs.BlameLemmas.{on_err, on_err_weaker, on_ok_weaker}
 use Rattle.kati.proofs.program.put_help.Goals as goal
 

@@ -1,6 +1,5 @@
 use Rattle.std.proofs.Common.{◌++◌, [], ◌∷◌, subst}
-use Rattle.kt_text.specs.Words.{Text}
-use Rattle.kt_ninja.specs.Written.{GrowsByFront, Takes}
+use Rattle.kati.proofs.Common.{Text, GrowsByFront, Takes}
 use Rattle.kati.proofs.TellLemmas.{told_after, told_by, told_cut}
 use Rattle.kati.proofs.program.put_line.Goals as goal
 

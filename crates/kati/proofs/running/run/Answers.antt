@@ -1,5 +1,4 @@
-use Rattle.std.proofs.Common.{arith, refl, rules}
-use Rattle.kati.specs.Devices.{devices}
+use Rattle.kati.proofs.Common.{arith, refl, rules, devices}
 use Rattle.kati.specs.inner.Shown.{plan_view}
 use Rattle.kati.proofs.RunLemmas.{checked_leaves, written_leaves}
 use Rattle.kati.proofs.running.run.Goals as goal

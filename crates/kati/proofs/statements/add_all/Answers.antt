@@ -1,6 +1,5 @@
 use Rattle.std.proofs.Common.{◌≡◌, ◌∙◌, ◌∷◌, List, ap, fold, rules, sym}
-use Rattle.kt_text.specs.Words.{Text}
-use Rattle.kt_rules.specs.Names.{with_name}
+use Rattle.kati.proofs.Common.{Text, with_name}
 use Rattle.kati.proofs.statements.add_all.Goals as goal
 
 pub loop-name-preserved : goal.loop-name-preserved

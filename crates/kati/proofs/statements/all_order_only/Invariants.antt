@@ -1,6 +1,5 @@
 use Rattle.std.proofs.Common.{◌≡◌, drop, fold, flat_map}
-use Rattle.kt_rules.specs.Names.{with_name, without_repeats}
-use Rattle.kt_graph.specs.nodes.Node.{order_only_of}
+use Rattle.kati.proofs.Common.{with_name, without_repeats, order_only_of}
 use Rattle.kati.proofs.statements.all_order_only.Given as goal
 
 abbrev pub invariant-loop-node : goal.invariant-loop-node

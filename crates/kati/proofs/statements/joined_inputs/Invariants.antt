@@ -1,7 +1,5 @@
 use Rattle.std.proofs.Common.{◌≡◌, drop, fold, flat_map}
-use Rattle.kt_rules.specs.Names.{with_name}
-use Rattle.kt_graph.specs.nodes.Node.{inputs_of}
-use Rattle.kati.specs.Planning.{joined_inputs}
+use Rattle.kati.proofs.Common.{with_name, inputs_of, joined_inputs}
 use Rattle.kati.proofs.statements.joined_inputs.Given as goal
 
 abbrev pub invariant-loop-node : goal.invariant-loop-node

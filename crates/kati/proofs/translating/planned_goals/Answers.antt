@@ -1,8 +1,5 @@
-use Rattle.std.proofs.Common.{[], rules}
+use Rattle.kati.proofs.Common.{[], rules, traced, known_names, IsSoundGraph}
 use Rattle.std.proofs.lemmas.Result.{err_from_is_err_and}
-use Rattle.kt_eval.specs.reading.Machine.{traced}
-use Rattle.kt_graph.specs.Known.{known_names}
-use Rattle.kt_graph.specs.faults.Faults.{IsSoundGraph}
 use Rattle.kati.specs.inner.Shown.{plan_view}
 use Rattle.kati.specs.inner.Views.{found_view}
 use Rattle.kati.proofs.MeaningLemmas.{first_asks, seen_means, trouble_means}

@@ -1,6 +1,5 @@
 use Rattle.std.proofs.Common.{◌≡◌, List, rules, subst}
-use Rattle.kt_text.specs.Words.{Text}
-use Rattle.kt_graph.specs.Known.{known_names}
+use Rattle.kati.proofs.Common.{Text, known_names}
 use Rattle.kati.specs.inner.Stops.{IsFirstStop}
 use Rattle.kati.proofs.MeaningLemmas.{first_stop}
 use Rattle.kati.proofs.translating.sound_graph.Goals as goal

@@ -1,6 +1,4 @@
-use Rattle.std.proofs.Common.{map}
-use Rattle.std.specs.Prelude.{string_bytes}
-use Rattle.clap.specs.Words.{found_of, rows_of}
+use Rattle.kati_args.proofs.Common.{map, string_bytes, found_of, rows_of}
 use Rattle.kati_args.proofs.Answering.{answers_fault, answers_found}
 use Rattle.kati_args.proofs.asking.args_of.Goals as goal
 

@@ -1,7 +1,5 @@
-use Rattle.std.proofs.Common.{◌∙◌, ap, List, ℕ, [], Option, codes}
-use Rattle.clap.specs.Words.{found_of}
-use Rattle.std.specs.Prelude.{unwrap_or}
-use Rattle.clap.proofs.WalkLemmas.{raw_values-rows}
+use Rattle.std.proofs.Common.{◌∙◌, ap, List, ℕ, [], Option, codes, unwrap_or}
+use Rattle.kati_args.proofs.Common.{found_of, raw_values-rows}
 use Rattle.kati_args.proofs.asking.asked.Goals as goal
 
 pub asked_with-requires-clause-words : goal.asked_with-requires-clause-words

@@ -1,7 +1,5 @@
-use Rattle.std.proofs.Common.{◌∙◌, ap, sym, codes}
-use Rattle.std.specs.Prelude.{find, option_map, unwrap_or, Option, List, ℕ}
-use Rattle.clap.proofs.WalkLemmas.{first_value-rows}
-use Rattle.clap.specs.Words.{found_of, rows_of}
+use Rattle.std.proofs.Common.{◌∙◌, ap, sym, codes, find, option_map, unwrap_or, Option, List, ℕ}
+use Rattle.kati_args.proofs.Common.{first_value-rows, found_of, rows_of}
 use Rattle.kati_args.specs.Args.{goals_in, is_bad_macro, macros_in, number_in}
 use Rattle.kati_args.proofs.Answering.{answers_args, args_are}
 use Rattle.kati_args.proofs.asking.asked_with.Goals as goal

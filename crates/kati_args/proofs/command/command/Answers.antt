@@ -1,6 +1,5 @@
 use Rattle.std.proofs.Common.{◌≡◌, rules, ◌∙◌, ap₂, codes}
-use Rattle.std.proofs.lemmas.Result.{IfOk-weaker}
-use Rattle.clap.specs.Words.{app_of, new_app, with_rule}
+use Rattle.kati_args.proofs.Common.{IfOk-weaker, app_of, new_app, with_rule}
 use Rattle.kati_args.proofs.command.command.Goals as goal
 
 pub returns : goal.returns

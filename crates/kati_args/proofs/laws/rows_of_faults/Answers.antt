@@ -1,5 +1,4 @@
-use Rattle.std.proofs.Common.{refl}
-use Rattle.clap.proofs.OnLiterals.{clap_on_literals}
+use Rattle.kati_args.proofs.Common.{refl, clap_on_literals}
 use Rattle.kati_args.proofs.laws.rows_of_faults.Goals as goal
 
 pub returns : goal.returns

@@ -1,6 +1,4 @@
-use Rattle.std.proofs.Common.{refl}
-use Rattle.clap.proofs.OnLiterals.{clap_on_literals}
-use Rattle.kt_text.specs.Words.{is_separator}
+use Rattle.kati_args.proofs.Common.{refl, clap_on_literals, is_separator}
 use Rattle.kati_args.proofs.laws.rows_of_lines.Goals as goal
 
 pub returns : goal.returns

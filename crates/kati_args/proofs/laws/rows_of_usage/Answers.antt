@@ -1,6 +1,5 @@
 use Rattle.std.proofs.Common.{refl, [], ◌∷◌, codes}
-use Rattle.clap.proofs.OnLiterals.{clap_on_literals}
-use Rattle.clap.specs.declared.error.kind.ErrorKind.TheVariants.{InvalidValue, UnknownArgument, ValueValidation}
+use Rattle.kati_args.proofs.Common.{clap_on_literals, InvalidValue, UnknownArgument, ValueValidation}
 use Rattle.kati_args.specs.Rows.{line}
 use Rattle.kati_args.proofs.Answering.{usage_alone}
 use Rattle.kati_args.proofs.laws.rows_of_usage.Goals as goal

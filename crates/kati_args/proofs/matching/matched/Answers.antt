@@ -1,7 +1,5 @@
-use Rattle.std.proofs.Common.{◌≡◌, ◌∙◌, ap, map, refl, subst, true}
-use Rattle.std.proofs.lemmas.Result.{IfErr-weaker, IfOk-weaker}
-use Rattle.std.specs.Prelude.{string_bytes}
-use Rattle.clap.specs.Words.{App, FailsBy, fault_of, is_simple_and_free, takes}
+use Rattle.std.proofs.Common.{◌≡◌, ◌∙◌, ap, map, refl, subst, true, string_bytes}
+use Rattle.kati_args.proofs.Common.{IfErr-weaker, IfOk-weaker, App, FailsBy, fault_of, is_simple_and_free, takes}
 use Rattle.kati_args.proofs.Depths.{depth_passes}
 use Rattle.kati_args.proofs.Taking.{taken_where_found}
 use Rattle.kati_args.proofs.matching.matched.Goals as goal

@@ -1,5 +1,4 @@
-use Rattle.std.proofs.Common.{◌≡◌, drop, map}
-use Rattle.std.specs.Prelude.{find}
+use Rattle.std.proofs.Common.{◌≡◌, drop, map, find}
 use Rattle.kati_args.specs.Args.{is_bad_macro}
 use Rattle.kati_args.proofs.words.first_bad.Given as goal
 

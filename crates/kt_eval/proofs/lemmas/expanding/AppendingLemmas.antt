@@ -1,15 +1,6 @@
 -- A term's text is appended, with what needs no further level before the rest of it, and then the other terms.
 use Rattle.std.proofs.Common.{◌≡◌, ℕ, Bool, List, [], ◌∷◌, ◌++◌, refl, sym, ap, ◌∙◌, append-nil}
-use Rattle.kt_text.specs.Words.{Text}
-use Rattle.kt_syntax.specs.Terms.{Token}
-use Rattle.kt_eval.specs.declared.stop.Stop.{Stop}
-use Rattle.kt_eval.specs.declared.state.Left.TheVariants.{Nothing, Value, Whole}
-use Rattle.kt_eval.specs.files.Files.{Store}
-use Rattle.kt_eval.specs.State.{World}
-use Rattle.kt_eval.specs.Outcome.{Outcome, Gave, Stopped, then_do, done, left_of}
-use Rattle.kt_eval.specs.Step.{Step, GoesOn}
-use Rattle.kt_eval.specs.expanding.Expansion.{term_of, each_term}
-use Rattle.kt_eval.specs.expanding.Levels.{evaluator}
+use Rattle.kt_eval.proofs.Common.{Text, Token, Stop, Nothing, Value, Whole, Store, World, Outcome, Gave, Stopped, then_do, done, left_of, Step, GoesOn, term_of, each_term, evaluator}
 use Rattle.kt_eval.specs.inner.Plain.{put_by, left_by, appended}
 use Rattle.kt_eval.proofs.lemmas.EarlyLemmas.{Early, fails_then, stands}
 use Rattle.kt_eval.proofs.lemmas.expanding.PlainLemmas.{term_put, term_left, term_whole}

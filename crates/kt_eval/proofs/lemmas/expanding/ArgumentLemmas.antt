@@ -1,8 +1,6 @@
 -- The arguments of a call, byte by byte.
 use Rattle.std.proofs.Common.{◌≡◌, ℕ, ◌+◌, ◌-◌, ◌<◌, ◌≤◌, true, false, List, [], ◌∷◌, ◌++◌, Option, length, get_or, take, drop, refl, sym, ap, ◌∙◌, append_assoc, arith}
-use Rattle.std.proofs.lemmas.List.{take_more, drop_more, drop-append-le, drop_all, drop-take, length-take-le}
-use Rattle.kt_syntax.specs.declared.term.Mark.{Mark}
-use Rattle.kt_eval.specs.expanding.Calls.{arguments_from, cuts, one_less, nested}
+use Rattle.kt_eval.proofs.Common.{take_more, drop_more, drop-append-le, drop_all, drop-take, length-take-le, Mark, arguments_from, cuts, one_less, nested}
 
 -- the argument so far, with one more byte
 pub longer : (text : List ℕ) (start place : ℕ) → start ≤ place → place < length text → drop start (take (place + 1) text) ≡ drop start (take place text) ++ get_or text place 0 ∷ []

@@ -1,15 +1,7 @@
 -- The arguments of a balanced text.
 use Rattle.std.proofs.Common.{◌≡◌, ◌==◌, ◌≤◌, ◌+◌, ℕ, zero, suc, false, List, [], ◌∷◌, ◌++◌, Option, length, take, refl, sym, ap, subst, ◌∙◌, arith}
-use Rattle.std.specs.List.{All, join_with_byte}
-use Rattle.std.proofs.lemmas.List.Elements.{All-nil, All-cons}
+use Rattle.kt_eval.proofs.Common.{All, join_with_byte, All-nil, All-cons, take-append-le, take_all, Text, Mark, Byte, Parentheses, Braces, count_of, IsBalanced, count_no, opener, closer, arguments_of}
 use Rattle.std.proofs.lemmas.List.Sums.{sum_by-append}
-use Rattle.std.proofs.lemmas.List.{take-append-le, take_all}
-use Rattle.kt_text.specs.Words.{Text}
-use Rattle.kt_syntax.specs.declared.term.Mark.{Mark}
-use Rattle.kt_syntax.specs.declared.term.Mark.TheVariants.{Byte, Parentheses, Braces}
-use Rattle.kt_syntax.specs.Terms.{count_of, IsBalanced}
-use Rattle.kt_syntax.proofs.Closing.{count_no}
-use Rattle.kt_eval.specs.expanding.Calls.{opener, closer, arguments_of}
 use Rattle.kt_eval.specs.expanding.Arguments.{IsClosed, AreArguments}
 use Rattle.kt_eval.proofs.lemmas.expanding.SplitLemmas.{all_head, all_tail, others_length, are_arguments}
 

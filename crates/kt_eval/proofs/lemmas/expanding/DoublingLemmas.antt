@@ -1,16 +1,7 @@
 -- A text with each dollar doubled, expanded.
 use Rattle.std.proofs.Common.{◌≡◌, ◌==◌, ℕ, suc, Bool, true, false, [], ◌∷◌, ◌++◌, Some, take, refl, sym, ap, subst, ◌∙◌, append_assoc, append-nil, ⊎_elim}
-use Rattle.std.proofs.lemmas.Bool.{cases_Bool, eqb-true}
-use Rattle.kt_text.specs.Words.{Text}
-use Rattle.kt_syntax.specs.Terms.{dropped, terms_of, terms_after, first_term, after_dollar}
+use Rattle.kt_eval.proofs.Common.{cases_Bool, eqb-true, Text, dropped, terms_of, terms_after, first_term, after_dollar, set_by_makefile, doubled, Deferred, Store, World, found_of, Outcome, Gave, Evaluator, value_of, term_of, each_term, expanded, above, evaluator}
 use Rattle.kt_syntax.proofs.Runs.{run, run-no}
-use Rattle.kt_eval.specs.macros.Macros.{set_by_makefile, doubled}
-use Rattle.kt_eval.specs.declared.macros.Flavour.TheVariants.{Deferred}
-use Rattle.kt_eval.specs.files.Files.{Store}
-use Rattle.kt_eval.specs.State.{World, found_of}
-use Rattle.kt_eval.specs.Outcome.{Outcome, Gave}
-use Rattle.kt_eval.specs.expanding.Expansion.{Evaluator, value_of, term_of, each_term, expanded}
-use Rattle.kt_eval.specs.expanding.Levels.{above, evaluator}
 
 -- the expansion of what comes after a given number of bytes, whose expansion is known
 pub after : Evaluator → World → Text → ℕ → Text → Outcome World Text

@@ -1,9 +1,6 @@
 -- Bindings from the innermost on.
-use Rattle.std.proofs.Common.{◌≡◌, List, [], ◌∷◌, ◌++◌, Option, None, Some, option_map, Bor, refl, sym, ap, ◌∙◌, true≢false}
-use Rattle.std.specs.Prelude.{is_some}
-use Rattle.kt_text.specs.Words.{Text}
-use Rattle.kt_eval.specs.declared.state.Frame.{Frame}
-use Rattle.kt_eval.specs.State.{innermost, newer, seen}
+use Rattle.std.proofs.Common.{◌≡◌, List, [], ◌∷◌, ◌++◌, Option, None, Some, option_map, Bor, refl, sym, ap, ◌∙◌, true≢false, is_some}
+use Rattle.kt_eval.proofs.Common.{Text, Frame, innermost, newer, seen}
 
 -- one more binding inside the others comes first
 pub inner_first : (name : Text) (found : Option Text) (frames : List Frame) (frame : Frame)

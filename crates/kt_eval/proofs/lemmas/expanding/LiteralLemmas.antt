@@ -1,13 +1,7 @@
 -- A text without a dollar expands to itself.
 use Rattle.std.proofs.Common.{◌≡◌, false, ◌==◌, [], ◌∷◌, refl, sym, append-nil}
-use Rattle.std.proofs.lemmas.Bool.{or_parts}
-use Rattle.std.specs.List.{list_any}
-use Rattle.kt_text.specs.Words.{Text}
-use Rattle.kt_syntax.specs.Terms.{dropped, literal, count_of, terms_of}
+use Rattle.kt_eval.proofs.Common.{or_parts, list_any, Text, dropped, literal, count_of, terms_of, Evaluator, term_of, each_term, expanded, Gave, World}
 use Rattle.kt_syntax.proofs.Splitting.{terms_of-nil, term_first}
-use Rattle.kt_eval.specs.expanding.Expansion.{Evaluator, term_of, each_term, expanded}
-use Rattle.kt_eval.specs.Outcome.{Gave}
-use Rattle.kt_eval.specs.State.{World}
 
 uncounted : (text : Text) → list_any (λ byte. byte == 36) text ≡ false → count_of 36 text ≡ 0
 unfolding count_of

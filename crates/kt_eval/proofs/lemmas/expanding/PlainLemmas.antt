@@ -1,23 +1,7 @@
 -- What a term gives without a further level is its expansion.
-use Rattle.std.proofs.Common.{◌≡◌, ℕ, zero, suc, ◌+◌, Bool, true, false, not, ◌==◌, ◌&&◌, [], ◌∷◌, length, Option, Some, None, if◌then◌else◌, unwrap_or, refl, sym, ap, ◌∙◌, arith, true≢false}
-use Rattle.std.proofs.lemmas.Bool.{and_parts, eq-eqb, not-true}
-use Rattle.std.specs.Prelude.{is_some}
-use Rattle.std.specs.List.{list_all, list_any, position_or_len}
-use Rattle.kt_text.specs.Words.{Text, is_colon, is_separator}
-use Rattle.kt_syntax.specs.declared.term.Mark.{Mark}
-use Rattle.kt_syntax.specs.declared.term.Mark.TheVariants.{Byte, Parentheses, Braces}
-use Rattle.kt_syntax.specs.Terms.{Token, literal, dollar, reference, unclosed}
-use Rattle.kt_eval.specs.declared.macros.Flavour.{Flavour}
-use Rattle.kt_eval.specs.declared.macros.Flavour.TheVariants.{Deferred, Immediate}
-use Rattle.kt_eval.specs.declared.state.Found.{Found}
+use Rattle.std.proofs.Common.{◌≡◌, ℕ, zero, suc, ◌+◌, Bool, true, false, not, ◌==◌, ◌&&◌, [], ◌∷◌, length, Option, Some, None, if◌then◌else◌, unwrap_or, refl, sym, ap, ◌∙◌, arith, true≢false, is_some}
+use Rattle.kt_eval.proofs.Common.{and_parts, eq-eqb, not-true, list_all, list_any, position_or_len, Text, is_colon, is_separator, Mark, Byte, Parentheses, Braces, Token, literal, dollar, reference, unclosed, Flavour, Deferred, Immediate, Found, Nothing, Value, Whole, Store, World, lookup, Gave, refers, asked_of, asked_by, naming_of, Evaluator, flavoured, value_of, body_of, value_named, referred, term_of, above, evaluator}
 use Rattle.kt_eval.specs.declared.state.Left.{Left}
-use Rattle.kt_eval.specs.declared.state.Left.TheVariants.{Nothing, Value, Whole}
-use Rattle.kt_eval.specs.files.Files.{Store}
-use Rattle.kt_eval.specs.State.{World, lookup}
-use Rattle.kt_eval.specs.Outcome.{Gave}
-use Rattle.kt_eval.specs.expanding.Calls.{refers, asked_of, asked_by, naming_of}
-use Rattle.kt_eval.specs.expanding.Expansion.{Evaluator, flavoured, value_of, body_of, value_named, referred, term_of}
-use Rattle.kt_eval.specs.expanding.Levels.{above, evaluator}
 use Rattle.kt_eval.specs.inner.Plain.{is_plain, put_if, left_unless, put_of, still_deferred, is_name_byte, names_plainly, value_left, put_by, left_by}
 use Rattle.kt_eval.proofs.lemmas.expanding.LiteralLemmas.{stays}
 

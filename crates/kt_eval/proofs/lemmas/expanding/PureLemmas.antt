@@ -1,18 +1,8 @@
 -- A text expanded as a recipe is, to its end.
 use Rattle.std.proofs.Common.{◌≡◌, ℕ, List, [], Option, Result, Ok, Err, Vec, Global, refl, sym, arith, false}
-use Rattle.kt_text.specs.Words.{Text}
+use Rattle.kt_eval.proofs.Common.{Text, Frame, Stop, Store, IsPrefix, Table, World, frozen_world, AsksNothing, Outcome, Gave, Stopped, Gives, IfCut, leaving, left_of, told, GoesOn, BlamesBy, expanded, evaluator}
 use Rattle.kt_rules.specs.declared.place.Place.{Place}
-use Rattle.kt_eval.specs.declared.state.Frame.{Frame}
-use Rattle.kt_eval.specs.declared.stop.Stop.{Stop}
 use Rattle.kt_eval.specs.declared.stop.Stop.TheVariants as stops
-use Rattle.kt_eval.specs.files.Files.{Store}
-use Rattle.kt_list.specs.Prefixes.{IsPrefix}
-use Rattle.kt_eval.specs.macros.Macros.{Table}
-use Rattle.kt_eval.specs.State.{World, frozen_world}
-use Rattle.kt_eval.specs.Outcome.{AsksNothing, Outcome, Gave, Stopped, Gives, IfCut, leaving, left_of}
-use Rattle.kt_eval.specs.Step.{told, GoesOn, BlamesBy}
-use Rattle.kt_eval.specs.expanding.Expansion.{expanded}
-use Rattle.kt_eval.specs.expanding.Levels.{evaluator}
 use Rattle.kt_eval.specs.expanding.Pure.{Says, expanded_pure}
 
 in_the_end : (w : World) (outcome : Outcome World Text) → GoesOn w (left_of outcome) → IsPrefix w.said (left_of (leaving (λ w. w.said) outcome))

@@ -1,30 +1,11 @@
 -- Worked values of expansion, one by one: each is found by computing.
-use Rattle.std.specs.Prelude.{◌≡◌, [], ◌∷◌, Some, None, codes}
 use Rattle.kt_syntax.specs.declared.form.Operator.TheVariants as operator
-use Rattle.kt_eval.specs.declared.macros.Flavour.TheVariants.{Deferred, Immediate}
+use Rattle.kt_eval.proofs.Common.{Deferred, Immediate, assigning, keeps, defers, expands, set_by_makefile, Gave, Stopped, fault_at, asked_of, expanded, evaluator, computing, digits, is_separator, is_blank, words_of, list_text, is_percent, has_percent, pattern_front, pattern_back, is_between, stem_span, subst_of, patsubst_word, patsubst_of, number_of, word_of, joined_pairs, join_of, closing, after_dollar, first_term, terms_after, terms_of, find, put, doubled, seen, innermost, lookup, other_function, function_of, is_refused_function, arguments_from, arguments_of, asked_by, naming_of, text_function, value_of, each_argument, apply_text, apply_if, apply_or, apply_and, each_word, apply_foreach, called, call_by_name, apply_call, apply_value, apply_eval, apply_error, apply_warning, apply_info, apply, body_of, value_named, referred, term_of, each_term, above, none_left}
 use Rattle.kt_eval.specs.declared.macros.Origin.TheVariants.{CommandLine}
-use Rattle.kt_eval.specs.macros.Macros.{assigning, keeps, defers, expands, set_by_makefile}
-use Rattle.kt_eval.specs.Outcome.{Gave, Stopped}
-use Rattle.kt_eval.specs.Step.{fault_at}
-use Rattle.kt_eval.specs.expanding.Calls.{asked_of}
 use Rattle.kt_eval.specs.reading.Conditions.{compared_of}
-use Rattle.kt_eval.specs.expanding.Expansion.{expanded}
-use Rattle.kt_eval.specs.expanding.Levels.{evaluator}
-use Rattle.std.proofs.Common.{refl}
-use Rattle.bstr.proofs.Computing.{computing}
-use Rattle.std.specs.Fmt.{digits}
-use Rattle.kt_text.specs.Words.{is_separator, is_blank, words_of, list_text}
-use Rattle.kt_text.specs.Match.{is_percent, has_percent, pattern_front, pattern_back, is_between, stem_span}
-use Rattle.kt_text.specs.Functions.{subst_of, patsubst_word, patsubst_of, number_of, word_of, joined_pairs, join_of}
-use Rattle.kt_syntax.specs.Terms.{closing, after_dollar, first_term, terms_after, terms_of}
-use Rattle.kt_eval.specs.macros.Macros.{find, put, doubled}
-use Rattle.kt_eval.specs.State.{seen, innermost, lookup}
-use Rattle.kt_eval.specs.expanding.Calls.{other_function, function_of, is_refused_function, arguments_from, arguments_of, asked_by, naming_of}
-use Rattle.kt_text.specs.TextFunctions.{text_function}
+use Rattle.std.proofs.Common.{refl, ◌≡◌, [], ◌∷◌, Some, None, codes}
 use Rattle.kt_eval.specs.expanding.TextFunctions.{text_result}
 use Rattle.kt_eval.specs.reading.Conditions.{bare_place, in_parentheses, quoted, in_quotes}
-use Rattle.kt_eval.specs.expanding.Expansion.{value_of, each_argument, apply_text, apply_if, apply_or, apply_and, each_word, apply_foreach, called, call_by_name, apply_call, apply_value, apply_eval, apply_error, apply_warning, apply_info, apply, body_of, value_named, referred, term_of, each_term}
-use Rattle.kt_eval.specs.expanding.Levels.{above, none_left}
 use Rattle.kt_eval.specs.Rows.{comes_to, comes_to_at, deferred, immediate}
 
 pub undefined : comes_to [] 9 (codes "[$(A)]$$") ≡ Gave [] (codes "[]$")

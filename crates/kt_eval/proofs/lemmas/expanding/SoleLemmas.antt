@@ -1,15 +1,6 @@
 -- A text that is one reference to a value that needs no expansion is that value.
-use Rattle.std.proofs.Common.{◌≡◌, ◌==◌, ◌∙◌, ℕ, Bool, false, true, [], ◌∷◌, Option, Some, None, refl, sym, ap}
-use Rattle.std.specs.Prelude.{bytes_eq, IfSome}
-use Rattle.std.specs.List.{list_any}
-use Rattle.kt_text.specs.Words.{Text}
-use Rattle.kt_syntax.specs.declared.term.Mark.{Mark}
-use Rattle.kt_syntax.specs.Terms.{reference, terms_of}
-use Rattle.kt_eval.specs.files.Files.{Store}
-use Rattle.kt_eval.specs.State.{World, lookup}
-use Rattle.kt_eval.specs.Outcome.{Gave}
-use Rattle.kt_eval.specs.expanding.Expansion.{Evaluator, each_term, expanded, term_of}
-use Rattle.kt_eval.specs.expanding.Levels.{evaluator}
+use Rattle.std.proofs.Common.{◌≡◌, ◌==◌, ◌∙◌, ℕ, Bool, false, true, [], ◌∷◌, Option, Some, None, refl, sym, ap, bytes_eq, IfSome}
+use Rattle.kt_eval.proofs.Common.{list_any, Text, Mark, reference, terms_of, Store, World, lookup, Gave, Evaluator, each_term, expanded, term_of, evaluator}
 use Rattle.kt_eval.specs.reading.Conditions.{Compared}
 use Rattle.kt_eval.specs.reading.Conditionals.{are_equal}
 use Rattle.kt_eval.specs.inner.Plain.{names_plainly, put_of, still_deferred}

@@ -1,14 +1,6 @@
 -- The arguments of a call, each without the text before it.
 use Rattle.std.proofs.Common.{◌≡◌, ◌==◌, ◌&&◌, ◌≤◌, ◌+◌, ◌-◌, ℕ, zero, suc, true, false, List, [], ◌∷◌, ◌++◌, Option, Some, None, length, take, drop, get_or, refl, sym, ap, subst, ◌∙◌, append_assoc, append-nil, ⊎_elim, arith, if◌then◌else◌}
-use Rattle.std.proofs.lemmas.Bool.{cases_Bool, eqb-true, eq-eqb, and_from, and_parts, false_from_ne_true, true≢false, false≢true}
-use Rattle.std.specs.List.{All, join_with_byte, onto_first}
-use Rattle.std.proofs.lemmas.List.Elements.{All-nil, All-cons}
-use Rattle.kt_text.specs.Words.{Text}
-use Rattle.kt_syntax.specs.declared.term.Mark.{Mark}
-use Rattle.kt_syntax.specs.declared.term.Mark.TheVariants.{Byte, Parentheses, Braces}
-use Rattle.kt_syntax.specs.Terms.{count_of}
-use Rattle.kt_syntax.proofs.Closing.{count_yes, count_no, count_nil}
-use Rattle.kt_eval.specs.expanding.Calls.{opener, closer, may_cut, cuts, one_less, nested, arguments_from, arguments_of}
+use Rattle.kt_eval.proofs.Common.{cases_Bool, eqb-true, eq-eqb, and_from, and_parts, false_from_ne_true, true≢false, false≢true, All, join_with_byte, onto_first, All-nil, All-cons, Text, Mark, Byte, Parentheses, Braces, count_of, count_yes, count_no, count_nil, opener, closer, may_cut, cuts, one_less, nested, arguments_from, arguments_of}
 use Rattle.kt_eval.specs.expanding.Arguments.{IsClosed, HoldsNoCut, IsUpTo, AreArguments}
 
 -- the arguments of a text in which this many marks are open

@@ -1,11 +1,9 @@
 -- The map of the code and the table of the definitions.
-use Rattle.std.proofs.Common.{◌≡◌, ℕ, Bool, true, false, true≢false, cond, bytes_eq, List, [], ◌∷◌, Option, Some, None, option_map, is_some, Bor, refl, sym, ap}
-use Rattle.std.specs.Prelude.{nat_eq, option_copied}
+use Rattle.std.proofs.Common.{◌≡◌, ℕ, Bool, true, false, true≢false, cond, bytes_eq, List, [], ◌∷◌, Option, Some, None, option_map, is_some, Bor, refl, sym, ap, nat_eq, option_copied}
 use Rattle.std.specs.Cmp.Lexicographic.{pointwise}
 use Rattle.std.specs.Map.{lookup, set_value}
 use Rattle.indexmap.specs.IndexMap.{insert_entry}
-use Rattle.kt_eval.specs.declared.macros.Macro.{Macro}
-use Rattle.kt_eval.specs.macros.Macros.{Table, find, put}
+use Rattle.kt_eval.proofs.Common.{Macro, Table, find, put}
 
 -- what a reference shows is a copy of what it refers to
 pub seen : (r : Option (Bor Macro)) → option_map (λ m. m.now) r ≡ option_copied r

@@ -1,11 +1,7 @@
 -- The first place of a byte outside parentheses is found.
-use Rattle.std.proofs.Common.{◌≡◌, ◌==◌, ◌&&◌, ◌≤◌, ◌<◌, ◌-◌, ◌+◌, ℕ, zero, suc, true, false, [], ◌∷◌, Option, Some, None, length, take, refl, sym, ap, subst, ◌∙◌, arith, zero-add, ⊎_elim}
-use Rattle.std.proofs.lemmas.Bool.{and_from, and_parts, cases_Bool, eq-eqb, eqb-true, false≢true}
-use Rattle.std.specs.Prelude.{slice_index, MatchOption}
+use Rattle.std.proofs.Common.{◌≡◌, ◌==◌, ◌&&◌, ◌≤◌, ◌<◌, ◌-◌, ◌+◌, ℕ, zero, suc, true, false, [], ◌∷◌, Option, Some, None, length, take, refl, sym, ap, subst, ◌∙◌, arith, zero-add, ⊎_elim, slice_index, MatchOption}
+use Rattle.kt_eval.proofs.Common.{and_from, and_parts, cases_Bool, eq-eqb, eqb-true, false≢true, Text, count_of, Closes, after-close, after-open, after-other, closes-close, closes-open, closes-other, count_nil}
 use Rattle.kt_list.proofs.general.Numbers.{above_zero, sum_suc}
-use Rattle.kt_text.specs.Words.{Text}
-use Rattle.kt_syntax.specs.Terms.{count_of}
-use Rattle.kt_syntax.proofs.Closing.{Closes, after-close, after-open, after-other, closes-close, closes-open, closes-other, count_nil}
 use Rattle.kt_eval.specs.reading.Conditions.{bare_place}
 use Rattle.kt_eval.specs.reading.BarePlaces.{BarePlaceLaw, IsBare, IsFirstBare}
 

@@ -1,19 +1,8 @@
 -- A line that is blank only moves the place, and the next line moves it too.
-use Rattle.std.proofs.Common.{◌≡◌, ℕ, ◌+◌, ◌<◌, ◌≤◌, false, List, Some, arith, refl, sym, ap, ◌∙◌}
-use Rattle.std.specs.Prelude.{Err, IfOk, Ok, Result, unwrap_or}
-use Rattle.kt_eval.specs.declared.stop.Stop.{Stop}
-use Rattle.std.specs.List.{slice_get}
-use Rattle.kt_syntax.specs.Blocks.{Items, line}
-use Rattle.kt_syntax.specs.Kinds.{blank, line_kind}
-use Rattle.kt_syntax.specs.Reading.{ReadsOn, left_at}
+use Rattle.std.proofs.Common.{◌≡◌, ℕ, ◌+◌, ◌<◌, ◌≤◌, false, List, Some, arith, refl, sym, ap, ◌∙◌, Err, IfOk, Ok, Result, unwrap_or}
+use Rattle.kt_eval.proofs.Common.{Stop, slice_get, Items, line, blank, line_kind, ReadsOn, left_at, Source, File, Held, World, Gave, then_do, Evaluator, Raw, Sheet, at_line, at_number, line_at, read_items, read_kind, read_line}
 use Rattle.kt_syntax.specs.declared.step.Step.{Step as Found}
 use Rattle.kt_syntax.specs.declared.step.Step.TheVariants as step
-use Rattle.kt_eval.specs.declared.reading.page.Source.{Source}
-use Rattle.kt_eval.specs.declared.reading.page.Source.TheVariants.{File, Held}
-use Rattle.kt_eval.specs.State.{World}
-use Rattle.kt_eval.specs.Outcome.{Gave, then_do}
-use Rattle.kt_eval.specs.expanding.Expansion.{Evaluator}
-use Rattle.kt_eval.specs.reading.Reading.{Raw, Sheet, at_line, at_number, line_at, read_items, read_kind, read_line}
 use Rattle.kt_eval.specs.inner.Doing.{ReadsAlike}
 
 -- the last move counts

@@ -1,17 +1,7 @@
 -- A reading from its first line to its end.
 use Rattle.std.proofs.Common.{◌≡◌, ℕ, List, [], Result, Ok, Err, refl, sym, true}
-use Rattle.kt_text.specs.Words.{Text}
-use Rattle.kt_rules.specs.Entry.{Rule}
-use Rattle.kt_eval.specs.declared.stop.Stop.{Stop}
+use Rattle.kt_eval.proofs.Common.{Text, Rule, Stop, Store, Table, World, Frame, Outcome, Gave, Stopped, Gives, IfCut, leaving, left_of, then_do, told, asked_for, GoesOn, evaluator, read_first}
 use Rattle.kt_eval.specs.declared.stop.Stop.TheVariants as stops
-use Rattle.kt_eval.specs.files.Files.{Store}
-use Rattle.kt_eval.specs.macros.Macros.{Table}
-use Rattle.kt_eval.specs.State.{World}
-use Rattle.kt_eval.specs.declared.state.Frame.{Frame}
-use Rattle.kt_eval.specs.Outcome.{Outcome, Gave, Stopped, Gives, IfCut, leaving, left_of, then_do}
-use Rattle.kt_eval.specs.Step.{told, asked_for, GoesOn}
-use Rattle.kt_eval.specs.expanding.Levels.{evaluator}
-use Rattle.kt_eval.specs.reading.Reading.{read_first}
 use Rattle.kt_eval.specs.reading.Machine.{ComesBefore, Read, Trace, first_world, read_of, reading, trace_of, traced}
 use Rattle.kt_eval.proofs.lemmas.StepLemmas.{read_first_front}
 

@@ -1,16 +1,8 @@
 -- Reading the blocks of a page line by line is reading their tree.
 use Rattle.std.proofs.Common.{◌≡◌, ℕ, ◌+◌, ◌<◌, Bool, true, false, cond, List, Option, Some, None, refl, sym, ap, subst, ◌∙◌, arith}
-use Rattle.std.specs.List.{slice_get}
-use Rattle.kt_syntax.specs.Blocks.{Items, Branches, none, line, fault, definition, conditional, no_branch, branch, late}
+use Rattle.kt_eval.proofs.Common.{slice_get, Items, Branches, none, line, fault, definition, conditional, no_branch, branch, late, append, after_branches, left_at, AreTried, IsConditional, Fault, World, Outcome, Gave, Stopped, then_do, Step, Evaluator, Sheet, at_line, line_at, body_at, read_line, read_define, read_stray, late_else, branch_holds, read_items, read_branches}
 use Rattle.kt_syntax.specs.declared.step.Step.{Step as Found}
 use Rattle.kt_syntax.specs.declared.step.Step.TheVariants as step
-use Rattle.kt_syntax.specs.Reading.{append, after_branches, left_at, AreTried, IsConditional}
-use Rattle.kt_eval.specs.declared.fault.Fault.{Fault}
-use Rattle.kt_eval.specs.State.{World}
-use Rattle.kt_eval.specs.Outcome.{Outcome, Gave, Stopped, then_do}
-use Rattle.kt_eval.specs.Step.{Step}
-use Rattle.kt_eval.specs.expanding.Expansion.{Evaluator}
-use Rattle.kt_eval.specs.reading.Reading.{Sheet, at_line, line_at, body_at, read_line, read_define, read_stray, late_else, branch_holds, read_items, read_branches}
 
 -- a step longer by what comes after it
 then_more : {A B C : Type 0} (o : Outcome World A) (f : A → Step B) (g : B → Step C) (h : A → Step C)

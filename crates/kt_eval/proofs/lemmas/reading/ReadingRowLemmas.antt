@@ -1,38 +1,16 @@
 -- Worked readings of makefiles, one by one: each is found by computing.
-use Rattle.std.specs.Prelude.{◌≡◌, [], ◌∷◌, Some, None, codes}
-use Rattle.std.proofs.Common.{refl}
-use Rattle.bstr.proofs.Computing.{computing}
-use Rattle.std.specs.Fmt.{digits}
-use Rattle.kt_text.specs.Words.{is_separator, is_blank, words_of, list_text}
-use Rattle.kt_text.specs.Lines.{is_continued, groups, kept_of_last, kept_length, lines_from, logical_lines_of, nul_line, pieces_of, is_ended, condensed_line, condensed_rest, condensed_group, condensed_of}
-use Rattle.kt_text.specs.Match.{is_percent, has_percent, pattern_front, pattern_back, is_between, stem_span}
-use Rattle.kt_text.specs.Functions.{subst_of, findstring_of, strip_of, patsubst_word, patsubst_of, matches_word, filter_of, filter_out_of, word_set, sort_of, number_of, word_of, wordlist_of, words_count_of, firstword_of, lastword_of, dir_of, notdir_of, suffix_of, basename_of, addsuffix_of, addprefix_of, joined_pairs, join_of}
-use Rattle.kt_syntax.specs.Terms.{count_of, closing, after_dollar, first_term, terms_after, terms_of}
+use Rattle.std.proofs.Common.{refl, ◌≡◌, [], ◌∷◌, Some, None, codes}
+use Rattle.kt_eval.proofs.Common.{computing, digits, is_separator, is_blank, words_of, list_text, is_continued, groups, kept_of_last, kept_length, lines_from, logical_lines_of, nul_line, pieces_of, is_ended, condensed_line, condensed_rest, condensed_group, condensed_of, is_percent, has_percent, pattern_front, pattern_back, is_between, stem_span, subst_of, findstring_of, strip_of, patsubst_word, patsubst_of, matches_word, filter_of, filter_out_of, word_set, sort_of, number_of, word_of, wordlist_of, words_count_of, firstword_of, lastword_of, dir_of, notdir_of, suffix_of, basename_of, addsuffix_of, addprefix_of, joined_pairs, join_of, count_of, closing, after_dollar, first_term, terms_after, terms_of, before_comment, operator_of, name_end, assignment_parts, block_word, include_word, is_refused_word, directive_of, worded, kind_within, kind_of, uncommented, uncommented_of, joint_of, recipe_line, recipe_lines, recipe_of, head_end, colon_place, is_modifier, after_modifier, after_modifiers, is_target_specific, rule_texts, first_word, starts_condition, role_by_word, role_of, levels_from, left_at, find, put, assigning, doubled, seen, innermost, lookup, other_function, function_of, is_refused_function, arguments_from, arguments_of, asked_of, asked_by, naming_of, text_function, value_of, each_argument, apply_text, apply_if, apply_or, apply_and, each_word, apply_foreach, called, call_by_name, apply_call, apply_value, apply_eval, apply_error, apply_warning, apply_info, apply, body_of, value_named, referred, term_of, each_term, expanded, line_at, at_number, read_include, read_kind, read_bare_tab, read_tab, read_line, read_define, read_stray, late_else, branch_holds, read_end, read_sheet, read_text, read_held, read_file, read_bytes, included, read_first, read_items, read_branches, above, none_left, evaluator, fault_at}
 use Rattle.kt_syntax.specs.Mask.{more_masked, mask_from, mask_of}
-use Rattle.kt_syntax.specs.Kinds.{before_comment, operator_of, name_end, assignment_parts, block_word, include_word, is_refused_word, directive_of, worded, kind_within, kind_of}
-use Rattle.kt_syntax.specs.Comments.{uncommented, uncommented_of}
-use Rattle.kt_syntax.specs.Recipes.{joint_of, recipe_line, recipe_lines, recipe_of}
-use Rattle.kt_syntax.specs.Heads.{head_end, colon_place, is_modifier, after_modifier, after_modifiers, is_target_specific, rule_texts}
-use Rattle.kt_syntax.specs.Roles.{first_word, starts_condition, role_by_word, role_of}
 use Rattle.kt_syntax.specs.Parts.{part_of, after, parts_from, open_at_end}
 use Rattle.kt_syntax.specs.Steps.{step_of, places_after, ahead_of, steps_from}
-use Rattle.kt_syntax.specs.Blocks.{levels_from}
-use Rattle.kt_syntax.specs.Reading.{left_at}
-use Rattle.kt_eval.specs.macros.Macros.{find, put, assigning, doubled}
-use Rattle.kt_eval.specs.State.{seen, innermost, lookup}
-use Rattle.kt_eval.specs.expanding.Calls.{other_function, function_of, is_refused_function, arguments_from, arguments_of, asked_of, asked_by, naming_of}
-use Rattle.kt_text.specs.TextFunctions.{text_function}
 use Rattle.kt_eval.specs.expanding.TextFunctions.{text_result}
 use Rattle.kt_eval.specs.reading.Conditions.{bare_place, in_parentheses, quoted, in_quotes, compared_of}
-use Rattle.kt_eval.specs.expanding.Expansion.{value_of, each_argument, apply_text, apply_if, apply_or, apply_and, each_word, apply_foreach, called, call_by_name, apply_call, apply_value, apply_eval, apply_error, apply_warning, apply_info, apply, body_of, value_named, referred, term_of, each_term, expanded}
 use Rattle.kt_eval.specs.macros.Assignments.{assign, assign_named, assign_line, body_text, define}
 use Rattle.kt_eval.specs.reading.Conditionals.{is_set, is_defined, are_equal, holds, text_holds, else_holds, line_holds}
 use Rattle.kt_eval.specs.files.Including.{is_pattern, include_named, each_include, include_line}
 use Rattle.kt_eval.specs.reading.Rules.{enter_rule, close_rule, open_rule, rule_of_parts, rule_line}
-use Rattle.kt_eval.specs.reading.Reading.{line_at, at_number, read_include, read_kind, read_bare_tab, read_tab, read_line, read_define, read_stray, late_else, branch_holds, read_end, read_sheet, read_text, read_held, read_file, read_bytes, included, read_first, read_items, read_branches}
-use Rattle.kt_eval.specs.expanding.Levels.{above, none_left, evaluator}
 use Rattle.kt_eval.specs.reading.Machine.{with_default}
-use Rattle.kt_eval.specs.Step.{fault_at}
 use Rattle.kt_eval.specs.Rows.{heard, makefile, at_m}
 
 pub no_makefile : heard [] 9 ≡ ([], ((codes "m" ∷ []), Some (fault_at None 3 (codes "no makefile"))))

@@ -1,7 +1,5 @@
 use Rattle.std.proofs.Common.{◌≡◌, filter, fold, map}
-use Rattle.kt_text.specs.Words.{is_nonempty}
-use Rattle.kt_rules.specs.Names.{with_name, without_dots}
-use Rattle.kt_graph.specs.Known.{listed_names}
+use Rattle.kt_graph.proofs.Common.{is_nonempty, with_name, without_dots, listed_names}
 use Rattle.kt_graph.specs.inner.EndMarks.{with_end}
 use Rattle.kt_graph.proofs.known.add_listed.Given as goal
 

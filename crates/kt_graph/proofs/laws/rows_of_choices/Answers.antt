@@ -1,17 +1,5 @@
-use Rattle.std.proofs.Common.{refl}
-use Rattle.kt_graph.specs.Known.{listed_names, known_names}
-use Rattle.kt_graph.specs.search.Candidates.{stem_of, fit_of, needed_names, candidate_of, matching_from, candidates_for}
-use Rattle.kt_graph.specs.search.Search.{with_rule, fitting, asking, HasTree}
-use Rattle.kt_graph.specs.nodes.Node.{joined_needs, suffix_stem, node_of, inputs_of, order_only_of}
+use Rattle.kt_graph.proofs.Common.{refl, listed_names, known_names, stem_of, fit_of, needed_names, candidate_of, matching_from, candidates_for, with_rule, fitting, asking, HasTree, joined_needs, suffix_stem, node_of, inputs_of, order_only_of, parts_of, canon_of, cut_place, pieces_of, written_words, without_outer_separators, unquoted, after_dots, without_dots, name_of, without_repeats, is_wildcard, is_member, is_refused_name, is_without_effect, is_special, is_refused_target, start_suffixes, rules_of, recipes_of, explicit_rules, is_phony, first_goal_by, refusal_of, patterns_of, stemmed_names, stemmed_of, read_line, rule_of, is_separator, is_blank, words_of, list_text, is_percent, has_percent, pattern_front, pattern_back, is_between, stem_span, matches_from}
 use Rattle.kt_graph.specs.Goals.{named_goals, default_goals}
-use Rattle.kt_graph.specs.faults.Paths.{parts_of, canon_of}
-use Rattle.kt_rules.specs.Names.{cut_place, pieces_of, written_words, without_outer_separators, unquoted, after_dots, without_dots, name_of, without_repeats, is_wildcard, is_member, is_refused_name, is_without_effect, is_special, is_refused_target}
-use Rattle.kt_rules.specs.Suffixes.{start_suffixes}
-use Rattle.kt_rules.specs.Book.{rules_of, recipes_of, explicit_rules, is_phony, first_goal_by, refusal_of, patterns_of}
-use Rattle.kt_rules.specs.Entry.{stemmed_names, stemmed_of, read_line, rule_of}
-use Rattle.kt_text.specs.Words.{is_separator, is_blank, words_of, list_text}
-use Rattle.kt_text.specs.Match.{is_percent, has_percent, pattern_front, pattern_back, is_between, stem_span}
-use Rattle.memchr.specs.Find.{matches_from}
 use Rattle.kt_graph.proofs.laws.rows_of_choices.Goals as goal
 
 pub returns : goal.returns

@@ -1,5 +1,4 @@
-use Rattle.std.proofs.Common.{refl}
-use Rattle.kt_graph.specs.faults.Paths.{parts_of, canon_of}
+use Rattle.kt_graph.proofs.Common.{refl, parts_of, canon_of}
 use Rattle.kt_graph.proofs.laws.rows_of_paths.Goals as goal
 
 pub returns : goal.returns

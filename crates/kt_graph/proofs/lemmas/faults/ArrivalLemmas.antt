@@ -1,14 +1,6 @@
 -- Counts of edges to vertices, while vertices are removed.
 use Rattle.std.proofs.Common.{◌≡◌, ℕ, zero, suc, ◌+◌, ◌-◌, ◌<◌, ◌≤◌, Bool, true, false, not, ◌&&◌, ⊎_elim, if◌then◌else◌, List, [], ◌∷◌, ◌++◌, length, get_or, set, drop, replicate, flat_map, fold, cond, nat_eq, All, refl, sym, ap, ◌∙◌, subst, arith}
-use Rattle.std.specs.List.{Contains, range_with_len}
-use Rattle.std.proofs.lemmas.Bool.{cases_eq, cases_lt, eqb-true, eq-eqb, true≢false}
-use Rattle.std.proofs.lemmas.List.{append_assoc, drop_more, get_or_append_left, get_or-replicate, get_or-set_same, get_or-set_other, get_or_past, length-replicate, length-set, length_push, set_past}
-use Rattle.std.proofs.lemmas.List.Concat.{flat_map-append}
-use Rattle.std.proofs.lemmas.List.Sums.{fold-append, get_or-le-sum_by, sum_by-append, sum_by-cons, sum_by-set}
-use Rattle.kt_graph.specs.declared.faults.edges.Edges.{Edges}
-use Rattle.kt_graph.specs.Reach.{Leads, Reaches}
-use Rattle.kt_graph.specs.inner.faults.Arrivals.{AreCounted, IsLeftIn, LeavesCircular, arrivals_at, is_left, next_of_all, next_of_left, with_arrival, without_arrival}
-use Rattle.kt_graph.specs.inner.faults.Edges.{HasNext, LeadsBack, count_of, holds_in, next_of, rows_of, work_with}
+use Rattle.kt_graph.proofs.Common.{Contains, range_with_len, cases_eq, cases_lt, eqb-true, eq-eqb, true≢false, append_assoc, drop_more, get_or_append_left, get_or-replicate, get_or-set_same, get_or-set_other, get_or_past, length-replicate, length-set, length_push, set_past, flat_map-append, fold-append, get_or-le-sum_by, sum_by-append, sum_by-cons, sum_by-set, Edges, Leads, Reaches, AreCounted, IsLeftIn, LeavesCircular, arrivals_at, is_left, next_of_all, next_of_left, with_arrival, without_arrival, HasNext, LeadsBack, count_of, holds_in, next_of, rows_of, work_with, count_by}
 use Rattle.kt_graph.proofs.lemmas.MemberLemmas.{Contains-none}
 use Rattle.kt_graph.proofs.lemmas.faults.CircleLemmas.{Reaches-join, Reaches-step, has_within}
 

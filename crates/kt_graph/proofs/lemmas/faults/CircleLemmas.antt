@@ -1,13 +1,6 @@
 -- Paths through a graph, and those that lead back.
 use Rattle.std.proofs.Common.{◌≡◌, ℕ, Bool, true, false, ◌⊎◌, ⊎_elim, inl, inr, List, [], ◌∷◌, ◌++◌, length, map, get_or, take, drop, All, Vec, Global, ◌+◌, ◌<◌, ◌≤◌, refl, sym, ap, ◌∙◌, subst, arith}
-use Rattle.std.specs.List.{Contains}
-use Rattle.std.proofs.lemmas.Bool.{cases_lt, false≢true}
-use Rattle.std.proofs.lemmas.List.{drop_more, get_or_past, length-append, length-map, take-append-drop}
-use Rattle.std.proofs.lemmas.List.Elements.{Contains-push, Contains-push_cases, Contains-append_left}
-use Rattle.kt_graph.specs.declared.faults.edges.Edges.{Edges}
-use Rattle.kt_graph.specs.Reach.{Leads, Reaches}
-use Rattle.kt_graph.specs.inner.faults.Arrivals.{IsLeftIn, LeavesCircular}
-use Rattle.kt_graph.specs.inner.faults.Edges.{AreReversed, HasNext, HoldsCircular, IsDoneWith, IsFirstBack, LeadsBack, LeadsOn, Searches, Visits, count_of, holds_in, next_of, row_of, rows_held, rows_of}
+use Rattle.kt_graph.proofs.Common.{Contains, cases_lt, false≢true, drop_more, get_or_past, length-append, length-map, take-append-drop, Contains-push, Contains-push_cases, Contains-append_left, Edges, Leads, Reaches, IsLeftIn, LeavesCircular, AreReversed, HasNext, HoldsCircular, IsDoneWith, IsFirstBack, LeadsBack, LeadsOn, Searches, Visits, count_of, holds_in, next_of, row_of, rows_held, rows_of}
 use Rattle.kt_graph.proofs.lemmas.MemberLemmas.{Contains-none}
 
 -- a path continues

@@ -1,21 +1,7 @@
 -- The first name that depends on itself, from the first vertex that leads back to itself.
 use Rattle.std.proofs.Common.{◌≡◌, ℕ, ◌<◌, ⊎_elim, List, ◌∷◌, ◌++◌, length, All, sym, ap, ◌∙◌, subst}
-use Rattle.std.specs.List.{Contains}
-use Rattle.std.specs.List.Sorted.{IsStrictlySortedBy}
-use Rattle.std.specs.Ordering.{nat_cmp}
-use Rattle.std.specs.Cmp.Lexicographic.{slice_cmp}
-use Rattle.std.proofs.lemmas.List.{map-append}
-use Rattle.std.proofs.lemmas.List.Elements.{All-contains, Contains-append_right}
-use Rattle.kt_text.specs.Words.{Text}
-use Rattle.kt_rules.specs.Entry.{Rule}
-use Rattle.kt_graph.specs.declared.faults.edges.Edges.{Edges}
-use Rattle.kt_graph.specs.declared.nodes.node.Instance.{Instance as Held}
-use Rattle.kt_graph.specs.inner.nodes.Stored.{StoredNode}
-use Rattle.kt_graph.specs.inner.faults.Edges.{AreEdgesOf, IsFirstBack, LeadsBack}
-use Rattle.kt_graph.specs.Reach.{IsCyclic, IsFirst, IsGraph}
-use Rattle.kt_graph.specs.nodes.Views.{name_at, names_at, nodes_view}
+use Rattle.kt_graph.proofs.Common.{Contains, IsStrictlySortedBy, nat_cmp, slice_cmp, map-append, All-contains, Contains-append_right, Text, Rule, Edges, Instance as Held, StoredNode, AreEdgesOf, IsFirstBack, LeadsBack, IsCyclic, IsFirst, IsGraph, name_at, names_at, nodes_view, in_first}
 use Rattle.kt_graph.specs.inner.nodes.Graph.{IsWhole}
-use Rattle.kt_list.proofs.general.Elements.{in_first}
 use Rattle.kt_graph.proofs.lemmas.MemberLemmas.{Contains-map}
 use Rattle.kt_graph.proofs.lemmas.faults.TroubleLemmas.{in_cut, none_below}
 use Rattle.kt_graph.proofs.lemmas.nodes.WholeLemmas.{cyclic_back, is_cyclic, reached_number}

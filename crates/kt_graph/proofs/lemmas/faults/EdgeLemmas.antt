@@ -1,18 +1,6 @@
 -- Edges that are added one by one.
 use Rattle.std.proofs.Common.{◌≡◌, ◌↔◌, ℕ, zero, suc, ◌+◌, ◌-◌, ◌<◌, ◌≤◌, ◌⊎◌, ⊎_elim, inl, inr, List, [], ◌∷◌, ◌++◌, map, length, get_or, set, drop, take, Vec, Global, Option, None, Some, slice_get, All, IfSome, refl, sym, ap, ◌∙◌, subst, arith}
-use Rattle.std.specs.List.{Contains, range_with_len}
-use Rattle.std.specs.Option.{option_to_list}
-use Rattle.std.proofs.lemmas.Bool.{cases_eq, cases_lt}
-use Rattle.std.proofs.lemmas.List.{append-nil, drop_more, get_or-map, map-append, map-set, get_or-replicate, get_or-set_same, get_or-set_other, get_or_past, length-replicate, length-set, set_past, take_more}
-use Rattle.std.proofs.lemmas.List.Concat.{flat_map-append}
-use Rattle.std.proofs.lemmas.List.Elements.{All-contains, Contains-append_left, Contains-append_right, Contains-append_cases, Contains-push, Contains-push_cases}
-use Rattle.std.proofs.lemmas.List.FromFn.{map-range_with_len_more}
-use Rattle.std.proofs.lemmas.List.Sums.{fold-append}
-use Rattle.std.proofs.lemmas.Option.{none-some, same_Some}
-use Rattle.kt_graph.specs.declared.faults.edges.Edges.{Edges}
-use Rattle.kt_graph.specs.inner.nodes.Stored.{StoredNode, stored_at}
-use Rattle.kt_graph.specs.inner.faults.Edges.{AreMadeBelow, AreNeededBelow, HaveEdges, IsRepeated, LeadToVertices, HasNext, IsEdge, LeadsTo, bare_rows, count_of, edges_from, edges_to, making_edges, makings_edges, needed_numbers, numbers_after, one_at, row_by, row_of, rows_of, with_edge, with_edges}
-use Rattle.kt_list.proofs.general.Elements.{first_or_rest, in_first, in_rest}
+use Rattle.kt_graph.proofs.Common.{Contains, range_with_len, option_to_list, cases_eq, cases_lt, append-nil, drop_more, get_or-map, map-append, map-set, get_or-replicate, get_or-set_same, get_or-set_other, get_or_past, length-replicate, length-set, set_past, take_more, flat_map-append, All-contains, Contains-append_left, Contains-append_right, Contains-append_cases, Contains-push, Contains-push_cases, map-range_with_len_more, fold-append, none-some, same_Some, Edges, StoredNode, stored_at, AreMadeBelow, AreNeededBelow, HaveEdges, IsRepeated, LeadToVertices, HasNext, IsEdge, LeadsTo, bare_rows, count_of, edges_from, edges_to, making_edges, makings_edges, needed_numbers, numbers_after, one_at, row_by, row_of, rows_of, with_edge, with_edges, first_or_rest, in_first, in_rest}
 use Rattle.kt_graph.proofs.lemmas.MemberLemmas.{Contains-none, Contains-map, Contains-from_map, Contains-slice_get}
 
 -- the edges of vertices from a number on, reversed

@@ -1,17 +1,9 @@
 -- Files of made names, counted as they come.
 use Rattle.std.proofs.Common.{◌≡◌, ℕ, zero, suc, ◌+◌, Bool, true, false, not, ◌&&◌, cond, if◌then◌else◌, List, [], ◌∷◌, ◌++◌, length, map, filter, find, All, nat_eq, nat_lt, Option, None, Some, is_some, refl, sym, ap, ◌∙◌, subst, arith}
 use Rattle.std.specs.Map.{lookup, KeepsOthers}
-use Rattle.std.specs.Str.{bytes_eq}
-use Rattle.std.proofs.lemmas.Bool.{ne_eqb, lt-ltb}
-use Rattle.std.proofs.lemmas.Cmp.{nat_list_eq_equiv}
-use Rattle.std.proofs.lemmas.List.{append-nil, append_assoc, length-append}
-use Rattle.std.proofs.lemmas.List.Elements.{All-append, filter-append}
-use Rattle.std.proofs.lemmas.Slice.Eq.{bytes_eq-Decides}
-use Rattle.kt_text.specs.Words.{Text}
-use Rattle.kt_graph.specs.inner.faults.Files.{count_of, held_for, made_names, several_in}
+use Rattle.kt_graph.proofs.Common.{bytes_eq, ne_eqb, lt-ltb, nat_list_eq_equiv, append-nil, append_assoc, length-append, All-append, filter-append, bytes_eq-Decides, Text, held_for, made_names, several_in, Node, is_leaf, canon_of}
+use Rattle.kt_graph.specs.inner.faults.Files.{count_of}
 use Rattle.kt_graph.specs.nodes.Groups.{made_nodes}
-use Rattle.kt_graph.specs.nodes.Node.{Node, is_leaf}
-use Rattle.kt_graph.specs.faults.Paths.{canon_of}
 
 -- ---- what is held of files
 

@@ -1,11 +1,6 @@
 -- Marks of vertices that are removed.
 use Rattle.std.proofs.Common.{◌≡◌, ℕ, zero, suc, ◌+◌, ◌<◌, ◌≤◌, Bool, true, false, ⊎_elim, inl, inr, List, [], ◌∷◌, ◌++◌, length, get_or, set, take, cond, refl, sym, ap, ◌∙◌, arith}
-use Rattle.std.specs.List.{Contains}
-use Rattle.std.proofs.lemmas.Bool.{cases_eq, cases_lt, false≢true}
-use Rattle.std.proofs.lemmas.List.{get_or-set_same, get_or-set_other, get_or_past, set_past, length_push, take_more}
-use Rattle.std.proofs.lemmas.List.Elements.{Contains-push, Contains-push_cases, Contains-append_cases, Contains-append_left, Contains-append_right}
-use Rattle.std.proofs.lemmas.List.Sums.{sum_by-set}
-use Rattle.kt_graph.specs.inner.faults.Edges.{Visits, count_held, holds_in, work_with}
+use Rattle.kt_graph.proofs.Common.{Contains, cases_eq, cases_lt, false≢true, get_or-set_same, get_or-set_other, get_or_past, set_past, length_push, take_more, Contains-push, Contains-push_cases, Contains-append_cases, Contains-append_left, Contains-append_right, sum_by-set, Visits, count_held, holds_in, work_with}
 
 -- the mark of a vertex that is taken is removed
 pub taken_itself : (marks : List Bool) (place : ℕ) → holds_in (set marks place false) place ≡ false

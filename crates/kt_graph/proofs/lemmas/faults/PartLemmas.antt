@@ -1,13 +1,6 @@
 -- The components of a name, the last of them first, and the name that they spell.
 use Rattle.std.proofs.Common.{◌≡◌, ◌-◌, ◌≤◌, ◌==◌, Bool, true, false, not, if◌then◌else◌, fold, get_or, take, drop, List, [], ◌∷◌, ◌++◌, length, map, reverse, flat_map, Option, Some, None, refl, sym, ap, ◌∙◌, arith, MatchOption}
-use Rattle.std.specs.Borrow.{Bor}
-use Rattle.std.specs.List.{join_with_byte, slice_split}
-use Rattle.std.specs.Option.{option_to_list}
-use Rattle.std.specs.Str.{bytes_eq}
-use Rattle.std.proofs.lemmas.Bool.{false≢true}
-use Rattle.std.proofs.lemmas.List.{append-nil, map-append, reverse-append, nil_from_length, reverse-reverse, take_rest}
-use Rattle.kt_text.specs.Words.{Text}
-use Rattle.kt_graph.specs.faults.Paths.{above_name, canon_of, ends_in_name, is_rooted, parts_of, step_up, with_part}
+use Rattle.kt_graph.proofs.Common.{Bor, join_with_byte, slice_split, option_to_list, bytes_eq, false≢true, append-nil, map-append, reverse-append, nil_from_length, reverse-reverse, take_rest, Text, above_name, canon_of, ends_in_name, is_rooted, parts_of, step_up, with_part}
 
 -- components as they are held
 abbrev pub told : List (Bor Text) → List Text

@@ -1,15 +1,6 @@
 -- What holds of all names of a graph holds of the names of its nodes.
 use Rattle.std.proofs.Common.{◌≡◌, ◌<◌, ℕ, false, ◌||◌, not, List, [], ◌∷◌, length, All, Option, None, Some, option_map, refl, ap, ◌∙◌, slice_get, arith}
-use Rattle.std.specs.List.{Contains, cons_option, list_any}
-use Rattle.std.proofs.lemmas.List.Elements.{All-cons, All-filter, All-head, All-map, All-tail}
-use Rattle.kt_text.specs.Words.{Text}
-use Rattle.kt_graph.specs.declared.nodes.node.Instance.{Instance as Held}
-use Rattle.kt_graph.specs.faults.Paths.{canon_of, is_reserved}
-use Rattle.kt_graph.specs.inner.faults.Files.{made_names}
-use Rattle.kt_graph.specs.inner.nodes.Stored.{StoredNode}
-use Rattle.kt_graph.specs.nodes.Node.{Node, is_leaf}
-use Rattle.kt_graph.specs.nodes.Views.{name_at, node_view, nodes_view}
-use Rattle.kt_list.proofs.general.Elements.{in_first, in_rest}
+use Rattle.kt_graph.proofs.Common.{Contains, cons_option, list_any, All-cons, All-filter, All-head, All-map, All-tail, Text, Instance as Held, canon_of, is_reserved, made_names, StoredNode, Node, is_leaf, name_at, node_view, nodes_view, in_first, in_rest}
 
 pub of_nodes : (P : Text → Type 0) (names : List Text) (instances : List Held) (nodes : List StoredNode)
     → ((number : ℕ) → number < length names → P (name_at names number))

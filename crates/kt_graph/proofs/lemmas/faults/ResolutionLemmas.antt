@@ -1,13 +1,6 @@
 -- What remains of a name's components, in whatever order they are removed.
 use Rattle.std.proofs.Common.{◌≡◌, ◌⊎◌, ⊎_elim, inl, inr, ℕ, zero, suc, Bool, true, false, not, if◌then◌else◌, fold, List, [], ◌∷◌, ◌++◌, reverse, replicate, All, refl, sym, ap, ◌∙◌, subst, arith}
-use Rattle.std.specs.Str.{bytes_eq}
-use Rattle.std.proofs.lemmas.List.{append-nil, append_assoc, reverse-append, reverse-reverse}
-use Rattle.std.proofs.lemmas.List.Elements.{All-cons, All-head, All-nil, All-push, All-tail}
-use Rattle.std.proofs.lemmas.List.Sums.{fold-append}
-use Rattle.std.proofs.lemmas.Slice.Eq.{bytes_eq-Decides}
-use Rattle.kt_text.specs.Words.{Text}
-use Rattle.kt_graph.specs.faults.Paths.{above_name, is_idle, is_rooted, parts_of, step_up, with_part}
-use Rattle.kt_graph.specs.Reach.{Leads, Reaches}
+use Rattle.kt_graph.proofs.Common.{bytes_eq, append-nil, append_assoc, reverse-append, reverse-reverse, All-cons, All-head, All-nil, All-push, All-tail, fold-append, bytes_eq-Decides, Text, above_name, is_idle, is_rooted, parts_of, step_up, with_part, Leads, Reaches}
 use Rattle.kt_graph.specs.faults.Resolution.{Cancels, IsComponent, IsReduced, IsResolution, MayGo, components}
 use Rattle.kt_graph.proofs.lemmas.faults.CircleLemmas.{Reaches-join, Reaches-none, Reaches-step}
 use Rattle.kt_graph.proofs.lemmas.faults.PartLemmas.{above_stays, name_taken}

@@ -1,16 +1,8 @@
 -- Names that are the canonical spelling of their file.
 use Rattle.std.proofs.Common.{◌≡◌, ℕ, ◌+◌, ◌==◌, ◌&&◌, Bool, true, false, fold, take, drop, List, [], ◌∷◌, ◌++◌, reverse, Some, None, refl, sym, ap, ◌∙◌, arith, bytes_eq}
-use Rattle.std.specs.List.{join_with_byte, slice_split, list_all, position_or_len}
-use Rattle.std.proofs.lemmas.Bool.{eqb-true, false≢true, false_from_ne_true}
-use Rattle.std.proofs.lemmas.List.Elements.{All-from_get_or}
-use Rattle.std.proofs.lemmas.List.{append-nil, append_assoc, reverse-append}
+use Rattle.kt_graph.proofs.Common.{join_with_byte, slice_split, list_all, position_or_len, eqb-true, false≢true, false_from_ne_true, All-from_get_or, append-nil, append_assoc, reverse-append, IsFirstByte, is_byte, and_first, and_second, Text, first_byte_place, canon_of, parts_of, is_idle, is_rooted, above_name, with_part}
 use Rattle.std.proofs.lemmas.List.Splits.{join_with_byte-slice_split, slice_split_first, slice_split_none}
-use Rattle.memchr.specs.Find.{IsFirstByte, is_byte}
-use Rattle.kt_list.proofs.general.Booleans.{and_first, and_second}
-use Rattle.kt_text.specs.Words.{Text}
-use Rattle.kt_text.proofs.PlaceLemmas.{first_byte_place}
 use Rattle.kt_graph.specs.inner.faults.Spelling.{has_names_only, is_name}
-use Rattle.kt_graph.specs.faults.Paths.{canon_of, parts_of, is_idle, is_rooted, above_name, with_part}
 
 abbrev is_slash : ℕ → Bool
 is_slash byte = byte == 47

@@ -1,31 +1,10 @@
 -- What is wrong with a graph, from its nodes.
 use Rattle.std.proofs.Common.{◌≡◌, ◌<◌, Bool, true, false, not, ◌||◌, cond, ◌⊎◌, ⊎_elim, List, [], ◌∷◌, ◌++◌, length, map, filter, find, All, Option, None, Some, option_map, refl, sym, ap, ◌∙◌, subst, arith}
-use Rattle.std.specs.List.{Contains, list_any}
-use Rattle.std.specs.List.Sorted.{IsStrictlySortedBy}
-use Rattle.std.specs.Ordering.{nat_cmp, is_eq}
-use Rattle.std.specs.Option.{option_map_or}
-use Rattle.std.specs.declared.cmp.Ordering.{Ordering}
-use Rattle.std.specs.declared.cmp.Ordering.TheVariants.{Less}
-use Rattle.std.specs.Cmp.Lexicographic.{slice_cmp}
-use Rattle.std.specs.Str.{bytes_eq}
-use Rattle.std.proofs.lemmas.Bool.{false≢true, true≢false, lt-ltb, ltb-true}
-use Rattle.std.proofs.lemmas.Cmp.{nat_list_cmp_total, tied_itself}
-use Rattle.std.proofs.lemmas.List.{length-map}
-use Rattle.std.proofs.lemmas.List.Elements.{All-contains, All-filter, All-map, recursion_from_All}
-use Rattle.std.proofs.lemmas.Map.Keys.{sorted_tail}
-use Rattle.std.proofs.lemmas.Map.Views.{All-after_first}
-use Rattle.std.proofs.lemmas.Option.{none-some, same_Some}
-use Rattle.std.proofs.lemmas.Slice.Eq.{bytes_eq-Decides}
-use Rattle.kt_text.specs.Words.{Text}
-use Rattle.kt_rules.specs.Entry.{Rule}
+use Rattle.kt_graph.proofs.Common.{Contains, list_any, IsStrictlySortedBy, nat_cmp, is_eq, option_map_or, Ordering, Less, slice_cmp, bytes_eq, false≢true, true≢false, lt-ltb, ltb-true, nat_list_cmp_total, tied_itself, length-map, All-contains, All-filter, All-map, recursion_from_All, sorted_tail, All-after_first, none-some, same_Some, bytes_eq-Decides, Text, Rule, is_repeated, made_names, Node, is_leaf, node_of, canon_of, is_reserved, ComesFirst, IsCyclic, IsDoubled, IsFirst, IsGraph, IsMade, IsReached, IsReserved, Trouble, no_rule, circular, reserved_name, one_file, is_unmade, unmade_goal, first_or_rest, in_first, in_rest}
 use Rattle.kt_graph.specs.faults.Faults.{IsFileTrouble}
-use Rattle.kt_graph.specs.inner.faults.Files.{count_of, is_repeated, made_names}
+use Rattle.kt_graph.specs.inner.faults.Files.{count_of}
 use Rattle.kt_graph.specs.nodes.Groups.{made_nodes}
-use Rattle.kt_graph.specs.nodes.Node.{Node, is_leaf, node_of}
-use Rattle.kt_graph.specs.faults.Paths.{canon_of, is_reserved}
-use Rattle.kt_graph.specs.Reach.{ComesFirst, IsCyclic, IsDoubled, IsFirst, IsGraph, IsMade, IsReached, IsReserved, Trouble, no_rule, circular, reserved_name, one_file, is_unmade, unmade_goal}
 use Rattle.kt_graph.specs.inner.nodes.Graph.{makes_among}
-use Rattle.kt_list.proofs.general.Elements.{first_or_rest, in_first, in_rest}
 use Rattle.kt_graph.proofs.lemmas.MemberLemmas.{Contains-from_map, Contains-map, Contains-none}
 
 abbrev order : Text → Text → Ordering

@@ -1,31 +1,10 @@
 -- One more name gets its node, from the goals on to the last of all.
 use Rattle.std.proofs.Common.{◌≡◌, ℕ, suc, zero, Bool, true, false, ◌+◌, ◌-◌, ◌<◌, ◌≤◌, if◌then◌else◌, List, [], ◌∷◌, ◌++◌, length, map, fold, take, drop, get_or, Option, Some, None, slice_get, unwrap_or, Contains, All, refl, sym, ap, subst, ◌∙◌, arith, ◌⊎◌, inl, inr, ⊎_elim}
-use Rattle.std.specs.Option.{option_map}
-use Rattle.std.proofs.lemmas.List.{length-append, length_push, take-append-drop}
-use Rattle.std.proofs.lemmas.List.Elements.{All-nil, All-cons, All-weaker, All-contains_itself}
-use Rattle.std.proofs.lemmas.Option.{none-some, slice_get_within, slice_get-get_or, get_or_from_slice_get}
-use Rattle.kt_text.specs.Words.{Text}
+use Rattle.kt_graph.proofs.Common.{option_map, length-append, length_push, take-append-drop, All-nil, All-cons, All-weaker, All-contains_itself, none-some, slice_get_within, slice_get-get_or, get_or_from_slice_get, Text, Target, explicit_rules, Rule, with_name, GraphBuilder, Instance as Held, NodeKind, StoredPart, StoredNode, Candidate, needed_by, Node, Part, all_inputs, node_by, node_of, HasNumbers, IsMaking, IsNumbered, IsStoredAs, SaysNode, SaysPart, SayParts, StandFor, AreBelow, IsReached, AllSay, AreTold, BuildsNode, IsBegun, IsDone, IsOver, reached_text, instance_at, instance_view, name_at, names_at, part_view}
 use Rattle.kt_rules.specs.declared.entry.RecipeLine.{RecipeLine}
-use Rattle.kt_rules.specs.declared.entry.Target.{Target}
-use Rattle.kt_rules.specs.Book.{explicit_rules}
-use Rattle.kt_rules.specs.Entry.{Rule}
-use Rattle.kt_rules.specs.Names.{with_name}
-use Rattle.kt_graph.specs.declared.nodes.graph_builder.GraphBuilder.{GraphBuilder}
-use Rattle.kt_graph.specs.declared.nodes.node.Instance.{Instance as Held}
-use Rattle.kt_graph.specs.declared.nodes.node.NodeKind.{NodeKind}
 use Rattle.kt_graph.specs.declared.nodes.reached_name.ReachedName.{ReachedName}
 use Rattle.kt_graph.specs.inner.nodes.Stems.{stem_in}
-use Rattle.kt_graph.specs.inner.nodes.Stored.{StoredPart}
-use Rattle.kt_graph.specs.inner.nodes.Stored.{StoredNode}
-use Rattle.kt_graph.specs.search.Candidates.{Candidate}
-use Rattle.kt_graph.specs.inner.nodes.Needed.{needed_by}
-use Rattle.kt_graph.specs.nodes.Node.{Instance, Node, Part, all_inputs, node_by, node_of}
-use Rattle.kt_graph.specs.inner.nodes.Numbering.{HasNumbers, IsMaking, IsNumbered, IsStoredAs, SaysNode, SaysPart, SayParts, StandFor}
-use Rattle.kt_list.specs.Names.{AreBelow}
-use Rattle.kt_graph.specs.Reach.{IsReached}
-use Rattle.kt_graph.specs.inner.nodes.GraphBuilder.{AllSay, AreTold, BuildsNode, IsBegun, IsDone, IsOver}
-use Rattle.kt_graph.specs.inner.nodes.Reached.{reached_text}
-use Rattle.kt_graph.specs.nodes.Views.{instance_at, instance_view, name_at, names_at, part_view}
+use Rattle.kt_graph.specs.nodes.Node.{Instance}
 use Rattle.kt_graph.proofs.lemmas.nodes.NumberLemmas.{names_grow, parts_kept, place_kept}
 use Rattle.kt_graph.proofs.lemmas.nodes.StepLemmas.{over_kept}
 use Rattle.kt_graph.proofs.lemmas.nodes.ReachLemmas.{goal_reached, inputs_all, reached_all, reached_on, reached_only, reached_stays}

@@ -1,21 +1,7 @@
 -- The rule whose recipe is used, with those before and after it, and what rules need together.
 use Rattle.std.proofs.Common.{◌≡◌, ℕ, suc, zero, Bool, true, false, not, cond, ◌+◌, ◌-◌, ◌<◌, ◌≤◌, List, [], ◌∷◌, ◌++◌, length, map, filter, fold, take, drop, get_or, Option, Some, None, refl, sym, ap, ◌∙◌, arith, rules}
-use Rattle.std.specs.List.{before_last, after_last, last_or, suffix_len}
-use Rattle.std.proofs.lemmas.List.{append-nil, append_assoc, drop_at, get_or-append_right, get_or_at, length-append, length-take, length_push, map-append, take-append-drop, take_all, take_at, take_more, take_rest}
-use Rattle.std.proofs.lemmas.List.Concat.{flat_map-append}
-use Rattle.std.proofs.lemmas.List.Elements.{filter-append}
-use Rattle.std.proofs.lemmas.List.Sums.{fold-append, suffix_len_is}
+use Rattle.kt_graph.proofs.Common.{before_last, after_last, last_or, suffix_len, append-nil, append_assoc, drop_at, get_or-append_right, get_or_at, length-append, length-take, length_push, map-append, take-append-drop, take_all, take_at, take_more, take_rest, flat_map-append, filter-append, fold-append, suffix_len_is, Needs, Target, Rule, needs_for, no_needs, with_name, all_needs, Text, has_recipe, OrderOnly, Prerequisite, joined_after, needed_as, needed_by_parts, rules_needs, Part, joined_needs, needs_after, other_rules}
 use Rattle.kt_rules.specs.declared.book.target_rule.TargetRule.{TargetRule}
-use Rattle.kt_rules.specs.declared.entry.Needs.{Needs}
-use Rattle.kt_rules.specs.declared.entry.Target.{Target}
-use Rattle.kt_rules.specs.Entry.{Rule, needs_for, no_needs}
-use Rattle.kt_rules.specs.Names.{with_name}
-use Rattle.kt_rules.specs.Suffixes.{all_needs}
-use Rattle.kt_text.specs.Words.{Text}
-use Rattle.kt_rules.specs.Book.{has_recipe}
-use Rattle.kt_graph.specs.declared.nodes.needing.Sort.TheVariants.{OrderOnly, Prerequisite}
-use Rattle.kt_graph.specs.inner.nodes.Needed.{joined_after, needed_as, needed_by_parts, rules_needs}
-use Rattle.kt_graph.specs.nodes.Node.{Part, joined_needs, needs_after, other_rules}
 
 -- ---- the last that passes
 

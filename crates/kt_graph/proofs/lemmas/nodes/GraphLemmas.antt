@@ -1,28 +1,7 @@
 -- A graph of the nodes of all reached names.
 use Rattle.std.proofs.Common.{◌≡◌, ℕ, ◌<◌, Bool, true, ⊎_elim, List, [], ◌∷◌, ◌++◌, length, get_or, map, find, Option, None, Some, option_map, slice_get, refl, sym, ap, ◌∙◌, subst}
-use Rattle.std.specs.List.{Contains, cons_option, list_any, position}
-use Rattle.std.specs.List.Sorted.{IsStrictlySortedBy}
-use Rattle.std.specs.Ordering.{nat_cmp}
-use Rattle.std.specs.Cmp.Lexicographic.{slice_cmp}
-use Rattle.std.specs.Str.{bytes_eq}
-use Rattle.std.proofs.lemmas.Bool.{cases_order, false≢true}
-use Rattle.std.proofs.lemmas.List.{map-append}
-use Rattle.std.proofs.lemmas.List.Elements.{All-contains, All-head, All-tail}
+use Rattle.kt_graph.proofs.Common.{Contains, cons_option, list_any, position, IsStrictlySortedBy, nat_cmp, slice_cmp, bytes_eq, cases_order, false≢true, map-append, All-contains, All-head, All-tail, get_or_from_slice_get, slice_get_within, bytes_eq-Decides, at_place, Text, Rule, Instance as Held, StoredNode, needed_numbers, AreDistinct, Node, all_inputs, inputs_of, node_of, AreBelow, HasInput, IsGraph, IsReached, Leads, instance_view, name_at, names_at, node_at, node_view, nodes_view, IsDone}
 use Rattle.std.proofs.lemmas.List.Quantifiers.{position-Some}
-use Rattle.std.proofs.lemmas.Option.{get_or_from_slice_get, slice_get_within}
-use Rattle.std.proofs.lemmas.Slice.Eq.{bytes_eq-Decides}
-use Rattle.kt_list.proofs.general.Places.{at_place}
-use Rattle.kt_text.specs.Words.{Text}
-use Rattle.kt_rules.specs.Entry.{Rule}
-use Rattle.kt_graph.specs.declared.nodes.node.Instance.{Instance as Held}
-use Rattle.kt_graph.specs.inner.nodes.Stored.{StoredNode}
-use Rattle.kt_graph.specs.inner.faults.Edges.{needed_numbers}
-use Rattle.kt_graph.specs.inner.faults.Files.{AreDistinct}
-use Rattle.kt_graph.specs.nodes.Node.{Node, all_inputs, inputs_of, node_of}
-use Rattle.kt_list.specs.Names.{AreBelow}
-use Rattle.kt_graph.specs.Reach.{HasInput, IsGraph, IsReached, Leads}
-use Rattle.kt_graph.specs.nodes.Views.{instance_view, name_at, names_at, node_at, node_view, nodes_view}
-use Rattle.kt_graph.specs.inner.nodes.GraphBuilder.{IsDone}
 use Rattle.kt_graph.specs.inner.nodes.Graph.{AreDifferent, IsWhole}
 use Rattle.kt_graph.proofs.lemmas.MemberLemmas.{Contains-from_map, Contains-map, Contains-slice_get, slice_get-Contains}
 use Rattle.kt_graph.proofs.lemmas.nodes.NodeLemmas.{inputs_are, others_are}

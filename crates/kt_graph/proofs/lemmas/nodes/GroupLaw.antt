@@ -1,22 +1,8 @@
 -- The groups of a graph are the names that one making makes.
 use Rattle.std.proofs.Common.{◌≡◌, ◌↔◌, Bool, true, false, ◌||◌, ◌⊎◌, ⊎_elim, inl, inr, cond, List, [], ◌∷◌, map, filter, find, All, Option, None, Some, refl, sym, ap, ◌∙◌, subst}
-use Rattle.std.specs.List.{Contains}
-use Rattle.std.specs.List.Sorted.{IsStrictlySortedBy}
-use Rattle.std.specs.Option.{option_map_or}
-use Rattle.std.specs.Ordering.{nat_cmp}
-use Rattle.std.specs.declared.cmp.Ordering.{Ordering}
-use Rattle.std.specs.Cmp.Lexicographic.{slice_cmp}
-use Rattle.std.specs.Str.{bytes_eq}
-use Rattle.std.proofs.lemmas.Bool.{false≢true, or_cases}
-use Rattle.std.proofs.lemmas.List.Elements.{All-map}
-use Rattle.std.proofs.lemmas.Option.{none-some, same_Some}
-use Rattle.std.proofs.lemmas.Slice.Eq.{bytes_eq-Decides}
-use Rattle.kt_list.proofs.general.Booleans.{equal_when}
-use Rattle.kt_text.specs.Words.{Text}
-use Rattle.kt_rules.specs.Entry.{Rule}
+use Rattle.kt_graph.proofs.Common.{Contains, IsStrictlySortedBy, option_map_or, nat_cmp, Ordering, slice_cmp, bytes_eq, false≢true, or_cases, All-map, none-some, same_Some, bytes_eq-Decides, equal_when, Text, Rule, Node, is_leaf, node_of, AreOneMaking, IsGraph, IsInGroup, IsReached, beside, itself}
 use Rattle.kt_graph.specs.nodes.Groups.{AreGroups, HasBoth, IsInOne, are_together, groups_among, is_leading, is_one_making, leader_name, made_nodes}
-use Rattle.kt_graph.specs.nodes.Node.{Instance, Node, is_leaf, node_of}
-use Rattle.kt_graph.specs.Reach.{AreOneMaking, IsGraph, IsInGroup, IsReached, beside, itself}
+use Rattle.kt_graph.specs.nodes.Node.{Instance}
 use Rattle.kt_graph.proofs.lemmas.nodes.GroupLemmas.{one_itself, one_same}
 use Rattle.kt_graph.proofs.lemmas.nodes.MadeLemmas.{found_in}
 use Rattle.kt_graph.proofs.lemmas.MemberLemmas.{Contains-from_map, Contains-map}

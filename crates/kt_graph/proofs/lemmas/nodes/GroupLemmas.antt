@@ -1,11 +1,8 @@
 -- When two makings are equal.
 use Rattle.std.proofs.Common.{◌≡◌, ℕ, true, nat_eq, Option, None, Some, refl, ap, ◌∙◌}
-use Rattle.std.specs.Str.{bytes_eq}
-use Rattle.std.proofs.lemmas.Bool.{and_from, and_parts, eq-eqb, eqb-true, false≢true}
-use Rattle.std.proofs.lemmas.Slice.Eq.{bytes_eq-Decides}
-use Rattle.kt_text.specs.Words.{Text}
+use Rattle.kt_graph.proofs.Common.{bytes_eq, and_from, and_parts, eq-eqb, eqb-true, false≢true, bytes_eq-Decides, Text, of_group, of_pattern}
 use Rattle.kt_graph.specs.nodes.Groups.{instance_eq, is_one_making}
-use Rattle.kt_graph.specs.nodes.Node.{Instance, of_group, of_pattern}
+use Rattle.kt_graph.specs.nodes.Node.{Instance}
 
 instance_same : (one other : Instance) → instance_eq one other ≡ true → one ≡ other
 instance_same (of_group first) (of_group other) e = ap (λ (name : Text). of_group name) ((bytes_eq-Decides first other).0 e)

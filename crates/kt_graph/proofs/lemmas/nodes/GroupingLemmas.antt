@@ -1,33 +1,11 @@
 -- The groups of the first numbers are those of the nodes.
 use Rattle.std.proofs.Common.{◌≡◌, ℕ, suc, ◌+◌, ◌<◌, ◌≤◌, Bool, true, false, not, ◌&&◌, ◌||◌, ⊎_elim, cond, if◌then◌else◌, List, [], ◌∷◌, ◌++◌, length, drop, get_or, map, filter, find, nat_eq, Option, None, Some, IfSome, option_map, slice_get, refl, sym, ap, ◌∙◌, subst, arith}
-use Rattle.std.specs.List.{Contains, cons_option, prefix_len}
-use Rattle.std.specs.List.Sorted.{IsStrictlySortedBy}
-use Rattle.std.specs.Option.{option_and_then, option_map_or}
-use Rattle.std.specs.Ordering.{nat_cmp, is_eq}
-use Rattle.std.specs.declared.cmp.Ordering.TheVariants.{Less}
-use Rattle.std.specs.Cmp.Lexicographic.{slice_cmp}
-use Rattle.std.specs.Str.{bytes_eq}
-use Rattle.std.proofs.lemmas.Bool.{and_parts, cases_eq, eq-eqb, eqb-true, false≢true, true≢false}
-use Rattle.std.proofs.lemmas.List.{append-nil, append_assoc, drop_all, drop_more, get_or-replicate, get_or-set_other, get_or-set_same, length-replicate, length-set, map-append}
-use Rattle.std.proofs.lemmas.List.Elements.{All-contains, filter-append, filter_agree}
-use Rattle.std.proofs.lemmas.List.Sums.{prefix_len_stops}
-use Rattle.std.proofs.lemmas.Map.Keys.{sorted_tail}
-use Rattle.std.proofs.lemmas.Map.Text.{is_eq-slice_cmp}
-use Rattle.std.proofs.lemmas.Map.Views.{All-after_first}
-use Rattle.std.proofs.lemmas.Slice.Eq.{bytes_eq-Decides}
-use Rattle.kt_list.proofs.general.Booleans.{equal_when}
-use Rattle.kt_text.specs.Words.{Text}
-use Rattle.kt_graph.specs.declared.nodes.node.Instance.{Instance as Held}
-use Rattle.kt_graph.specs.inner.nodes.Stored.{StoredNode}
-use Rattle.kt_graph.specs.inner.faults.Edges.{bare_rows}
+use Rattle.kt_graph.proofs.Common.{Contains, cons_option, prefix_len, IsStrictlySortedBy, option_and_then, option_map_or, nat_cmp, is_eq, Less, slice_cmp, bytes_eq, and_parts, cases_eq, eq-eqb, eqb-true, false≢true, true≢false, append-nil, append_assoc, drop_all, drop_more, get_or-replicate, get_or-set_other, get_or-set_same, length-replicate, length-set, map-append, All-contains, filter-append, filter_agree, prefix_len_stops, sorted_tail, is_eq-slice_cmp, All-after_first, bytes_eq-Decides, equal_when, Text, Instance as Held, StoredNode, bare_rows, Node, is_leaf, HasNumbers, instance_at, name_at, names_at, node_view, nodes_view, first_or_rest, in_first, in_rest}
 use Rattle.kt_graph.specs.inner.nodes.Grouping.{HasMembers, group_at, groups_left, is_first, is_made_at, is_made_with, is_number, leads_at, leads_by, making_at, members_by, members_of, with_making, with_member}
 use Rattle.kt_graph.specs.nodes.Groups.{are_together, groups_among, groups_of, is_leading, is_one_making, made_nodes}
-use Rattle.kt_graph.specs.nodes.Node.{Instance, Node, is_leaf}
-use Rattle.kt_graph.specs.inner.nodes.Numbering.{HasNumbers}
-use Rattle.kt_graph.specs.nodes.Views.{instance_at, name_at, names_at, node_view, nodes_view}
+use Rattle.kt_graph.specs.nodes.Node.{Instance}
 use Rattle.kt_graph.specs.inner.nodes.Graph.{IsWhole}
 use Rattle.kt_graph.proofs.lemmas.nodes.GroupLemmas.{one_itself, one_same}
-use Rattle.kt_list.proofs.general.Elements.{first_or_rest, in_first, in_rest}
 use Rattle.kt_graph.proofs.lemmas.MemberLemmas.{Contains-map, Contains-none, Contains-slice_get}
 use Rattle.kt_graph.proofs.lemmas.faults.TroubleLemmas.{from_filter}
 use Rattle.kt_graph.proofs.lemmas.nodes.WholeLemmas.{instance_there}

@@ -1,19 +1,9 @@
 -- What a chosen rule gives is what the node of the candidate has that the search finds.
 use Rattle.std.proofs.Common.{◌≡◌, false, if◌then◌else◌, List, ◌++◌, Option, Some, None, slice_get, refl, sym, ap, ◌∙◌}
-use Rattle.std.specs.Option.{option_and_then, option_map}
-use Rattle.kt_text.specs.Words.{Text}
-use Rattle.kt_rules.specs.declared.entry.Target.{Target}
-use Rattle.kt_rules.specs.Book.{is_phony, patterns_of}
-use Rattle.kt_rules.specs.Entry.{Rule}
+use Rattle.kt_graph.proofs.Common.{option_and_then, option_map, Text, Target, is_phony, patterns_of, Rule, Inferred, Candidate, needs_with, chosen_rule, implicit_node, joined_needs, needs_after, searched, choice_of, choice_view, instance_view}
 use Rattle.kt_graph.specs.declared.search.choice.Chosen.{Chosen}
-use Rattle.kt_graph.specs.declared.nodes.inferring.Inferred.{Inferred}
-use Rattle.kt_graph.specs.search.Candidates.{Candidate, needs_with}
 use Rattle.kt_graph.specs.inner.nodes.Inferring.{GivesChosen, Infers, InfersFrom, inferred_node, pattern_making}
 use Rattle.kt_graph.specs.inner.nodes.Stems.{stem_in}
-use Rattle.kt_graph.specs.nodes.Node.{chosen_rule, implicit_node, joined_needs, needs_after, searched}
-use Rattle.kt_graph.specs.search.Search.{choice_of}
-use Rattle.kt_graph.specs.search.Views.{choice_view}
-use Rattle.kt_graph.specs.nodes.Views.{instance_view}
 use Rattle.kt_graph.proofs.lemmas.search.ChosenLemmas.{choice_needs}
 
 search_is : (book : List Rule) (known : List Text) (name : Text) (choice : Option Candidate) → is_phony book name ≡ false

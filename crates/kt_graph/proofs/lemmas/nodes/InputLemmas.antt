@@ -1,15 +1,6 @@
 -- Numbers without repeats, and the inputs of parts.
 use Rattle.std.proofs.Common.{◌≡◌, ℕ, ◌+◌, ◌<◌, ◌≤◌, ◌||◌, Bool, not, get_or, List, [], ◌∷◌, ◌++◌, ap, append-nil, append_assoc, arith, fold, length, nat_eq, nat_lt, refl, sym, subst, ◌∙◌, false, true}
-use Rattle.std.specs.List.{AllByRecursion, IsDistinct, list_any}
-use Rattle.std.specs.List.Sorted.{IsPermutation}
-use Rattle.std.proofs.lemmas.Bool.{eq-eqb, eqb-false, eqb-true, ltb-true, ne_eqb, true≢false}
-use Rattle.std.proofs.lemmas.List.Folds.{flat_map-map}
-use Rattle.std.proofs.lemmas.List.Sorted.{IsPermutation-sym}
-use Rattle.std.proofs.lemmas.Map.Keys.{IsDistinct-cons, IsDistinct-head, IsDistinct-tail, IsDistinct-IsPermutation}
-use Rattle.kt_list.proofs.general.Booleans.{and_first, and_second}
-use Rattle.kt_graph.specs.declared.nodes.stored.HeldPart.{HeldPart}
-use Rattle.kt_graph.specs.inner.nodes.Inputs.{HasOwnInputs, differ, inputs_held, numbers_without, others_held, rise, rise_after, with_number}
-use Rattle.kt_graph.specs.inner.nodes.Stored.{AreRowsOf, IsPartWithin, StoredPart, input_numbers, order_only_numbers, part_stored, parts_stored}
+use Rattle.kt_graph.proofs.Common.{AllByRecursion, IsDistinct, list_any, IsPermutation, eq-eqb, eqb-false, eqb-true, ltb-true, ne_eqb, true≢false, flat_map-map, IsPermutation-sym, IsDistinct-cons, IsDistinct-head, IsDistinct-tail, IsDistinct-IsPermutation, and_first, and_second, HeldPart, HasOwnInputs, differ, inputs_held, numbers_without, others_held, rise, rise_after, with_number, AreRowsOf, IsPartWithin, StoredPart, input_numbers, order_only_numbers, part_stored, parts_stored}
 
 -- ---- numbers that rise
 

@@ -1,29 +1,10 @@
 -- The node of a target that needs what the one before does.
 use Rattle.std.proofs.Common.{◌≡◌, ℕ, zero, suc, Bool, true, false, ◌||◌, ◌-◌, List, [], ◌∷◌, ◌++◌, length, map, fold, take, Option, Some, slice_get, nat_eq, refl, sym, ap, subst, ◌∙◌, arith}
-use Rattle.std.specs.List.{list_any}
-use Rattle.std.specs.Cmp.Lexicographic.{pointwise}
+use Rattle.kt_graph.proofs.Common.{list_any, pointwise, append-nil, fold-append, none-some, same_Some, bytes_eq-Decides, head_is, Needs, Target, explicit_rules, has_recipe, is_double, rule_needs, Rule, needs_for, is_among, with_name, all_needs, suffixes_of, Text, GraphBuilder, Explicit, AreTold, BuildsNode, IsLeafOf, IsLikeLast, LastNeeds, sole_node, part_with, IsMaking, SayParts, SaysNeeds, SaysNode, SaysPart, StandFor, StoredNode, StoredPart, node_like, part_like, stored_at, Node, Part, group_of, joined_needs, needs_after, node_of, node_with, other_rules, own_part, part_of}
 use Rattle.std.proofs.Math.Bool.{or-true}
-use Rattle.std.proofs.lemmas.List.{append-nil}
-use Rattle.std.proofs.lemmas.List.Sums.{fold-append}
-use Rattle.std.proofs.lemmas.Option.{none-some, same_Some}
-use Rattle.std.proofs.lemmas.Slice.Eq.{bytes_eq-Decides}
-use Rattle.kt_list.proofs.general.Places.{head_is}
 use Rattle.kt_rules.specs.declared.entry.Kind.{Kind}
-use Rattle.kt_rules.specs.declared.entry.Needs.{Needs}
-use Rattle.kt_rules.specs.declared.entry.Target.{Target}
-use Rattle.kt_rules.specs.Book.{explicit_rules, has_recipe, is_double, rule_needs}
-use Rattle.kt_rules.specs.Entry.{Rule, needs_for}
-use Rattle.kt_rules.specs.Names.{is_among, with_name}
-use Rattle.kt_rules.specs.Suffixes.{all_needs, suffixes_of}
-use Rattle.kt_text.specs.Words.{Text}
-use Rattle.kt_graph.specs.declared.nodes.graph_builder.GraphBuilder.{GraphBuilder}
-use Rattle.kt_graph.specs.declared.nodes.node.NodeKind.TheVariants.{Explicit}
 use Rattle.kt_graph.specs.declared.nodes.part.Part.{Part as NewPart}
-use Rattle.kt_graph.specs.inner.nodes.GraphBuilder.{AreTold, BuildsNode, IsLeafOf, IsLikeLast, LastNeeds, sole_node}
-use Rattle.kt_graph.specs.inner.nodes.Needed.{part_with}
-use Rattle.kt_graph.specs.inner.nodes.Numbering.{IsMaking, SayParts, SaysNeeds, SaysNode, SaysPart, StandFor}
-use Rattle.kt_graph.specs.inner.nodes.Stored.{StoredNode, StoredPart, node_like, part_like, stored_at}
-use Rattle.kt_graph.specs.nodes.Node.{Instance, Node, Part, group_of, joined_needs, needs_after, node_of, node_with, other_rules, own_part, part_of}
+use Rattle.kt_graph.specs.nodes.Node.{Instance}
 use Rattle.kt_graph.proofs.lemmas.nodes.BuildingLemmas.{joined_first, joined_own, last_cut}
 use Rattle.kt_graph.proofs.lemmas.nodes.StepLemmas.{leaf_kept, node_is, single_with}
 use Rattle.kt_graph.proofs.lemmas.nodes.StoredLemmas.{stored_there}

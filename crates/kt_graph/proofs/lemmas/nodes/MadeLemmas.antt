@@ -1,26 +1,6 @@
 -- What implicit nodes need: it is known, or a rule makes it.
-use Rattle.std.proofs.Common.{◌≡◌, ℕ, suc, ◌+◌, ◌<◌, Bool, true, false, not, ◌&&◌, ◌||◌, if◌then◌else◌, List, [], ◌∷◌, ◌++◌, length, filter, map, Option, Some, None, is_some, refl, sym, ap, ◌∙◌, subst, true≢false, ◌⊎◌, inl, inr, ⊎_elim, arith}
-use Rattle.std.specs.Prelude.{bytes_eq, fold, nat_le, option_map, slice_get}
-use Rattle.std.specs.Option.{option_and_then, option_or, option_to_list}
-use Rattle.std.specs.List.{Contains, cons_option, filter_map, find, flat_map, list_all, list_any}
-use Rattle.std.specs.Cmp.Lexicographic.{same_text}
-use Rattle.std.proofs.lemmas.Bool.{and_from, and_parts, not_from_false}
-use Rattle.std.proofs.lemmas.List.Elements.{Contains-append_cases, Contains-append_left, Contains-append_right}
-use Rattle.std.proofs.lemmas.Option.{none-some, same_Some}
-use Rattle.kt_list.proofs.general.Elements.{first_or_rest, from_flat_map, in_first, in_flat_map, in_rest, none_in_empty}
-use Rattle.kt_list.proofs.general.Places.{at_place}
-use Rattle.kt_text.specs.Words.{Text}
-use Rattle.kt_rules.specs.declared.entry.Target.{Target}
-use Rattle.kt_rules.specs.Names.{is_among, without_repeats}
-use Rattle.kt_rules.specs.Entry.{Rule, needs_for}
-use Rattle.kt_rules.specs.Suffixes.{all_needs, is_suffix_rule, suffixes_of}
-use Rattle.kt_rules.specs.Book.{explicit_rules, is_double, is_explicit, is_made, is_phony, patterns_of, rules_of, target_rules}
-use Rattle.kt_graph.specs.declared.nodes.node.NodeKind.TheVariants.{DoubleColon, Explicit, Implicit, Phony, Leaf}
-use Rattle.kt_graph.specs.search.Candidates.{Candidate, are_short, candidate_by, candidate_of, candidate_with, candidates_for, fit_of, matching_from, shorter, shortest, size_of, unless_long, without_any}
-use Rattle.kt_graph.specs.Known.{known_names, listed_names, named_by, named_with}
-use Rattle.kt_graph.specs.search.Search.{choice_of, fitting, is_begun, is_inferred, is_met, is_used, open_candidates, unknown_needs, with_rule}
-use Rattle.kt_graph.specs.nodes.Node.{Node, all_inputs, chosen_rule, double_node, implicit_node, inputs_of, is_leaf, joined_needs, kind_without, node_by, node_of, order_only_of, searched, used_rule}
-use Rattle.kt_graph.specs.Reach.{HasInput, HasMadeInputs, IsGraph, IsReached, Leads}
+use Rattle.std.proofs.Common.{◌≡◌, ℕ, suc, ◌+◌, ◌<◌, Bool, true, false, not, ◌&&◌, ◌||◌, if◌then◌else◌, List, [], ◌∷◌, ◌++◌, length, filter, map, Option, Some, None, is_some, refl, sym, ap, ◌∙◌, subst, true≢false, ◌⊎◌, inl, inr, ⊎_elim, arith, bytes_eq, fold, nat_le, option_map, slice_get}
+use Rattle.kt_graph.proofs.Common.{option_and_then, option_or, option_to_list, Contains, cons_option, filter_map, find, flat_map, list_all, list_any, same_text, and_from, and_parts, not_from_false, Contains-append_cases, Contains-append_left, Contains-append_right, none-some, same_Some, first_or_rest, from_flat_map, in_first, in_flat_map, in_rest, none_in_empty, at_place, Text, Target, is_among, without_repeats, Rule, needs_for, all_needs, is_suffix_rule, suffixes_of, explicit_rules, is_double, is_explicit, is_made, is_phony, patterns_of, rules_of, target_rules, DoubleColon, Explicit, Implicit, Phony, Leaf, Candidate, are_short, candidate_by, candidate_of, candidate_with, candidates_for, fit_of, matching_from, shorter, shortest, size_of, unless_long, without_any, known_names, listed_names, named_by, named_with, choice_of, fitting, is_begun, is_inferred, is_met, is_used, open_candidates, unknown_needs, with_rule, Node, all_inputs, chosen_rule, double_node, implicit_node, inputs_of, is_leaf, joined_needs, kind_without, node_by, node_of, order_only_of, searched, used_rule, HasInput, HasMadeInputs, IsGraph, IsReached, Leads}
 use Rattle.kt_graph.proofs.lemmas.search.GrowthLemmas.{from_by_size, tree_grows}
 use Rattle.kt_graph.proofs.lemmas.Membership.{any_passes, each_passes, kept_by_filter}
 use Rattle.kt_graph.proofs.lemmas.search.TreeLemmas.{found_as_trees}

@@ -1,23 +1,6 @@
 -- Nodes of the definitions, and numbers for their names.
 use Rattle.std.proofs.Common.{◌≡◌, ℕ, ◌<◌, Bool, true, false, not, ◌||◌, cond, if◌then◌else◌, ⊎_elim, List, [], ◌∷◌, ◌++◌, length, get_or, map, filter, fold, nat_eq, All, refl, sym, ap, ◌∙◌, subst}
-use Rattle.std.specs.List.{flat_map, list_any}
-use Rattle.std.specs.Str.{bytes_eq}
-use Rattle.std.proofs.lemmas.Bool.{cases_eq, eq-eqb, ne_eqb, eqb-true, false≢true}
-use Rattle.std.proofs.lemmas.List.{map-append}
-use Rattle.std.proofs.lemmas.List.Elements.{All-append, All-head, All-nil, All-push, All-tail, filter-append}
-use Rattle.std.proofs.lemmas.Slice.Eq.{bytes_eq-Decides}
-use Rattle.kt_text.specs.Words.{Text}
-use Rattle.kt_rules.specs.Names.{is_among, with_name, without_repeats}
-use Rattle.kt_graph.specs.declared.nodes.node.Instance.{Instance as Held}
-use Rattle.kt_graph.specs.inner.nodes.Stored.{StoredPart}
-use Rattle.kt_graph.specs.inner.nodes.Stored.{StoredNode}
-use Rattle.kt_graph.specs.inner.faults.Files.{AreDistinct}
-use Rattle.kt_graph.specs.nodes.Node.{Part, inputs_of, order_only_of}
-use Rattle.kt_graph.specs.inner.nodes.Numbering.{HasNumbers, IsNumbered}
-use Rattle.kt_list.specs.Names.{AreBelow}
-use Rattle.kt_graph.specs.inner.nodes.Inputs.{numbers_without, with_number}
-use Rattle.kt_graph.specs.inner.nodes.Stored.{input_numbers}
-use Rattle.kt_graph.specs.nodes.Views.{name_at, names_at, node_view, part_view}
+use Rattle.kt_graph.proofs.Common.{flat_map, list_any, bytes_eq, cases_eq, eq-eqb, ne_eqb, eqb-true, false≢true, map-append, All-append, All-head, All-nil, All-push, All-tail, filter-append, bytes_eq-Decides, Text, is_among, with_name, without_repeats, Instance as Held, StoredPart, StoredNode, AreDistinct, Part, inputs_of, order_only_of, HasNumbers, IsNumbered, AreBelow, numbers_without, with_number, input_numbers, name_at, names_at, node_view, part_view}
 
 -- ---- numbers of names
 

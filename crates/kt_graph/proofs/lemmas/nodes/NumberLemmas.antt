@@ -1,15 +1,6 @@
 -- Numbers for names: what holds of numbers stays when more names are reached.
 use Rattle.std.proofs.Common.{◌≡◌, ℕ, suc, zero, Bool, true, false, ◌+◌, ◌<◌, ◌≤◌, if◌then◌else◌, List, [], ◌∷◌, ◌++◌, length, map, fold, take, get_or, Some, slice_get, refl, sym, ap, subst, ◌∙◌, arith}
-use Rattle.std.specs.List.{flat_map}
-use Rattle.std.proofs.lemmas.List.{append-nil, append_assoc, map-append, take_more}
-use Rattle.std.proofs.lemmas.List.Concat.{flat_map-append}
-use Rattle.std.proofs.lemmas.List.Sums.{fold-append}
-use Rattle.kt_text.specs.Words.{Text}
-use Rattle.kt_rules.specs.declared.entry.Needs.{Needs}
-use Rattle.kt_rules.specs.Names.{is_among, with_name}
-use Rattle.kt_graph.specs.nodes.Node.{Part}
-use Rattle.kt_graph.specs.inner.nodes.Stored.{StoredPart}
-use Rattle.kt_graph.specs.inner.nodes.Numbering.{AddsNumbers, StandFor, SaysNeeds, SaysPart, SayParts}
+use Rattle.kt_graph.proofs.Common.{flat_map, append-nil, append_assoc, map-append, take_more, flat_map-append, fold-append, Text, Needs, is_among, with_name, Part, StoredPart, AddsNumbers, StandFor, SaysNeeds, SaysPart, SayParts}
 
 -- no name is among none
 pub none_among : (names : List Text) (name : Text) → length names ≤ 0 → is_among names name ≡ false

@@ -1,28 +1,10 @@
 -- Names that are sorted with their numbers.
 use Rattle.std.proofs.Common.{◌≡◌, ℕ, suc, zero, ◌+◌, ◌<◌, ◌↔◌, false, List, [], ◌∷◌, ◌++◌, length, map, take, get_or, unwrap_or, All, Option, refl, sym, ap, ◌∙◌, subst, arith, add-zero}
-use Rattle.std.specs.List.{Contains, range_with_len, swap}
-use Rattle.std.specs.List.Sorted.{IsPermutation, IsSorted, IsSortedBy, IsStrictlySortedBy}
-use Rattle.std.specs.Ordering.{MatchOrdering, is_eq, is_lt, nat_cmp, ordering_then, ordering_reverse}
+use Rattle.kt_graph.proofs.Common.{Contains, range_with_len, swap, IsPermutation, IsSorted, IsSortedBy, IsStrictlySortedBy, MatchOrdering, is_eq, is_lt, nat_cmp, ordering_then, ordering_reverse, slice_cmp, Ordering, Less, Equal, Greater, false≢true, nat_cmp_total, nat_list_cmp_total, on_total, then_total, length-map, get_or-map, map-append, take_more, All-contains, All-push, recursion_from_All, length-range_with_len, get_or-range_with_len, All-permutation, Contains-permutation, IsPermutation-keeps, IsPermutation-map, IsPermutation-swap, length_permutation, ranks_by, sorted_far, is_eq-slice_cmp, bytes_eq-Decides, slice_get-get_or, Text, Front, AreDistinct, IsByteOrder, name_at, names_at}
 use Rattle.std.specs.Cmp.{IsStrictWeakOrder, IsTotalOrder}
-use Rattle.std.specs.Cmp.Lexicographic.{slice_cmp}
-use Rattle.std.specs.declared.cmp.Ordering.{Ordering}
-use Rattle.std.specs.declared.cmp.Ordering.TheVariants.{Less, Equal, Greater}
-use Rattle.std.proofs.lemmas.Bool.{false≢true}
-use Rattle.std.proofs.lemmas.Cmp.{nat_cmp_total, nat_list_cmp_total, on_total, then_total}
-use Rattle.std.proofs.lemmas.List.{length-map, get_or-map, map-append, take_more}
-use Rattle.std.proofs.lemmas.List.Elements.{All-contains, All-push, recursion_from_All}
-use Rattle.std.proofs.lemmas.List.FromFn.{length-range_with_len, get_or-range_with_len}
-use Rattle.std.proofs.lemmas.List.Sorted.{All-permutation, Contains-permutation, IsPermutation-keeps, IsPermutation-map, IsPermutation-swap, length_permutation, ranks_by, sorted_far}
 use Rattle.indexmap.proofs.ReorderLemmas.{exchange, exchange-twice, exchange-within, get_or-swap}
-use Rattle.std.proofs.lemmas.Map.Text.{is_eq-slice_cmp}
-use Rattle.std.proofs.lemmas.Slice.Eq.{bytes_eq-Decides}
-use Rattle.std.proofs.lemmas.Option.{slice_get-get_or}
-use Rattle.kt_text.specs.Words.{Text}
 use Rattle.kt_text.proofs.SortLemmas.{fronts_decide}
-use Rattle.kt_graph.specs.declared.nodes.byte_order.Front.{Front}
-use Rattle.kt_graph.specs.inner.faults.Files.{AreDistinct, IsByteOrder}
 use Rattle.kt_graph.specs.inner.nodes.Fronts.{AreFronts, IsFront, front_cmp}
-use Rattle.kt_graph.specs.nodes.Views.{name_at, names_at}
 
 -- ---- numbers that differ
 

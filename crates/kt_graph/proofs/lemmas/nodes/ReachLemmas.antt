@@ -1,16 +1,6 @@
 -- Names that are reached one after another, and what their nodes need.
 use Rattle.std.proofs.Common.{◌≡◌, Bool, true, false, not, cond, if◌then◌else◌, List, [], ◌∷◌, ◌++◌, filter, fold, Contains, All, nat_eq, refl, sym, ap, subst, arith}
-use Rattle.std.specs.List.{flat_map}
-use Rattle.std.specs.Cmp.Lexicographic.{pointwise}
-use Rattle.std.proofs.lemmas.List.Elements.{All-nil, All-cons, All-head, All-tail, All-push, All-append, All-weaker, All-contains, Contains-append_left, Contains-append_right, Contains-push, Contains-get_or}
-use Rattle.std.proofs.lemmas.Slice.Eq.{bytes_eq-Decides}
-use Rattle.indexmap.proofs.CallerLemmas.{Contains-list_any}
-use Rattle.kt_text.specs.Words.{Text}
-use Rattle.kt_rules.specs.Entry.{Rule}
-use Rattle.kt_rules.specs.Names.{is_among, with_name, without_repeats}
-use Rattle.kt_graph.specs.inner.nodes.Needed.{needed_by}
-use Rattle.kt_graph.specs.nodes.Node.{Node, all_inputs, inputs_of, node_of, order_only_of}
-use Rattle.kt_graph.specs.Reach.{HasInput, IsReached, Leads}
+use Rattle.kt_graph.proofs.Common.{flat_map, pointwise, All-nil, All-cons, All-head, All-tail, All-push, All-append, All-weaker, All-contains, Contains-append_left, Contains-append_right, Contains-push, Contains-get_or, bytes_eq-Decides, Contains-list_any, Text, Rule, is_among, with_name, without_repeats, needed_by, Node, all_inputs, inputs_of, node_of, order_only_of, HasInput, IsReached, Leads}
 use Rattle.kt_graph.proofs.lemmas.nodes.NumberLemmas.{names_grow}
 
 -- ---- names after others

@@ -1,25 +1,8 @@
 -- Reached names by their numbers among all names.
 use Rattle.std.proofs.Common.{◌≡◌, ℕ, zero, suc, ◌+◌, ◌<◌, ◌≤◌, Bool, true, false, nat_eq, cond, if◌then◌else◌, List, [], ◌∷◌, ◌++◌, length, replicate, get_or, Option, Some, None, option_map, is_some, slice_get, Result, Ok, Err, IfOk, OnErr, OnOk, refl, sym, ap, ◌∙◌, subst, arith, length-append}
-use Rattle.std.specs.List.{IsDistinct, position_from}
-use Rattle.std.specs.Option.{option_or, unwrap_or}
-use Rattle.std.specs.Str.{bytes_eq}
-use Rattle.std.proofs.lemmas.Bool.{eq-eqb}
-use Rattle.std.proofs.lemmas.Cmp.{nat_list_eq_equiv}
+use Rattle.kt_graph.proofs.Common.{IsDistinct, position_from, option_or, unwrap_or, bytes_eq, eq-eqb, nat_list_eq_equiv, append_assoc, length-map, map-append, All-head, All-nil, All-push, All-tail, IsDistinct-push, slice_get-get_or, slice_get_within, IfOk-weaker, on_err_weaker, bytes_eq-Decides, AreBelow, is_among, place_of, with_name, number_found, Text, no_two, same_place, HasSame, IsPlaced, IsPushed, IsReachedAt, ReachesNumber, StaysPlaced, place_held, place_marked, HasMore, name_at, names_at}
 use Rattle.std.proofs.lemmas.Iterator.Adapters.{position_from-zero}
-use Rattle.std.proofs.lemmas.List.{append_assoc, length-map, map-append}
-use Rattle.std.proofs.lemmas.List.Elements.{All-head, All-nil, All-push, All-tail}
-use Rattle.std.proofs.lemmas.Map.Keys.{IsDistinct-push}
-use Rattle.std.proofs.lemmas.Option.{slice_get-get_or, slice_get_within}
-use Rattle.std.proofs.lemmas.Result.{IfOk-weaker, on_err_weaker}
-use Rattle.std.proofs.lemmas.Slice.Eq.{bytes_eq-Decides}
-use Rattle.kt_list.specs.Names.{AreBelow, is_among, place_of, with_name}
-use Rattle.kt_list.proofs.NameLemmas.{number_found}
-use Rattle.kt_text.specs.Words.{Text}
-use Rattle.kt_rules.proofs.NoteLemmas.{no_two, same_place}
 use Rattle.kt_graph.specs.declared.nodes.reached.Reached.{Reached}
-use Rattle.kt_graph.specs.inner.nodes.Reached.{HasSame, IsPlaced, IsPushed, IsReachedAt, ReachesNumber, StaysPlaced, place_held, place_marked}
-use Rattle.kt_list.specs.Prefixes.{HasMore}
-use Rattle.kt_graph.specs.nodes.Views.{name_at, names_at}
 use Rattle.kt_graph.proofs.lemmas.nodes.NumberLemmas.{place_kept}
 
 -- ---- places of names

@@ -1,18 +1,9 @@
 -- Nodes that hold their inputs together have the same ones.
 use Rattle.std.proofs.Common.{◌≡◌, ℕ, ◌∷◌, List, length, Option, None, Some, option_map, slice_get, refl, sym, ap, subst, ◌∙◌}
-use Rattle.std.specs.List.{Contains}
-use Rattle.std.proofs.lemmas.List.Elements.{All-contains}
-use Rattle.std.proofs.lemmas.Option.{none-some, same_Some}
-use Rattle.kt_list.proofs.general.Places.{head_is}
-use Rattle.kt_text.specs.Words.{Text}
-use Rattle.kt_graph.specs.declared.nodes.node.Instance.{Instance as Held}
+use Rattle.kt_graph.proofs.Common.{Contains, All-contains, none-some, same_Some, head_is, Text, Instance as Held, HasNumbers, AreAlike, StoredNode, stored_at, Node, inputs_of, order_only_of, names_at, node_at, node_view, nodes_view}
 use Rattle.kt_graph.specs.inner.nodes.Graph.{AreNodesHeld}
 use Rattle.kt_graph.specs.inner.nodes.Grouping.{AreAllAlike}
-use Rattle.kt_graph.specs.inner.nodes.Numbering.{HasNumbers}
-use Rattle.kt_graph.specs.inner.nodes.Stored.{AreAlike, StoredNode, stored_at}
 use Rattle.kt_graph.specs.nodes.Groups.{FirstSharesInputs, ShareInputs}
-use Rattle.kt_graph.specs.nodes.Node.{Node, inputs_of, order_only_of}
-use Rattle.kt_graph.specs.nodes.Views.{names_at, node_at, node_view, nodes_view}
 use Rattle.kt_graph.proofs.lemmas.MemberLemmas.{Contains-slice_get}
 use Rattle.kt_graph.proofs.lemmas.nodes.NodeLemmas.{inputs_are, others_are}
 use Rattle.kt_graph.proofs.lemmas.nodes.StoredLemmas.{stored_is}

@@ -1,29 +1,11 @@
 -- Steps of the work list, one after another, and which node a name has.
 use Rattle.std.proofs.Common.{◌≡◌, Bool, true, false, ◌≤◌, if◌then◌else◌, ℕ, List, [], ◌∷◌, ◌++◌, length, map, fold, take, Option, None, Some, slice_get, option_map, refl, sym, ap, subst, ◌∙◌, arith, Bor}
-use Rattle.std.specs.List.{list_any}
-use Rattle.std.specs.Option.{option_to_list}
-use Rattle.std.proofs.lemmas.List.{append-nil, length-take, take-take, take_all}
-use Rattle.kt_text.specs.Words.{Text}
-use Rattle.kt_rules.specs.declared.entry.Needs.{Needs}
-use Rattle.kt_rules.specs.declared.entry.Target.{Target}
-use Rattle.kt_rules.specs.Book.{explicit_rules, is_double, patterns_of}
-use Rattle.kt_rules.specs.Entry.{Rule}
-use Rattle.kt_rules.specs.Names.{with_name}
-use Rattle.kt_rules.specs.Suffixes.{all_needs, suffixes_of}
-use Rattle.kt_graph.specs.declared.nodes.graph_builder.GraphBuilder.{GraphBuilder}
-use Rattle.kt_graph.specs.declared.nodes.node.NodeKind.{NodeKind}
-use Rattle.kt_graph.specs.declared.nodes.node.NodeKind.TheVariants.{DoubleColon, Implicit, Leaf}
-use Rattle.kt_graph.specs.declared.nodes.inferring.Inferred.{Inferred}
+use Rattle.kt_graph.proofs.Common.{list_any, option_to_list, append-nil, length-take, take-take, take_all, Text, Needs, Target, explicit_rules, is_double, patterns_of, Rule, with_name, all_needs, suffixes_of, GraphBuilder, NodeKind, DoubleColon, Implicit, Leaf, Inferred, instance_view, needed_by, needed_by_parts, part_with, single_node, StoredNode, StoredPart, stored_with, part_held, Node, Part, bare_part, double_node, is_leaf, joined_needs, kind_without, needs_after, node_by, node_of, node_with as node_given, own_part, plain_node, searched, suffix_stem, used_rule, IsMaking, SayParts, SaysNeeds, BuildsNode, IsLeafOf, IsOver, ReachesMore, leaf_stored}
 use Rattle.kt_graph.specs.inner.nodes.Inferring.{inferred_node}
-use Rattle.kt_graph.specs.nodes.Views.{instance_view}
 use Rattle.kt_graph.specs.declared.nodes.part.Numbered.{Numbered}
 use Rattle.kt_graph.specs.declared.nodes.part.Part.{Part as NewPart}
-use Rattle.kt_graph.specs.inner.nodes.Needed.{needed_by, needed_by_parts, part_with, single_node}
 use Rattle.kt_graph.specs.inner.nodes.Stems.{own, stem_in}
-use Rattle.kt_graph.specs.inner.nodes.Stored.{StoredNode, StoredPart, stored_with, part_held}
-use Rattle.kt_graph.specs.nodes.Node.{Instance, Node, Part, bare_part, double_node, is_leaf, joined_needs, kind_without, needs_after, node_by, node_of, node_with as node_given, own_part, plain_node, searched, suffix_stem, used_rule}
-use Rattle.kt_graph.specs.inner.nodes.Numbering.{IsMaking, SayParts, SaysNeeds}
-use Rattle.kt_graph.specs.inner.nodes.GraphBuilder.{BuildsNode, IsLeafOf, IsOver, ReachesMore, leaf_stored}
+use Rattle.kt_graph.specs.nodes.Node.{Instance}
 use Rattle.kt_graph.proofs.lemmas.nodes.NumberLemmas.{place_kept}
 
 -- ---- steps

@@ -1,20 +1,12 @@
 -- Nodes in three lists: what is stored stays when more is added.
 use Rattle.std.proofs.Common.{◌≡◌, ℕ, zero, suc, not, ◌+◌, ◌-◌, ◌<◌, ◌≤◌, List, [], ◌∷◌, ◌++◌, All, Option, None, Some, option_map, length, take, drop, get_or, slice_get, refl, sym, ap, ◌∙◌, subst, arith}
-use Rattle.std.proofs.lemmas.List.{append-nil, append_assoc, drop-append-le, get_or_append_left, length-append, length-drop, map-append, take-append-le}
-use Rattle.std.proofs.lemmas.List.Elements.{All-contains, All-drop, All-head, All-push, All-tail, All-take, All-weaker}
-use Rattle.std.proofs.lemmas.Option.{none-some, same_Some, slice_get-get_or, slice_get-map}
+use Rattle.kt_graph.proofs.Common.{append-nil, append_assoc, drop-append-le, get_or_append_left, length-append, length-drop, map-append, take-append-le, All-contains, All-drop, All-head, All-push, All-tail, All-take, All-weaker, none-some, same_Some, slice_get-get_or, slice_get-map, option_to_list, NodeKind, HeldPart, AreRowsOf, AreStored, Grew, IsHeadOf, IsHeadWithin, IsLike, IsPartWithin, IsSpanWithin, PutsParts, StoredNode, StoredPart, cut, input_numbers, node_like, node_stored, stored_with, nodes_stored, order_only_numbers, part_stored, parts_stored, some_if, stored_at, HasMore, is_leaf}
 use Rattle.std.proofs.Math.Seq.{drop-append_seam}
-use Rattle.std.specs.Option.{option_to_list}
-use Rattle.kt_graph.specs.declared.nodes.node.NodeKind.{NodeKind}
 use Rattle.kt_graph.specs.declared.nodes.part.Maker.{Maker}
 use Rattle.kt_graph.specs.declared.nodes.part.Part.{Part as NewPart}
 use Rattle.kt_graph.specs.declared.nodes.stored.Head.{Head}
-use Rattle.kt_graph.specs.declared.nodes.stored.HeldPart.{HeldPart}
 use Rattle.kt_graph.specs.declared.nodes.stored.Span.{Span}
-use Rattle.kt_graph.specs.inner.nodes.Stored.{AreRowsOf, AreStored, Grew, IsHeadOf, IsHeadWithin, IsLike, IsPartWithin, IsSpanWithin, PutsParts, StoredNode, StoredPart, cut, input_numbers, node_like, node_stored, stored_with, nodes_stored, order_only_numbers, part_stored, parts_stored, some_if, stored_at}
-use Rattle.kt_list.specs.Prefixes.{HasMore}
 use Rattle.kt_graph.specs.inner.nodes.Grouping.{is_made_at, making_at}
-use Rattle.kt_graph.specs.nodes.Node.{is_leaf}
 use Rattle.kt_graph.proofs.lemmas.MemberLemmas.{Contains-slice_get}
 
 -- ---- places

@@ -1,27 +1,9 @@
 -- A graph's vertices and the names that they are.
 use Rattle.std.proofs.Common.{◌≡◌, ℕ, ◌+◌, ◌<◌, Bool, true, false, ◌⊎◌, ⊎_elim, inl, inr, List, [], ◌∷◌, ◌++◌, length, get_or, map, filter_map, find, cond, Option, None, Some, IfSome, option_map, slice_get, refl, sym, ap, ◌∙◌, subst, arith}
-use Rattle.std.specs.List.{Contains, cons_option}
-use Rattle.std.specs.Str.{bytes_eq}
-use Rattle.std.proofs.lemmas.Bool.{false≢true}
-use Rattle.std.proofs.lemmas.Slice.Eq.{bytes_eq-Decides}
-use Rattle.std.proofs.lemmas.List.{get_or-map, length-map, map-append}
-use Rattle.std.proofs.lemmas.List.Elements.{All-contains, All-head, All-tail, Contains-append_cases}
-use Rattle.std.proofs.lemmas.Option.{none-some, same_Some, slice_get-get_or, slice_get_within}
-use Rattle.kt_list.proofs.general.Places.{at_place}
-use Rattle.kt_text.specs.Words.{Text}
-use Rattle.kt_rules.specs.Entry.{Rule}
-use Rattle.kt_graph.specs.declared.faults.edges.Edges.{Edges}
-use Rattle.kt_graph.specs.declared.nodes.node.Instance.{Instance as Held}
-use Rattle.kt_graph.specs.inner.nodes.Stored.{StoredNode}
-use Rattle.kt_graph.specs.inner.faults.Edges.{AreEdgesOf, AreMadeBelow, AreNeededBelow, HasNext, IsEdge, LeadsBack, LeadsOn, LeadsTo, needed_numbers}
-use Rattle.kt_graph.specs.nodes.Node.{Instance, Node, all_inputs, inputs_of, node_of}
-use Rattle.kt_graph.specs.inner.nodes.Numbering.{HasNumbers}
-use Rattle.kt_list.specs.Names.{AreBelow}
-use Rattle.kt_graph.specs.Reach.{AreOneMaking, HasEdge, HasInput, IsCyclic, IsGraph, IsInGroup, IsReached, Leads, Reaches, itself, beside}
-use Rattle.kt_graph.specs.nodes.Views.{instance_at, instance_view, name_at, names_at, node_at, node_view, nodes_view}
+use Rattle.kt_graph.proofs.Common.{Contains, cons_option, bytes_eq, false≢true, bytes_eq-Decides, get_or-map, length-map, map-append, All-contains, All-head, All-tail, Contains-append_cases, none-some, same_Some, slice_get-get_or, slice_get_within, at_place, Text, Rule, Edges, Instance as Held, StoredNode, AreEdgesOf, AreMadeBelow, AreNeededBelow, HasNext, IsEdge, LeadsBack, LeadsOn, LeadsTo, needed_numbers, Node, all_inputs, inputs_of, node_of, HasNumbers, AreBelow, AreOneMaking, HasEdge, HasInput, IsCyclic, IsGraph, IsInGroup, IsReached, Leads, Reaches, itself, beside, instance_at, instance_view, name_at, names_at, node_at, node_view, nodes_view, first_or_rest, in_first, in_rest}
+use Rattle.kt_graph.specs.nodes.Node.{Instance}
 use Rattle.kt_graph.specs.inner.nodes.Graph.{IsWhole}
 use Rattle.kt_graph.proofs.lemmas.faults.CircleLemmas.{Reaches-join, Reaches-none, Reaches-step, on_step, on_more}
-use Rattle.kt_list.proofs.general.Elements.{first_or_rest, in_first, in_rest}
 use Rattle.kt_graph.proofs.lemmas.MemberLemmas.{Contains-from_map, Contains-map, Contains-none, Contains-slice_get}
 use Rattle.kt_graph.proofs.lemmas.nodes.NodeLemmas.{inputs_are, inputs_below, others_are, others_below}
 

@@ -1,16 +1,7 @@
 -- The number of rules in the chains of questions.
-use Rattle.std.proofs.Common.{◌≡◌, ℕ, zero, suc, ◌+◌, ◌-◌, ◌≤◌, Bool, true, false, if◌then◌else◌, cond, List, [], ◌∷◌, ◌++◌, length, take, drop, refl, ap, ◌∙◌, ⊎_elim, arith}
-use Rattle.std.specs.Prelude.{nat_lt, nat_le, is_some}
-use Rattle.std.specs.List.{Contains, list_any, prefix_len}
-use Rattle.std.proofs.lemmas.Bool.{le-leb, lt-leb, ltb-false, ltb-true}
-use Rattle.std.proofs.lemmas.List.{append_assoc, take_rest}
-use Rattle.std.proofs.lemmas.List.Elements.{Contains-append_cases}
-use Rattle.kt_text.specs.Words.{Text}
-use Rattle.kt_rules.specs.Entry.{Rule}
-use Rattle.kt_graph.specs.search.Candidates.{Candidate}
+use Rattle.std.proofs.Common.{◌≡◌, ℕ, zero, suc, ◌+◌, ◌-◌, ◌≤◌, Bool, true, false, if◌then◌else◌, cond, List, [], ◌∷◌, ◌++◌, length, take, drop, refl, ap, ◌∙◌, ⊎_elim, arith, nat_lt, nat_le, is_some}
+use Rattle.kt_graph.proofs.Common.{Contains, list_any, prefix_len, le-leb, lt-leb, ltb-false, ltb-true, append_assoc, take_rest, Contains-append_cases, Text, Rule, Candidate, Sought, Asking, Choosing, asked_among, asked_by, asked_for, asked_inside, asking, fitting, is_inferred, is_met, open_candidates, unknown_needs, with_rule, first_or_rest, none_in_empty}
 use Rattle.kt_graph.specs.inner.search.Chains.{asked_besides}
-use Rattle.kt_graph.specs.search.Search.{Sought, Asking, Choosing, asked_among, asked_by, asked_for, asked_inside, asking, fitting, is_inferred, is_met, open_candidates, unknown_needs, with_rule}
-use Rattle.kt_list.proofs.general.Elements.{first_or_rest, none_in_empty}
 
 -- one rule more
 pub length-with_rule : (rule : ℕ) (used : List ℕ) → length (with_rule rule used) ≡ length used + 1

@@ -1,20 +1,8 @@
 -- Candidates of the code, and as those of the definitions.
 use Rattle.std.proofs.Common.{◌≡◌, ℕ, suc, zero, ◌+◌, ◌-◌, ◌<◌, ◌≤◌, Bool, true, false, not, ◌||◌, ◌==◌, if◌then◌else◌, List, [], ◌∷◌, ◌++◌, length, take, drop, get_or, filter, filter_map, flat_map, fold, All, Option, Some, None, option_map, refl, sym, ap, ◌∙◌, subst, arith, slice_get}
-use Rattle.std.specs.List.{cons_option, list_any, range_with_len, slice_range}
-use Rattle.std.specs.List.Sorted.{IsNonDecreasingBy, IsPermutation, IsStableByKey}
-use Rattle.std.specs.Option.{option_and_then, option_to_list, unwrap_or}
-use Rattle.std.specs.Ordering.{nat_cmp}
-use Rattle.std.proofs.lemmas.List.{drop_all, drop_more, length-take, length-drop}
-use Rattle.std.proofs.lemmas.List.Elements.{All-filter, All-head, All-tail, All-weaker, filter_map-append}
-use Rattle.std.proofs.lemmas.List.Sorted.{All-permutation}
-use Rattle.kt_text.specs.Words.{Text}
-use Rattle.kt_rules.specs.declared.entry.Needs.{Needs}
-use Rattle.kt_rules.specs.Entry.{Rule}
-use Rattle.kt_rules.specs.Patterns.{is_terminal}
+use Rattle.kt_graph.proofs.Common.{cons_option, list_any, range_with_len, slice_range, IsNonDecreasingBy, IsPermutation, IsStableByKey, option_and_then, option_to_list, unwrap_or, nat_cmp, drop_all, drop_more, length-take, length-drop, All-filter, All-head, All-tail, All-weaker, filter_map-append, All-permutation, Text, Needs, Rule, is_terminal, Candidate, are_short, by_size, candidate_by, candidate_of, candidates_for, drops_any, matching_from, shorter, shortest, size_of, unless_long, without_any, AreWithin, IsFitWithin, candidate_at, candidate_view, candidates_view, fit_size, held_by_size, held_without_any, stays}
 use Rattle.kt_graph.proofs.lemmas.search.SizeOrder.{bucket, in_buckets, same_buckets}
 use Rattle.kt_graph.specs.declared.search.candidate.Candidate.{Candidate as HeldCandidate}
-use Rattle.kt_graph.specs.search.Candidates.{Candidate, are_short, by_size, candidate_by, candidate_of, candidates_for, drops_any, matching_from, shorter, shortest, size_of, unless_long, without_any}
-use Rattle.kt_graph.specs.search.Views.{AreWithin, IsFitWithin, candidate_at, candidate_view, candidates_view, fit_size, held_by_size, held_without_any, stays}
 
 -- a stem is as long as its places say
 pub size_at : (name : Text) (rule : Rule) (candidate : HeldCandidate) → IsFitWithin name candidate.fit → size_of (candidate_at name rule candidate) ≡ fit_size candidate.fit

@@ -1,20 +1,8 @@
 -- The questions of a search before and after a step, with their answers.
-use Rattle.std.proofs.Common.{◌≡◌, ℕ, ◌+◌, ◌<◌, ◌≤◌, true, false, if◌then◌else◌, List, [], ◌∷◌, ◌++◌, length, get_or, set, map, Option, Some, None, refl, sym, ap, ◌∙◌, subst, ◌⊎◌, inl, inr, ⊎_elim, arith}
-use Rattle.std.specs.Prelude.{fold, option_map, slice_get, unwrap_or}
-use Rattle.std.specs.List.{Contains, list_any}
-use Rattle.std.proofs.lemmas.Bool.{cases_lt, cases_order, or_left}
-use Rattle.std.proofs.lemmas.List.Folds.{list_any-append}
-use Rattle.std.proofs.lemmas.List.{get_or_append_left, get_or-set_other, get_or-set_same, get_or-take, get_or_at, length-append, length-map, length-set, map-append}
-use Rattle.std.proofs.lemmas.Option.{get_or_from_slice_get, same_Some, slice_get-get_or, slice_get-map, slice_get_within, unwrap_or-slice_get}
-use Rattle.kt_text.specs.Words.{Text}
-use Rattle.kt_rules.specs.Entry.{Rule}
+use Rattle.std.proofs.Common.{◌≡◌, ℕ, ◌+◌, ◌<◌, ◌≤◌, true, false, if◌then◌else◌, List, [], ◌∷◌, ◌++◌, length, get_or, set, map, Option, Some, None, refl, sym, ap, ◌∙◌, subst, ◌⊎◌, inl, inr, ⊎_elim, arith, fold, option_map, slice_get, unwrap_or}
+use Rattle.kt_graph.proofs.Common.{Contains, list_any, cases_lt, cases_order, or_left, list_any-append, get_or_append_left, get_or-set_other, get_or-set_same, get_or-take, get_or_at, length-append, length-map, length-set, map-append, get_or_from_slice_get, same_Some, slice_get-get_or, slice_get-map, slice_get_within, unwrap_or-slice_get, Text, Rule, Question, Tried, IsPrefix, Sought, asked_eq, asking, chain_limit, fitting, with_question, question_view}
 use Rattle.kt_graph.specs.declared.search.candidate.Candidate.{Candidate as HeldCandidate}
-use Rattle.kt_graph.specs.declared.search.question.Question.{Question}
-use Rattle.kt_graph.specs.declared.search.tried.Tried.{Tried}
 use Rattle.kt_graph.specs.inner.search.Chains.{IsFound, IsRight, IsRightFor, KeepsAnswers, HasAnswered, StandsLast, StoodBefore, asked_besides, expected_for, left_for}
-use Rattle.kt_list.specs.Prefixes.{IsPrefix}
-use Rattle.kt_graph.specs.search.Search.{Sought, asked_eq, asking, chain_limit, fitting, with_question}
-use Rattle.kt_graph.specs.search.Views.{question_view}
 use Rattle.kt_graph.proofs.lemmas.search.AskingLemmas.{asking_is, after_deep}
 use Rattle.kt_graph.proofs.lemmas.search.QuestionLemmas.{all_put, none_new, put_after, stays_put}
 

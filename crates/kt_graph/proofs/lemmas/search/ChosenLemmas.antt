@@ -1,14 +1,6 @@
 -- A candidate that the search finds is that of its rule.
 use Rattle.std.proofs.Common.{◌≡◌, ℕ, suc, zero, Bool, true, false, not, ◌||◌, ◌==◌, cond, ◌+◌, if◌then◌else◌, List, [], ◌∷◌, ◌++◌, length, filter, find, fold, Option, Some, None, IfSome, slice_get, All, refl, sym, ap, subst, ◌∙◌}
-use Rattle.std.specs.List.{filter_map, flat_map, cons_option, range_with_len}
-use Rattle.std.specs.Option.{option_and_then, option_map, option_or, option_to_list}
-use Rattle.std.proofs.lemmas.List.{append_assoc, length_push}
-use Rattle.std.proofs.lemmas.List.Elements.{All-nil, All-cons, All-head, All-tail, All-append, All-filter}
-use Rattle.kt_text.specs.Words.{Text}
-use Rattle.kt_rules.specs.declared.entry.Target.{Target}
-use Rattle.kt_rules.specs.Entry.{Rule}
-use Rattle.kt_graph.specs.search.Candidates.{Candidate, candidate_by, candidate_of, candidate_with, candidates_for, drops_any, fit_of, matching_from, needs_with, shorter, shortest, size_of, unless_long, without_any}
-use Rattle.kt_graph.specs.search.Search.{choice_of, chain_limit, fitting, is_begun, is_inferred, is_met, is_used, open_candidates}
+use Rattle.kt_graph.proofs.Common.{filter_map, flat_map, cons_option, range_with_len, option_and_then, option_map, option_or, option_to_list, append_assoc, length_push, All-nil, All-cons, All-head, All-tail, All-append, All-filter, Text, Target, Rule, Candidate, candidate_by, candidate_of, candidate_with, candidates_for, drops_any, fit_of, matching_from, needs_with, shorter, shortest, size_of, unless_long, without_any, choice_of, chain_limit, fitting, is_begun, is_inferred, is_met, is_used, open_candidates}
 
 -- a candidate of a rule that has a number
 record IsOf (number : ℕ) (rule : Rule) (candidate : Candidate) : Type 0 where

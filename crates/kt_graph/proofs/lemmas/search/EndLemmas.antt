@@ -1,31 +1,10 @@
 -- Rules that are found by the ends of their targets.
 use Rattle.std.proofs.Common.{◌≡◌, ℕ, zero, suc, ◌+◌, ◌-◌, ◌<◌, ◌≤◌, Bool, true, false, ◌&&◌, ◌⊎◌, ⊎_elim, inl, inr, if◌then◌else◌, nat_eq, nat_le, List, [], ◌∷◌, ◌++◌, length, drop, get_or, filter_map, IfSome, Option, Some, None, option_map, slice_get, refl, sym, ap, ◌∙◌, subst, arith}
-use Rattle.std.specs.List.{Contains, cons_option, dedup, ends_with, position_or_len, slice_index, starts_with}
-use Rattle.std.specs.List.Sorted.{IsPermutation, IsSorted, IsStrictlyIncreasing}
-use Rattle.std.specs.Ordering.{nat_cmp}
-use Rattle.std.specs.Option.{option_and_then, option_to_list}
-use Rattle.std.proofs.lemmas.Bool.{cases_eq, cases_lt, false≢true, leb-true}
-use Rattle.std.proofs.lemmas.List.{append-nil, append_assoc, drop-drop, drop_all, drop_more, length-drop}
-use Rattle.std.proofs.lemmas.List.Elements.{All-head, All-push, All-tail, filter_map-append}
+use Rattle.kt_graph.proofs.Common.{Contains, cons_option, dedup, ends_with, position_or_len, slice_index, starts_with, IsPermutation, IsSorted, IsStrictlyIncreasing, nat_cmp, option_and_then, option_to_list, cases_eq, cases_lt, false≢true, leb-true, append-nil, append_assoc, drop-drop, drop_all, drop_more, length-drop, All-head, All-push, All-tail, filter_map-append, Contains-permutation, IsStrictlyIncreasing-dedup, get_or_from_slice_get, none-some, slice_get_past, bytes_eq-Decides, IsFirstByte, is_byte, Text, has_percent, is_between, is_percent, pattern_back, pattern_front, stem_span, first_byte_place, Target, Rule, Ends, Candidate, candidate_by, candidate_of, candidate_with, fit_of, has_slash, matched_part, matching_from, shortest, stem_of, unless_long, AreAllNoted, AreNoted, HasAll, IsNoted, candidate_numbered, candidates_numbered, numbers_at, AreWithin, IsFitWithin, candidate_at, candidate_view, candidates_view, found_view, first_or_rest}
 use Rattle.std.proofs.lemmas.List.Kept.{Contains-dedup_nat}
-use Rattle.std.proofs.lemmas.List.Sorted.{Contains-permutation}
-use Rattle.std.proofs.lemmas.Map.Keys.{IsStrictlyIncreasing-dedup}
-use Rattle.std.proofs.lemmas.Option.{get_or_from_slice_get, none-some, slice_get_past}
-use Rattle.std.proofs.lemmas.Slice.Eq.{bytes_eq-Decides}
-use Rattle.memchr.specs.Find.{IsFirstByte, is_byte}
-use Rattle.kt_text.specs.Words.{Text}
 use Rattle.kt_text.specs.Functions.{name_place}
-use Rattle.kt_text.specs.Match.{has_percent, is_between, is_percent, pattern_back, pattern_front, stem_span}
-use Rattle.kt_text.proofs.PlaceLemmas.{first_byte_place}
-use Rattle.kt_rules.specs.declared.entry.Target.{Target}
-use Rattle.kt_rules.specs.Entry.{Rule}
-use Rattle.kt_graph.specs.declared.search.ends.Ends.{Ends}
 use Rattle.kt_graph.specs.declared.search.candidate.Candidate.{Candidate as HeldCandidate}
-use Rattle.kt_graph.specs.search.Candidates.{Candidate, candidate_by, candidate_of, candidate_with, fit_of, has_slash, matched_part, matching_from, shortest, stem_of, unless_long}
-use Rattle.kt_graph.specs.inner.search.Ends.{AreAllNoted, AreNoted, HasAll, IsNoted, candidate_numbered, candidates_numbered, numbers_at}
-use Rattle.kt_graph.specs.search.Views.{AreWithin, IsFitWithin, candidate_at, candidate_view, candidates_view, found_view}
 use Rattle.kt_graph.proofs.lemmas.search.CandidateLemmas.{matching_at, matching_none, rule_at, told_at}
-use Rattle.kt_list.proofs.general.Elements.{first_or_rest}
 use Rattle.kt_graph.proofs.lemmas.MemberLemmas.{Contains-none}
 
 -- without a percent sign, nothing is after it

@@ -1,14 +1,6 @@
 -- Where a pattern's stem is in a name.
 use Rattle.std.proofs.Common.{◌≡◌, ℕ, ◌+◌, ◌-◌, ◌<◌, ◌≤◌, ◌==◌, [], ◌∷◌, length, drop, take, refl, sym, ◌∙◌, ap, arith, Option, Some, None, is_some}
-use Rattle.std.specs.List.{position_or_len, slice_range}
-use Rattle.std.proofs.lemmas.Bool.{lt-ltb, le-ltb}
-use Rattle.std.proofs.lemmas.List.{drop-drop, length-take, length-drop}
-use Rattle.memchr.specs.Find.{IsFirstByte, is_byte}
-use Rattle.kt_text.specs.Words.{Text}
-use Rattle.kt_text.specs.Match.{stem_span}
-use Rattle.kt_text.proofs.MatchLemmas.{list_any-place}
-use Rattle.kt_text.proofs.PlaceLemmas.{first_byte_place}
-use Rattle.kt_graph.specs.search.Candidates.{fit_of, has_slash, left_out, matched_part, nonempty, stem_of}
+use Rattle.kt_graph.proofs.Common.{position_or_len, slice_range, lt-ltb, le-ltb, drop-drop, length-take, length-drop, IsFirstByte, is_byte, Text, stem_span, list_any-place, first_byte_place, fit_of, has_slash, left_out, matched_part, nonempty, stem_of}
 
 pub slash_found : (text : Text) (found : Option ℕ) → IsFirstByte (is_byte 47) text found → is_some found ≡ has_slash text
 slash_found text (Some place) found =

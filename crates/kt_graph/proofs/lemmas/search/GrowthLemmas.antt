@@ -1,15 +1,6 @@
 -- Trees stay when a chain has fewer rules and more may be added: what makes a name after a chain makes it without one.
-use Rattle.std.proofs.Common.{◌≡◌, ℕ, zero, suc, ◌+◌, ◌≤◌, Bool, true, false, not, ◌||◌, if◌then◌else◌, List, [], ◌∷◌, length, filter, refl, sym, ap, ◌∙◌, true≢false, ⊎_elim, arith}
-use Rattle.std.specs.Prelude.{◌==◌, nat_eq, nat_lt}
-use Rattle.std.specs.List.{Contains, list_any, range_with_len}
-use Rattle.std.proofs.lemmas.Bool.{eq-eqb, false_from_ne_true, or_cases, or_left, or_right}
-use Rattle.std.proofs.lemmas.List.Elements.{All-weaker}
-use Rattle.kt_list.proofs.general.Booleans.{or_swap}
-use Rattle.kt_list.proofs.general.Elements.{from_flat_map, in_flat_map}
-use Rattle.kt_text.specs.Words.{Text}
-use Rattle.kt_rules.specs.Entry.{Rule}
-use Rattle.kt_graph.specs.search.Candidates.{Candidate, by_size, candidates_for, matching_from, size_of, without_any}
-use Rattle.kt_graph.specs.search.Search.{HasTree, is_begun, is_used, unknown_needs, with_rule}
+use Rattle.std.proofs.Common.{◌≡◌, ℕ, zero, suc, ◌+◌, ◌≤◌, Bool, true, false, not, ◌||◌, if◌then◌else◌, List, [], ◌∷◌, length, filter, refl, sym, ap, ◌∙◌, true≢false, ⊎_elim, arith, ◌==◌, nat_eq, nat_lt}
+use Rattle.kt_graph.proofs.Common.{Contains, list_any, range_with_len, eq-eqb, false_from_ne_true, or_cases, or_left, or_right, All-weaker, or_swap, from_flat_map, in_flat_map, Text, Rule, Candidate, by_size, candidates_for, matching_from, size_of, without_any, HasTree, is_begun, is_used, unknown_needs, with_rule}
 use Rattle.kt_graph.proofs.lemmas.Membership.{in_filter, kept_by_filter}
 
 -- ---- candidates outside a chain

@@ -1,10 +1,6 @@
 -- The length of a prerequisite with a stem put in.
 use Rattle.std.proofs.Common.{◌≡◌, ℕ, ◌+◌, ◌-◌, ◌<◌, ◌∷◌, ◌++◌, length, refl, ◌∙◌, ap, arith, Some, None, length-append}
-use Rattle.memchr.specs.Find.{IsFirstByte, is_byte}
-use Rattle.kt_text.specs.Words.{Text}
-use Rattle.kt_text.specs.Match.{pattern_front, pattern_back}
-use Rattle.kt_text.proofs.MatchLemmas.{pattern_cut, percent_found, no_percent_found}
-use Rattle.kt_graph.specs.search.Candidates.{spelled_out}
+use Rattle.kt_graph.proofs.Common.{IsFirstByte, is_byte, Text, pattern_front, pattern_back, pattern_cut, percent_found, no_percent_found, spelled_out}
 
 -- a name without a percent sign is unchanged
 pub plain_spelled : (directory stem name : Text) → IsFirstByte (is_byte 37) name None → spelled_out directory stem name ≡ name

@@ -1,21 +1,6 @@
 -- The numbers of ends, as more are noted and as they are found.
 use Rattle.std.proofs.Common.{◌≡◌, ℕ, ◌+◌, ◌-◌, ◌<◌, ◌≤◌, Bool, true, false, ⊎_elim, nat_eq, if◌then◌else◌, List, [], ◌∷◌, ◌++◌, length, drop, take, get_or, Some, slice_get, refl, sym, ap, ◌∙◌, subst, arith}
-use Rattle.std.specs.List.{Contains, list_any}
-use Rattle.std.specs.Str.{bytes_eq}
-use Rattle.std.proofs.lemmas.Bool.{cases_eq, cases_lt, eqb-true}
-use Rattle.std.proofs.lemmas.Cmp.{nat_list_eq_equiv}
-use Rattle.std.proofs.lemmas.List.{append-nil, take_more}
-use Rattle.std.proofs.lemmas.List.Elements.{All-push, All-weaker, Contains-append_left, Contains-append_right, Contains-append_cases}
-use Rattle.std.proofs.lemmas.Option.{same_Some, slice_get_read, slice_get_within}
-use Rattle.indexmap.specs.IndexSet.{insert_key}
-use Rattle.indexmap.proofs.CallerLemmas.{Contains-insert_key}
-use Rattle.kt_text.specs.Words.{Text}
-use Rattle.kt_text.specs.Match.{pattern_back}
-use Rattle.kt_rules.specs.declared.entry.Target.{Target}
-use Rattle.kt_rules.specs.Entry.{Rule}
-use Rattle.kt_graph.specs.declared.search.ends.Ends.{Ends}
-use Rattle.kt_graph.specs.inner.search.Ends.{AreAllNoted, AreNoted, HasAll, IsNoted, KeepsNoted, NotesEnd, NotesAll, numbers_at}
-use Rattle.kt_list.proofs.general.Elements.{first_or_rest, in_first}
+use Rattle.kt_graph.proofs.Common.{Contains, list_any, bytes_eq, cases_eq, cases_lt, eqb-true, nat_list_eq_equiv, append-nil, take_more, All-push, All-weaker, Contains-append_left, Contains-append_right, Contains-append_cases, same_Some, slice_get_read, slice_get_within, insert_key, Contains-insert_key, Text, pattern_back, Target, Rule, Ends, AreAllNoted, AreNoted, HasAll, IsNoted, KeepsNoted, NotesEnd, NotesAll, numbers_at, first_or_rest, in_first}
 use Rattle.kt_graph.proofs.lemmas.MemberLemmas.{Contains-none}
 
 -- ---- one more number

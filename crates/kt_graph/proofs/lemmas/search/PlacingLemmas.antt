@@ -1,16 +1,8 @@
 -- Where a question is placed among others, in the set that holds them.
-use Rattle.std.proofs.Common.{◌≡◌, ℕ, ◌+◌, Bool, true, false, cond, not, ◌&&◌, ◌||◌, if◌then◌else◌, List, [], ◌∷◌, ◌++◌, length, map, Option, Some, None, refl, sym, ap, ◌∙◌, true≢false, arith}
-use Rattle.std.specs.Prelude.{nat_eq, slice_get, unwrap_or}
-use Rattle.std.specs.List.{list_any, position_or_len}
-use Rattle.std.specs.Cmp.Lexicographic.{pointwise, same_text}
-use Rattle.std.proofs.lemmas.Bool.{and_parts, not-true, not-false}
-use Rattle.indexmap.specs.IndexSet.{insert_key}
+use Rattle.std.proofs.Common.{◌≡◌, ℕ, ◌+◌, Bool, true, false, cond, not, ◌&&◌, ◌||◌, if◌then◌else◌, List, [], ◌∷◌, ◌++◌, length, map, Option, Some, None, refl, sym, ap, ◌∙◌, true≢false, arith, nat_eq, slice_get, unwrap_or}
+use Rattle.kt_graph.proofs.Common.{list_any, position_or_len, pointwise, same_text, and_parts, not-true, not-false, insert_key, Question, Tried, asked_eq, question_view}
 use Rattle.kt_graph.specs.declared.search.candidate.Candidate.{Candidate as HeldCandidate}
-use Rattle.kt_graph.specs.declared.search.question.Question.{Question}
-use Rattle.kt_graph.specs.declared.search.tried.Tried.{Tried}
 use Rattle.kt_graph.specs.inner.search.Chains.{StandsLast, StoodBefore}
-use Rattle.kt_graph.specs.search.Search.{asked_eq}
-use Rattle.kt_graph.specs.search.Views.{question_view}
 
 -- whether two questions are equal, by their own equality
 abbrev pub questions_eq : Question → Question → Bool

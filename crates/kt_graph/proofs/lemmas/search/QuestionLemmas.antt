@@ -1,16 +1,6 @@
 -- Questions after others, each once.
-use Rattle.std.proofs.Common.{◌≡◌, ℕ, ◌+◌, ◌-◌, ◌<◌, ◌≤◌, Bool, true, false, if◌then◌else◌, List, [], ◌∷◌, ◌++◌, length, refl, sym, ap, ◌∙◌, subst, ⊎_elim, arith, append_assoc, append-nil}
-use Rattle.std.specs.Prelude.{fold, map, Some, slice_get, get_or}
-use Rattle.std.specs.List.{Contains, IsDistinct, AllByRecursion, list_any}
-use Rattle.std.proofs.lemmas.Bool.{and_from, or_left, or_right}
-use Rattle.std.proofs.lemmas.Cmp.{nat_list_eq_equiv}
-use Rattle.std.proofs.lemmas.List.{get_or-append_right, length-append}
-use Rattle.std.proofs.lemmas.List.Folds.{list_any-append}
-use Rattle.std.proofs.lemmas.Option.{get_or_from_slice_get, slice_get_within}
-use Rattle.kt_graph.specs.declared.search.question.Question.{Question}
-use Rattle.kt_graph.specs.search.Search.{Sought, asked_eq, with_question}
-use Rattle.kt_graph.specs.search.Views.{question_view}
-use Rattle.kt_list.proofs.general.Elements.{first_or_rest, in_first, in_rest, none_in_empty}
+use Rattle.std.proofs.Common.{◌≡◌, ℕ, ◌+◌, ◌-◌, ◌<◌, ◌≤◌, Bool, true, false, if◌then◌else◌, List, [], ◌∷◌, ◌++◌, length, refl, sym, ap, ◌∙◌, subst, ⊎_elim, arith, append_assoc, append-nil, fold, map, Some, slice_get, get_or}
+use Rattle.kt_graph.proofs.Common.{Contains, IsDistinct, AllByRecursion, list_any, and_from, or_left, or_right, nat_list_eq_equiv, get_or-append_right, length-append, list_any-append, get_or_from_slice_get, slice_get_within, Question, Sought, asked_eq, with_question, question_view, first_or_rest, in_first, in_rest, none_in_empty}
 
 pub asked_itself : (question : Sought) → asked_eq question question ≡ true
 asked_itself question = and_from _ _ (nat_list_eq_equiv.refl question.0) (nat_list_eq_equiv.refl question.1)

@@ -1,12 +1,7 @@
 -- A list that is sorted stably by a number: what has the least number first, and in its old order.
 use Rattle.std.proofs.Common.{◌≡◌, ℕ, suc, zero, ◌+◌, ◌<◌, ◌≤◌, true, false, ◌==◌, List, [], ◌∷◌, ◌++◌, get_or, filter, nat_le, refl, sym, ap, ◌∙◌, arith, ⊎_elim, All, add-zero}
-use Rattle.std.specs.List.{AllByRecursion, flat_map, range_with_len}
-use Rattle.std.specs.List.Sorted.{IsNonDecreasingBy, IsStableByKey, ties}
-use Rattle.std.specs.Ordering.{nat_cmp, is_lt}
-use Rattle.std.proofs.lemmas.Bool.{cases_lt, cases_eq, eqb-true}
+use Rattle.kt_graph.proofs.Common.{AllByRecursion, flat_map, range_with_len, IsNonDecreasingBy, IsStableByKey, ties, nat_cmp, is_lt, cases_lt, cases_eq, eqb-true, append_assoc, append-nil, recursion_from_All, All-head, All-tail, filter_passes, filter_agree}
 use Rattle.std.proofs.lemmas.Bool.Decides.{nat_tests}
-use Rattle.std.proofs.lemmas.List.{append_assoc, append-nil}
-use Rattle.std.proofs.lemmas.List.Elements.{recursion_from_All, All-head, All-tail, filter_passes, filter_agree}
 
 -- what has a number
 abbrev pub bucket : {X : Type 0} → (X → ℕ) → List X → ℕ → List X

@@ -1,13 +1,6 @@
 -- The search finds a rule for a name exactly if a tree makes it.
-use Rattle.std.proofs.Common.{◌≡◌, ℕ, zero, suc, true, false, not, ◌||◌, List, [], get_or, is_some, Option, None, Some, option_map, sym, ap, ◌∙◌, true≢false, ⊎_elim, arith}
-use Rattle.std.specs.Prelude.{◌↔◌, All}
-use Rattle.std.specs.List.{Contains, list_any, find}
-use Rattle.std.proofs.lemmas.Bool.{cases_Bool, and_from, and_parts, or_cases, or_left, or_right, not-true, not_from_false}
-use Rattle.std.proofs.lemmas.List.Elements.{All-contains, Contains-get_or}
-use Rattle.kt_text.specs.Words.{Text}
-use Rattle.kt_rules.specs.Entry.{Rule}
-use Rattle.kt_graph.specs.search.Candidates.{Candidate, candidates_for}
-use Rattle.kt_graph.specs.search.Search.{HasTree, chosen_of, fitting, is_begun, is_inferred, is_met, is_used, open_candidates, unknown_needs, with_rule}
+use Rattle.std.proofs.Common.{◌≡◌, ℕ, zero, suc, true, false, not, ◌||◌, List, [], get_or, is_some, Option, None, Some, option_map, sym, ap, ◌∙◌, true≢false, ⊎_elim, arith, ◌↔◌, All}
+use Rattle.kt_graph.proofs.Common.{Contains, list_any, find, cases_Bool, and_from, and_parts, or_cases, or_left, or_right, not-true, not_from_false, All-contains, Contains-get_or, Text, Rule, Candidate, candidates_for, HasTree, chosen_of, fitting, is_begun, is_inferred, is_met, is_used, open_candidates, unknown_needs, with_rule}
 use Rattle.kt_graph.proofs.lemmas.Membership.{any_passes, all_pass, each_passes, found_any, in_filter, kept_by_filter, one_passes, some_or}
 use Rattle.kt_graph.proofs.lemmas.search.UnknownLemmas.{met_none, none_met}
 

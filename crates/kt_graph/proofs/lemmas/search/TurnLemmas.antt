@@ -1,18 +1,8 @@
 -- The steps of a search: the questions for names and candidates in turn.
-use Rattle.std.proofs.Common.{◌≡◌, ℕ, zero, suc, ◌+◌, ◌-◌, ◌<◌, ◌≤◌, Bool, true, false, not, ◌&&◌, if◌then◌else◌, List, [], ◌∷◌, ◌++◌, length, get_or, drop, map, Option, Some, None, is_some, refl, sym, ap, ◌∙◌, subst, arith}
-use Rattle.std.specs.Prelude.{fold, slice_get, IfSome}
-use Rattle.std.specs.List.{find, list_all}
-use Rattle.std.proofs.lemmas.List.{drop_more, drop_all}
-use Rattle.std.proofs.lemmas.List.Sums.{fold-append}
-use Rattle.kt_text.specs.Words.{Text}
-use Rattle.kt_rules.specs.Entry.{Rule}
-use Rattle.kt_rules.specs.Patterns.{is_terminal}
+use Rattle.std.proofs.Common.{◌≡◌, ℕ, zero, suc, ◌+◌, ◌-◌, ◌<◌, ◌≤◌, Bool, true, false, not, ◌&&◌, if◌then◌else◌, List, [], ◌∷◌, ◌++◌, length, get_or, drop, map, Option, Some, None, is_some, refl, sym, ap, ◌∙◌, subst, arith, fold, slice_get, IfSome}
+use Rattle.kt_graph.proofs.Common.{find, list_all, drop_more, drop_all, fold-append, Text, Rule, is_terminal, Tried, Candidate, Sought, Asking, Choosing, asked_among, asked_by, asked_for, asked_inside, asking, chosen_of, fitting, is_inferred, is_met, open_candidates, unknown_needs, with_question, with_rule, AreWithin, question_view, candidate_view, candidates_view}
 use Rattle.kt_graph.specs.declared.search.candidate.Candidate.{Candidate as HeldCandidate}
-use Rattle.kt_graph.specs.declared.search.tried.Tried.{Tried}
-use Rattle.kt_graph.specs.search.Candidates.{Candidate}
 use Rattle.kt_graph.specs.inner.search.Chains.{IsFound, IsRightFor, KeepsAnswers, HasAnswered, asked_besides}
-use Rattle.kt_graph.specs.search.Search.{Sought, Asking, Choosing, asked_among, asked_by, asked_for, asked_inside, asking, chosen_of, fitting, is_inferred, is_met, open_candidates, unknown_needs, with_question, with_rule}
-use Rattle.kt_graph.specs.search.Views.{AreWithin, question_view, candidate_view, candidates_view}
 use Rattle.kt_graph.proofs.lemmas.search.AskingLemmas.{length-with_rule}
 use Rattle.kt_graph.proofs.lemmas.search.ChainLemmas.{keeps_all, keeps_more}
 use Rattle.kt_graph.proofs.lemmas.Membership.{found_any}

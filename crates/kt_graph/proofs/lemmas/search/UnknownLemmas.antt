@@ -1,21 +1,6 @@
 -- Names without repeats, and the unknown prerequisites of a candidate.
-use Rattle.std.proofs.Common.{◌≡◌, ℕ, ◌+◌, ◌<◌, ◌≤◌, Bool, true, false, cond, not, ◌&&◌, if◌then◌else◌, List, [], ◌∷◌, ◌++◌, length, get_or, drop, refl, sym, ap, ◌∙◌, subst, true≢false, ◌⊎◌, inl, inr, ⊎_elim}
-use Rattle.std.specs.Prelude.{nat_eq, fold}
-use Rattle.std.specs.List.{Contains, list_all}
-use Rattle.std.specs.Cmp.Lexicographic.{pointwise, same_text}
-use Rattle.std.proofs.lemmas.Bool.{cases_Bool, not-true}
-use Rattle.std.proofs.lemmas.Cmp.{nat_list_eq_equiv}
-use Rattle.std.proofs.lemmas.List.{drop_more, drop_all}
-use Rattle.std.proofs.lemmas.List.Folds.{list_all-append}
-use Rattle.std.proofs.lemmas.List.Sums.{fold-append}
-use Rattle.std.proofs.lemmas.List.Elements.{Contains-append_left, Contains-push, Contains-push_cases, filter-append}
-use Rattle.kt_text.specs.Words.{Text}
-use Rattle.kt_rules.specs.Names.{is_among, with_name, without_repeats}
-use Rattle.kt_rules.specs.Suffixes.{all_needs}
-use Rattle.kt_graph.specs.search.Candidates.{Candidate, needed_name, needed_names}
-use Rattle.kt_graph.specs.Known.{unknown_of}
-use Rattle.kt_graph.specs.search.Search.{is_met, unknown_needs}
-use Rattle.kt_list.proofs.general.Elements.{first_or_rest, in_first, in_rest, none_in_empty}
+use Rattle.std.proofs.Common.{◌≡◌, ℕ, ◌+◌, ◌<◌, ◌≤◌, Bool, true, false, cond, not, ◌&&◌, if◌then◌else◌, List, [], ◌∷◌, ◌++◌, length, get_or, drop, refl, sym, ap, ◌∙◌, subst, true≢false, ◌⊎◌, inl, inr, ⊎_elim, nat_eq, fold}
+use Rattle.kt_graph.proofs.Common.{Contains, list_all, pointwise, same_text, cases_Bool, not-true, nat_list_eq_equiv, drop_more, drop_all, list_all-append, fold-append, Contains-append_left, Contains-push, Contains-push_cases, filter-append, Text, is_among, with_name, without_repeats, all_needs, Candidate, needed_name, needed_names, unknown_of, is_met, unknown_needs, first_or_rest, in_first, in_rest, none_in_empty}
 use Rattle.kt_graph.proofs.lemmas.Membership.{all_pass, any_passes, each_passes, in_filter, kept_by_filter, one_passes}
 
 -- ---- names among names

@@ -1,15 +1,10 @@
 -- The files of made names, as the code counts them, and the order of names (kati's own).
 use Rattle.std.specs.Prelude.{◌≡◌, ◌↔◌, ℕ, ◌<◌, Bool, nat_eq, nat_lt, List, length, map, filter, bytes_eq, Option, None}
 use Rattle.std.specs.Prelude.{Some, if◌then◌else◌}
-use Rattle.std.specs.List.{Contains}
+use Rattle.kt_graph.specs.Prelude.{Contains, IsStrictlySortedBy, nat_cmp, slice_cmp, Text, Node}
 use Rattle.std.specs.Map.{lookup}
-use Rattle.std.specs.List.Sorted.{IsStrictlySortedBy}
-use Rattle.std.specs.Ordering.{nat_cmp}
-use Rattle.std.specs.Cmp.Lexicographic.{slice_cmp}
-use Rattle.kt_text.specs.Words.{Text}
 use Rattle.kt_graph.specs.declared.faults.files.Files.{Files}
 use Rattle.kt_graph.specs.nodes.Groups.{made_nodes}
-use Rattle.kt_graph.specs.nodes.Node.{Node}
 use Rattle.kt_graph.specs.faults.Paths.{canon_of}
 use Rattle.kt_graph.specs.nodes.Views.{name_at, names_at}
 

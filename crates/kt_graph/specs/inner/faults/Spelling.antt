@@ -1,7 +1,6 @@
 -- Names with plain components only: each is the canonical spelling of its file.
 use Rattle.std.specs.Prelude.{Bool, not, ◌||◌, ◌==◌, bytes_eq}
-use Rattle.std.specs.List.{list_all, slice_split}
-use Rattle.kt_text.specs.Words.{Text}
+use Rattle.kt_graph.specs.Prelude.{list_all, slice_split, Text}
 use Rattle.kt_graph.specs.faults.Paths.{above_name, is_idle}
 
 -- a component that isn't empty, `.` or `..`

@@ -1,11 +1,8 @@
 -- Names that are sorted by their first bytes, as the code holds them (kati's own).
 use Rattle.std.specs.Prelude.{◌≡◌, ℕ, ◌<◌, List, map, All}
-use Rattle.std.specs.List.{range_with_len}
-use Rattle.std.specs.Ordering.{nat_cmp, ordering_then}
+use Rattle.kt_graph.specs.Prelude.{range_with_len, nat_cmp, ordering_then, slice_cmp, Text}
 use Rattle.std.specs.declared.cmp.Ordering.{Ordering}
-use Rattle.std.specs.Cmp.Lexicographic.{slice_cmp}
 use Rattle.kt_text.specs.Sorted.{front_number}
-use Rattle.kt_text.specs.Words.{Text}
 use Rattle.kt_graph.specs.declared.nodes.byte_order.Front.{Front}
 use Rattle.kt_graph.specs.nodes.Views.{name_at}
 

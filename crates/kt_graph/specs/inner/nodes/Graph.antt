@@ -1,11 +1,9 @@
 -- What a graph holds by numbers: names, makings and nodes (kati's own).
 use Rattle.std.specs.Prelude.{◌≡◌, ℕ, ◌<◌, Bool, false, not, bytes_eq, find, List, length, All, Some}
-use Rattle.std.specs.Option.{option_map_or}
+use Rattle.kt_graph.specs.Prelude.{option_map_or, Text, Node, is_leaf}
 use Rattle.kt_graph.specs.declared.nodes.node.Instance.{Instance as Held}
 use Rattle.kt_graph.specs.inner.nodes.Stored.{StoredNode}
 use Rattle.kt_graph.specs.inner.faults.Files.{AreDistinct, IsByteOrder}
-use Rattle.kt_text.specs.Words.{Text}
-use Rattle.kt_graph.specs.nodes.Node.{Node, is_leaf}
 use Rattle.kt_graph.specs.inner.nodes.Numbering.{HasNumbers}
 use Rattle.kt_graph.specs.nodes.Views.{instance_at}
 

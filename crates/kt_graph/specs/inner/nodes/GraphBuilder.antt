@@ -1,25 +1,16 @@
 -- The names reached so far, and the nodes of the first of them, as the code holds them (kati's own).
 use Rattle.std.specs.Prelude.{◌≡◌, ℕ, ◌+◌, ◌-◌, true, false, List, [], ◌∷◌, ◌++◌, length, fold, take, All, Some, slice_get}
-use Rattle.std.specs.Prelude.{IfSome, None, Option, map}
-use Rattle.std.specs.List.{Contains, after_last, before_last}
-use Rattle.kt_text.specs.Words.{Text}
-use Rattle.kt_rules.specs.declared.entry.Needs.{Needs}
-use Rattle.kt_rules.specs.declared.entry.Target.{Target}
-use Rattle.kt_rules.specs.Book.{AreMadeAlike, has_recipe, is_double, patterns_of}
-use Rattle.kt_rules.specs.Entry.{Rule}
-use Rattle.kt_rules.specs.Names.{with_name}
-use Rattle.kt_rules.specs.Suffixes.{suffixes_of}
+use Rattle.kt_graph.specs.Prelude.{IfSome, None, Option, map, Contains, after_last, before_last, Text, Needs, Target}
+use Rattle.kt_graph.specs.Prelude.{AreMadeAlike, has_recipe, is_double, patterns_of, Rule, with_name, suffixes_of}
+use Rattle.kt_graph.specs.Prelude.{Explicit, Leaf, Node, group_of, node_of, own_part, rule_view}
 use Rattle.kt_graph.specs.declared.nodes.node.Instance.{Instance as Held}
-use Rattle.kt_graph.specs.declared.nodes.node.NodeKind.TheVariants.{Explicit, Leaf}
 use Rattle.kt_graph.specs.inner.nodes.Stems.{own}
 use Rattle.kt_graph.specs.inner.nodes.Stored.{StoredNode, StoredPart, input_numbers, order_only_numbers, stored_at, stored_with}
 use Rattle.kt_graph.specs.declared.nodes.graph_builder.GraphBuilder.{GraphBuilder}
 use Rattle.kt_graph.specs.inner.nodes.Needed.{needed_by}
-use Rattle.kt_graph.specs.nodes.Node.{Node, group_of, node_of, own_part}
 use Rattle.kt_graph.specs.inner.nodes.Numbering.{IsStoredAs, SaysNeeds, SaysNode}
 use Rattle.kt_graph.specs.Reach.{IsReached}
 use Rattle.kt_graph.specs.nodes.Views.{name_at}
-use Rattle.kt_rules.specs.Slots.{rule_view}
 use Rattle.kt_graph.specs.declared.nodes.building.Used.{Used}
 
 -- the rules before the last rule with a recipe, and those after it

@@ -1,11 +1,9 @@
 -- Groups of nodes by numbers, as the code finds them (kati's own).
 use Rattle.std.specs.Prelude.{◌≡◌, ℕ, ◌<◌, Bool, true, false, not, ◌&&◌, nat_eq, List, [], ◌∷◌, filter, flat_map}
 use Rattle.std.specs.Prelude.{All, get_or, length, Option, Some, None, slice_get, if◌then◌else◌}
-use Rattle.std.specs.Option.{option_and_then, option_map_or}
-use Rattle.kt_text.specs.Words.{Text}
+use Rattle.kt_graph.specs.Prelude.{option_and_then, option_map_or, Text, Node, is_leaf}
 use Rattle.kt_graph.specs.declared.nodes.node.Instance.{Instance as Held}
 use Rattle.kt_graph.specs.inner.nodes.Stored.{AreAlike, StoredNode, stored_at}
-use Rattle.kt_graph.specs.nodes.Node.{Node, is_leaf}
 use Rattle.kt_graph.specs.nodes.Views.{nodes_view}
 use Rattle.kt_graph.specs.inner.faults.Edges.{with_edge}
 

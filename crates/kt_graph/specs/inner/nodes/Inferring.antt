@@ -1,13 +1,8 @@
 -- What a chosen pattern rule gives to a name, as the code holds it (kati's own).
 use Rattle.std.specs.Prelude.{◌≡◌, nat_lt, List, [], ◌∷◌, ◌++◌, length, Option, Some, None, MatchOption, option_map}
 use Rattle.std.specs.Prelude.{slice_get, if◌then◌else◌}
-use Rattle.kt_text.specs.Words.{Text}
-use Rattle.kt_rules.specs.declared.entry.Target.{Target}
-use Rattle.kt_rules.specs.Entry.{Rule}
-use Rattle.kt_graph.specs.declared.search.choice.Chosen.{Chosen}
+use Rattle.kt_graph.specs.Prelude.{Text, Target, Rule, Chosen, Implicit, Candidate, needs_with}
 use Rattle.kt_graph.specs.declared.nodes.inferring.Inferred.{Inferred}
-use Rattle.kt_graph.specs.declared.nodes.node.NodeKind.TheVariants.{Implicit}
-use Rattle.kt_graph.specs.search.Candidates.{Candidate, needs_with}
 use Rattle.kt_graph.specs.nodes.Node.{Instance, Node, of_pattern, implicit_node, joined_needs, needs_after}
 use Rattle.kt_graph.specs.inner.nodes.Stems.{given, stem_in}
 use Rattle.kt_graph.specs.nodes.Views.{instance_view}

@@ -1,17 +1,11 @@
 -- What the rules of a name need together (kati's own).
 use Rattle.std.specs.Prelude.{List, ◌∷◌, ◌++◌, [], map, flat_map, Option, Some, None, option_map}
-use Rattle.kt_text.specs.Words.{Text}
-use Rattle.kt_rules.specs.declared.entry.Needs.{Needs}
-use Rattle.kt_rules.specs.declared.entry.Target.{Target}
-use Rattle.kt_rules.specs.Entry.{Rule, needs_for}
+use Rattle.kt_graph.specs.Prelude.{Text, Needs, Target, Rule, needs_for, rule_view, all_needs, NodeKind}
 use Rattle.kt_rules.specs.declared.needs.NeedsView.{NeedsView}
-use Rattle.kt_rules.specs.Slots.{rule_view}
-use Rattle.kt_rules.specs.Suffixes.{all_needs}
 use Rattle.kt_rules.specs.Targets.{needs_view}
 use Rattle.kt_graph.specs.declared.nodes.needing.Needing.{Needing}
 use Rattle.kt_graph.specs.declared.nodes.needing.Sort.{Sort}
 use Rattle.kt_graph.specs.declared.nodes.needing.Sort.TheVariants.{Prerequisite, OrderOnly}
-use Rattle.kt_graph.specs.declared.nodes.node.NodeKind.{NodeKind}
 use Rattle.kt_graph.specs.declared.nodes.part.Part.{Part as NewPart}
 use Rattle.kt_graph.specs.inner.nodes.Stems.{stem_in}
 use Rattle.kt_graph.specs.nodes.Node.{Instance, Node, Part}

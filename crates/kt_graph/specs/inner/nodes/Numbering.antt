@@ -1,14 +1,9 @@
 -- Names and nodes by numbers, as the code holds them (kati's own).
 use Rattle.std.specs.Prelude.{◌≡◌, ℕ, ◌<◌, List, ◌++◌, length, map, fold, All, Option, Some, IfSome, slice_get}
-use Rattle.std.specs.List.{AllZip}
-use Rattle.kt_list.specs.Names.{AreBelow}
-use Rattle.kt_text.specs.Words.{Text}
-use Rattle.kt_rules.specs.declared.entry.Needs.{Needs}
-use Rattle.kt_rules.specs.Names.{with_name}
+use Rattle.kt_graph.specs.Prelude.{AllZip, AreBelow, Text, Needs, with_name, Instance, Node, Part}
 use Rattle.kt_graph.specs.declared.nodes.node.Instance.{Instance as Held}
 use Rattle.kt_graph.specs.inner.nodes.Stems.{stem_in}
 use Rattle.kt_graph.specs.inner.nodes.Stored.{StoredNode, StoredPart, input_numbers, order_only_numbers}
-use Rattle.kt_graph.specs.nodes.Node.{Instance, Node, Part}
 use Rattle.kt_graph.specs.nodes.Views.{instance_at, name_at, node_view}
 
 -- the prerequisites of a part are numbers of names

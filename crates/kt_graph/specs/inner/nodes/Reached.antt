@@ -1,10 +1,7 @@
 -- Reached names by their numbers among all names, as the code holds them (kati's own).
 use Rattle.std.specs.Prelude.{◌≡◌, ℕ, zero, suc, ◌≤◌, List, [], ◌∷◌, ◌++◌, length, get_or, slice_get, bytes_eq}
-use Rattle.std.specs.Prelude.{Option, Some, None}
+use Rattle.kt_graph.specs.Prelude.{Option, Some, None, IsDistinct, AreBelow, place_of, with_name, Text}
 use Rattle.std.specs.Borrow.{Bor}
-use Rattle.std.specs.List.{IsDistinct}
-use Rattle.kt_list.specs.Names.{AreBelow, place_of, with_name}
-use Rattle.kt_text.specs.Words.{Text}
 use Rattle.kt_graph.specs.declared.nodes.reached.Reached.{Reached}
 use Rattle.kt_graph.specs.declared.nodes.reached_name.ReachedName.{ReachedName}
 use Rattle.kt_graph.specs.declared.nodes.reached_name.ReachedName.TheVariants.{InTables, Other}

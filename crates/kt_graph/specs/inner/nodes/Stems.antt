@@ -1,10 +1,7 @@
 -- The stem of a part, as the code holds it (kati's own).
-use Rattle.std.specs.Prelude.{List}
-use Rattle.kt_text.specs.Words.{Text}
-use Rattle.kt_rules.specs.Suffixes.{suffixes_of}
+use Rattle.kt_graph.specs.Prelude.{List, Text, suffixes_of, suffix_stem}
 use Rattle.kt_graph.specs.declared.nodes.stem.Form.{Form}
 use Rattle.kt_graph.specs.declared.nodes.stem.Form.TheVariants.{Own, Suffixed, InBook, Short, Long}
-use Rattle.kt_graph.specs.nodes.Node.{suffix_stem}
 
 -- the name of the node without the first of these suffixes that it ends with, or a text
 pub data HeldStem : Type 0 where

@@ -1,18 +1,12 @@
 -- The questions of a search with their answers, as the code holds them (kati's own).
 use Rattle.std.specs.Prelude.{◌≡◌, ℕ, zero, suc, ◌-◌, ◌<◌, ◌≤◌, true, false, List, [], ◌∷◌, ◌++◌, length, map}
 use Rattle.std.specs.Prelude.{fold, Option, Some, None, IfSome, unwrap_or, slice_get}
-use Rattle.std.specs.List.{Contains, list_any}
-use Rattle.kt_list.specs.Prefixes.{IsPrefix}
-use Rattle.kt_text.specs.Words.{Text}
-use Rattle.kt_rules.specs.Entry.{Rule}
+use Rattle.kt_graph.specs.Prelude.{Contains, list_any, IsPrefix, Text, Rule, Question, Candidate, with_question}
 use Rattle.kt_graph.specs.declared.search.candidate.Candidate.{Candidate as HeldCandidate}
-use Rattle.kt_graph.specs.declared.search.question.Question.{Question}
 use Rattle.kt_graph.specs.declared.search.tried.Tried.{Tried}
 use Rattle.kt_graph.specs.declared.search.tried.Placed.{Placed}
 use Rattle.kt_graph.specs.declared.search.tried.Placed.TheVariants.{Before, Last}
-use Rattle.kt_graph.specs.search.Candidates.{Candidate}
 use Rattle.kt_graph.specs.search.Search.{Sought, asked_eq, asked_inside, asking, chain_limit, fitting, open_candidates}
-use Rattle.kt_graph.specs.search.Search.{with_question}
 use Rattle.kt_graph.specs.search.Views.{IsFitWithin, question_view, found_view}
 
 -- the candidate that was found for a name is the expected one; it has a rule, and its places are in the name

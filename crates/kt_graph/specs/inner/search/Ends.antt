@@ -1,12 +1,7 @@
 -- Rules by the ends of their targets, as the code holds them (kati's own).
 use Rattle.std.specs.Prelude.{◌≡◌, ℕ, ◌-◌, ◌≤◌, ◌++◌, false, All, List, drop, length, filter_map}
-use Rattle.std.specs.Prelude.{slice_get, Option, Some}
-use Rattle.std.specs.List.{Contains}
-use Rattle.std.specs.Option.{option_and_then}
-use Rattle.kt_text.specs.Words.{Text}
+use Rattle.kt_graph.specs.Prelude.{slice_get, Option, Some, Contains, option_and_then, Text, Target, Rule}
 use Rattle.kt_text.specs.Match.{pattern_back}
-use Rattle.kt_rules.specs.declared.entry.Target.{Target}
-use Rattle.kt_rules.specs.Entry.{Rule}
 use Rattle.kt_rules.specs.Indexes.{noted_at}
 use Rattle.kt_graph.specs.declared.search.ends.Ends.{Ends}
 use Rattle.kt_graph.specs.search.Candidates.{Candidate, candidate_of, has_slash}

@@ -1,5 +1,4 @@
-use Rattle.std.proofs.Common.{◌≡◌, ap, not, rules}
-use Rattle.std.specs.Prelude.{true, false}
+use Rattle.std.proofs.Common.{◌≡◌, ap, not, rules, true, false}
 use Rattle.kt_ninja.specs.Writable.{is_name}
 use Rattle.kt_ninja.proofs.Places.{found_here, found_later}
 use Rattle.kt_ninja.proofs.checking.first_bad.Goals as goal

@@ -1,6 +1,4 @@
-use Rattle.std.proofs.Common.{rules}
-use Rattle.kt_ninja.specs.Writable.{told_obstacle}
-use Rattle.kt_list.proofs.general.Places.{at_place}
+use Rattle.kt_ninja.proofs.Common.{rules, told_obstacle, at_place}
 use Rattle.kt_ninja.proofs.Troubles.{obstacles_here, obstacles_later}
 use Rattle.kt_ninja.proofs.checking.first_bad_text.Goals as goal
 

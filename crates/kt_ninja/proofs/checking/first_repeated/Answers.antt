@@ -1,11 +1,7 @@
-use Rattle.std.proofs.Common.{◌∙◌, ◌≡◌, ◌+◌, ℕ, List, take, drop, sym, ap, rules}
-use Rattle.std.specs.Prelude.{Option, Some, None}
-use Rattle.std.specs.Option.{option_or}
-use Rattle.kt_ninja.specs.declared.plan.Statement.{Statement}
+use Rattle.std.proofs.Common.{◌∙◌, ◌≡◌, ◌+◌, ℕ, List, take, drop, sym, ap, rules, Option, Some, None}
+use Rattle.kt_ninja.proofs.Common.{option_or, Statement, repeated_after, at_place}
 use Rattle.kt_ninja.specs.Plan.{outputs}
 use Rattle.kt_ninja.specs.View.{names_at}
-use Rattle.kt_ninja.specs.Writable.{repeated_after}
-use Rattle.kt_list.proofs.general.Places.{at_place}
 use Rattle.kt_ninja.proofs.Troubles.{repeated_after-next}
 use Rattle.kt_ninja.proofs.checking.first_repeated.Goals as goal
 

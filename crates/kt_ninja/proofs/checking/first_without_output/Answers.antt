@@ -1,9 +1,6 @@
-use Rattle.std.proofs.Common.{◌≡◌, ◌∙◌, ap, sym, rules}
-use Rattle.std.specs.Prelude.{Option, true, false}
-use Rattle.kt_ninja.specs.declared.plan.Statement.{Statement}
+use Rattle.std.proofs.Common.{◌≡◌, ◌∙◌, ap, sym, rules, Option, true, false}
+use Rattle.kt_ninja.proofs.Common.{Statement, is_empty, at_place}
 use Rattle.kt_ninja.specs.View.{names_at}
-use Rattle.kt_ninja.specs.Writable.{is_empty}
-use Rattle.kt_list.proofs.general.Places.{at_place}
 use Rattle.kt_ninja.proofs.Places.{place_here, place_later}
 use Rattle.kt_ninja.proofs.checking.first_without_output.Goals as goal
 

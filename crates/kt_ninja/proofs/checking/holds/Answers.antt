@@ -1,6 +1,4 @@
-use Rattle.std.proofs.Common.{rules}
-use Rattle.std.specs.Prelude.{nat_eq}
-use Rattle.std.specs.Cmp.Lexicographic.{pointwise}
+use Rattle.kt_ninja.proofs.Common.{rules, nat_eq, pointwise}
 use Rattle.kt_ninja.proofs.Places.{passes_here, passes_later, passes_none}
 use Rattle.kt_ninja.proofs.checking.holds.Goals as goal
 

@@ -1,9 +1,6 @@
-use Rattle.std.proofs.Common.{◌≡◌, ◌∙◌, ap, sym, rules}
-use Rattle.std.specs.Prelude.{true, false, Option}
-use Rattle.kt_list.specs.Names.{is_among}
-use Rattle.kt_ninja.specs.declared.plan.Statement.{Statement}
+use Rattle.std.proofs.Common.{◌≡◌, ◌∙◌, ap, sym, rules, true, false, Option}
+use Rattle.kt_ninja.proofs.Common.{is_among, Statement, at_place}
 use Rattle.kt_ninja.specs.View.{names_at}
-use Rattle.kt_list.proofs.general.Places.{at_place}
 use Rattle.kt_ninja.proofs.Places.{passes_here, passes_later, passes_none}
 use Rattle.kt_ninja.proofs.checking.is_made_by.Goals as goal
 

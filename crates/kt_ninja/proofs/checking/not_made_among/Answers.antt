@@ -1,8 +1,6 @@
 use Rattle.std.proofs.Common.{◌≡◌, ◌∙◌, List, ap, sym, not, rules, take, true, false}
-use Rattle.std.proofs.lemmas.List.{take_all}
-use Rattle.kt_list.specs.Names.{is_among}
+use Rattle.kt_ninja.proofs.Common.{take_all, is_among, Statement}
 use Rattle.kt_ninja.specs.Plan.{outputs}
-use Rattle.kt_ninja.specs.declared.plan.Statement.{Statement}
 use Rattle.kt_ninja.proofs.Places.{found_here, found_later}
 use Rattle.kt_ninja.proofs.checking.not_made_among.Goals as goal
 

@@ -1,5 +1,4 @@
-use Rattle.std.proofs.Common.{◌≡◌, ◌∙◌, sym, take, rules}
-use Rattle.std.specs.Prelude.{true, false}
+use Rattle.std.proofs.Common.{◌≡◌, ◌∙◌, sym, take, rules, true, false}
 use Rattle.kt_ninja.specs.Plan.{outputs}
 use Rattle.kt_ninja.proofs.Troubles.{repeats_here, repeats_later}
 use Rattle.kt_ninja.proofs.checking.repeated_among.Goals as goal

@@ -1,7 +1,5 @@
-use Rattle.std.proofs.Common.{◌≡◌, ◌∙◌, ◌++◌, ◌∷◌, [], List, take, sym, ap, rules}
-use Rattle.std.specs.Prelude.{slice_get}
-use Rattle.kt_ninja.specs.declared.plan.Statement.{Statement}
-use Rattle.kt_list.proofs.general.Places.{at_place}
+use Rattle.std.proofs.Common.{◌≡◌, ◌∙◌, ◌++◌, ◌∷◌, [], List, take, sym, ap, rules, slice_get}
+use Rattle.kt_ninja.proofs.Common.{Statement, at_place}
 use Rattle.kt_ninja.proofs.Places.{take_at}
 use Rattle.kt_ninja.proofs.ViewLemmas.{shown_there}
 use Rattle.kt_ninja.proofs.copying.copied_statements.Goals as goal

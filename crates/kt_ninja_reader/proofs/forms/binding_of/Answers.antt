@@ -1,6 +1,4 @@
-use Rattle.std.proofs.lemmas.Result.{err_from_is_err_and}
-use Rattle.kt_ninja_reader.specs.Forms.{binding_of}
-use Rattle.kt_ninja_reader.specs.inner.Wording.{key_of}
+use Rattle.kt_ninja_reader.proofs.Common.{err_from_is_err_and, binding_of, key_of}
 use Rattle.kt_ninja_reader.proofs.LineLemmas.{binding_none, binding_read, binding_refused}
 use Rattle.kt_ninja_reader.proofs.PieceLemmas.{refuses_too}
 use Rattle.kt_ninja_reader.proofs.forms.binding_of.Goals as goal

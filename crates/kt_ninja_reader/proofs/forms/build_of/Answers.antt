@@ -1,7 +1,5 @@
 use Rattle.std.proofs.Common.{ap, ◌∙◌, sym}
-use Rattle.std.proofs.lemmas.Result.{err_from_is_err_and}
-use Rattle.kt_ninja_reader.specs.Forms.{build_of, paths_of}
-use Rattle.kt_ninja_reader.specs.inner.Wording.{two_of}
+use Rattle.kt_ninja_reader.proofs.Common.{err_from_is_err_and, build_of, paths_of, two_of}
 use Rattle.kt_ninja_reader.proofs.LineLemmas.{build_none, sides_read, sides_refused}
 use Rattle.kt_ninja_reader.proofs.PieceLemmas.{refuses_too}
 use Rattle.kt_ninja_reader.proofs.forms.build_of.Goals as goal

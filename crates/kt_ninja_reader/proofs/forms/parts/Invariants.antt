@@ -1,6 +1,5 @@
 use Rattle.std.proofs.Common.{◌≡◌, ◌++◌, length}
-use Rattle.std.specs.List.{slice_split}
-use Rattle.kt_ninja_reader.specs.Forms.{is_plain}
+use Rattle.kt_ninja_reader.proofs.Common.{slice_split, is_plain}
 use Rattle.kt_ninja_reader.proofs.forms.parts.Given as goal
 
 abbrev pub invariant-loop-part : goal.invariant-loop-part

@@ -1,9 +1,4 @@
-use Rattle.std.proofs.Common.{refl}
-use Rattle.kt_ninja_reader.specs.JoinedLines.{file_lines, ends_in_dollar, is_comment, joined_from, joined_lines}
-use Rattle.kt_ninja_reader.specs.Pieces.{pieces_from, pieces}
-use Rattle.kt_ninja_reader.specs.Forms.{words_of, name_bytes, binding_of, build_of, defaults_of, rule_of, form_of}
-use Rattle.kt_ninja_reader.specs.Scopes.{find_in, put_in, expanded, shell_word, shell_words, command_value}
-use Rattle.kt_ninja_reader.specs.NinjaRead.{cut_lines, block_from, bind, read_rule, block_scope, making_of, paths_in, are_new, read_build, read_default, read_part, read_parts, made_of, statement_of, plan_of, ninja_read}
+use Rattle.kt_ninja_reader.proofs.Common.{refl, file_lines, ends_in_dollar, is_comment, joined_from, joined_lines, pieces_from, pieces, words_of, name_bytes, binding_of, build_of, defaults_of, rule_of, form_of, find_in, put_in, expanded, shell_word, shell_words, command_value, cut_lines, block_from, bind, read_rule, block_scope, making_of, paths_in, are_new, read_build, read_default, read_part, read_parts, made_of, statement_of, plan_of, ninja_read}
 use Rattle.kt_ninja_reader.proofs.laws.rows_of_plans.Goals as goal
 
 pub returns : goal.returns

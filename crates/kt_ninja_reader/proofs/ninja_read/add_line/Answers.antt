@@ -1,8 +1,6 @@
 use Rattle.std.proofs.Common.{◌≡◌, sym, ◌∙◌, ap, map, true, false}
-use Rattle.std.proofs.lemmas.Result.{err_from_is_err_and}
-use Rattle.kt_ninja_reader.specs.JoinedLines.{is_blank, is_comment}
+use Rattle.kt_ninja_reader.proofs.Common.{err_from_is_err_and, is_blank, is_comment, binding_view}
 use Rattle.kt_ninja_reader.specs.Reading.{line_binding}
-use Rattle.kt_ninja_reader.specs.inner.Wording.{binding_view}
 use Rattle.kt_ninja_reader.proofs.PieceLemmas.{refuses_too}
 use Rattle.kt_ninja_reader.proofs.ReaderLemmas.{binding_adds, binding_stops, blank_adds, closed_stops, comment_adds, told_more}
 use Rattle.kt_ninja_reader.proofs.ninja_read.add_line.Goals as goal

@@ -1,7 +1,5 @@
 use Rattle.std.proofs.Common.{◌++◌, sym, ◌∙◌, ap, map, option_map, arith}
-use Rattle.std.proofs.lemmas.List.{drop_all}
-use Rattle.kt_ninja_reader.specs.NinjaRead.{block_from}
-use Rattle.kt_ninja_reader.specs.inner.Wording.{binding_view}
+use Rattle.kt_ninja_reader.proofs.Common.{drop_all, block_from, binding_view}
 use Rattle.kt_ninja_reader.proofs.ReaderLemmas.{block_over}
 use Rattle.kt_ninja_reader.proofs.ninja_read.block.Goals as goal
 

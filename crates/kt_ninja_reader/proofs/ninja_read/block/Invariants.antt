@@ -1,6 +1,5 @@
 use Rattle.std.proofs.Common.{◌≡◌, ◌++◌, false, drop, map, option_map}
-use Rattle.kt_ninja_reader.specs.NinjaRead.{block_from}
-use Rattle.kt_ninja_reader.specs.inner.Wording.{binding_view}
+use Rattle.kt_ninja_reader.proofs.Common.{block_from, binding_view}
 use Rattle.kt_ninja_reader.proofs.ninja_read.block.Given as goal
 
 abbrev pub invariant-loop-line : goal.invariant-loop-line

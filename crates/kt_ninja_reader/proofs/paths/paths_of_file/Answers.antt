@@ -1,6 +1,4 @@
-use Rattle.std.proofs.Common.{ap}
-use Rattle.kt_ninja_reader.specs.NinjaRead.{paths_in}
-use Rattle.kt_ninja_reader.specs.Scopes.{value_in, value_within}
+use Rattle.kt_ninja_reader.proofs.Common.{ap, paths_in, value_in, value_within}
 use Rattle.kt_ninja_reader.proofs.StateLemmas.{carried, within_none}
 use Rattle.kt_ninja_reader.proofs.paths.paths_of_file.Goals as goal
 

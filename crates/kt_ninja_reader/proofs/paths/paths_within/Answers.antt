@@ -1,8 +1,5 @@
 use Rattle.std.proofs.Common.{◌++◌, ◌+◌, ap, sym, ◌∙◌, drop, option_map, arith}
-use Rattle.std.proofs.lemmas.List.{drop_all}
-use Rattle.std.proofs.lemmas.Result.{err_from_is_err_and}
-use Rattle.kt_ninja_reader.specs.NinjaRead.{paths_in}
-use Rattle.kt_ninja_reader.specs.Scopes.{value_within}
+use Rattle.kt_ninja_reader.proofs.Common.{drop_all, err_from_is_err_and, paths_in, value_within}
 use Rattle.kt_ninja_reader.specs.inner.Holding.{path_in}
 use Rattle.kt_ninja_reader.proofs.PieceLemmas.{refuses_too}
 use Rattle.kt_ninja_reader.proofs.StateLemmas.{left_at, path_refused, path_taken, paths_end}

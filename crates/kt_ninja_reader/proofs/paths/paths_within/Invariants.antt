@@ -1,6 +1,5 @@
 use Rattle.std.proofs.Common.{◌≡◌, ◌++◌, drop, option_map}
-use Rattle.kt_ninja_reader.specs.NinjaRead.{paths_in}
-use Rattle.kt_ninja_reader.specs.Scopes.{value_within}
+use Rattle.kt_ninja_reader.proofs.Common.{paths_in, value_within}
 use Rattle.kt_ninja_reader.proofs.paths.paths_within.Given as goal
 
 abbrev pub invariant-loop-spelling : goal.invariant-loop-spelling

@@ -1,6 +1,5 @@
 use Rattle.std.proofs.Common.{◌≡◌, ◌∷◌, ◌++◌, drop}
-use Rattle.std.specs.List.{flat_map}
-use Rattle.kt_ninja_reader.specs.Scopes.{shell_word}
+use Rattle.kt_ninja_reader.proofs.Common.{flat_map, shell_word}
 use Rattle.kt_ninja_reader.proofs.scopes.add_later_words.Given as goal
 
 abbrev pub invariant-loop-path : goal.invariant-loop-path

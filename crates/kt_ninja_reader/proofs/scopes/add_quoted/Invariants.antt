@@ -1,6 +1,5 @@
 use Rattle.std.proofs.Common.{◌≡◌, ◌++◌, drop}
-use Rattle.std.specs.List.{flat_map}
-use Rattle.kt_ninja_reader.specs.Scopes.{byte_in_quotes}
+use Rattle.kt_ninja_reader.proofs.Common.{flat_map, byte_in_quotes}
 use Rattle.kt_ninja_reader.proofs.scopes.add_quoted.Given as goal
 
 abbrev pub invariant-loop-byte : goal.invariant-loop-byte

@@ -1,7 +1,5 @@
 use Rattle.std.proofs.Common.{◌≡◌, ◌++◌, [], ap, sym, ◌∙◌, append-nil}
-use Rattle.std.proofs.lemmas.List.{nil_from_length}
-use Rattle.std.proofs.lemmas.Result.{on_ok_weaker}
-use Rattle.kt_ninja_reader.specs.Scopes.{shell_word}
+use Rattle.kt_ninja_reader.proofs.Common.{nil_from_length, on_ok_weaker, shell_word}
 use Rattle.kt_ninja_reader.proofs.ScopeLemmas.{shell_words-none, words_put}
 use Rattle.kt_ninja_reader.proofs.scopes.add_shell_words.Goals as goal
 

@@ -1,6 +1,5 @@
 use Rattle.std.proofs.Common.{ap, ◌∙◌, take}
-use Rattle.std.specs.List.{list_any}
-use Rattle.memchr.specs.Find.{is_byte2}
+use Rattle.kt_ninja_reader.proofs.Common.{list_any, is_byte2}
 use Rattle.kt_ninja_reader.proofs.SpelledLemmas.{before_free, place_found}
 use Rattle.kt_ninja_reader.proofs.spelling.cut_run.Goals as goal
 

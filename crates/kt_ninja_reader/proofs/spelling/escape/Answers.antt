@@ -1,6 +1,5 @@
 use Rattle.std.proofs.Common.{[], ◌≡◌, ◌∷◌, length, ap, sym, ◌∙◌, arith}
-use Rattle.std.proofs.lemmas.Bool.{ne_eqb, eq-eqb}
-use Rattle.kt_ninja_reader.specs.Pieces.{after_dollar, in_braces, pieces_from}
+use Rattle.kt_ninja_reader.proofs.Common.{ne_eqb, eq-eqb, after_dollar, in_braces, pieces_from}
 use Rattle.kt_ninja_reader.proofs.PieceLemmas.{cuts_option, cuts_too, escape-brace, escape-escapable, escape-nil, no_short_of, short_of}
 use Rattle.kt_ninja_reader.proofs.spelling.escape.Goals as goal
 

@@ -1,5 +1,4 @@
-use Rattle.std.proofs.Common.{refl}
-use Rattle.std.proofs.lemmas.Bool.{ne_eqb}
+use Rattle.kt_ninja_reader.proofs.Common.{refl, ne_eqb}
 use Rattle.kt_ninja_reader.proofs.PieceLemmas.{brace_cut, brace_end, brace_empty, brace_other}
 use Rattle.kt_ninja_reader.proofs.spelling.variable_in_braces.Goals as goal
 

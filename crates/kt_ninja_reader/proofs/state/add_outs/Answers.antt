@@ -1,7 +1,5 @@
 use Rattle.std.proofs.Common.{◌++◌, ◌+◌, ap, sym, ◌∙◌, append-nil, drop, arith}
-use Rattle.std.proofs.lemmas.List.{drop_all}
-use Rattle.kt_list.specs.Names.{is_among, with_name}
-use Rattle.kt_ninja_reader.specs.NinjaRead.{are_new}
+use Rattle.kt_ninja_reader.proofs.Common.{drop_all, is_among, with_name, are_new}
 use Rattle.kt_ninja_reader.proofs.StateLemmas.{left_at, new_end, new_refused, new_taken}
 use Rattle.kt_ninja_reader.proofs.state.add_outs.Goals as goal
 

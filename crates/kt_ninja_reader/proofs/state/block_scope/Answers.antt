@@ -1,9 +1,6 @@
 use Rattle.std.proofs.Common.{[], ◌+◌, ap, sym, ◌∙◌, drop, map, arith}
-use Rattle.std.proofs.lemmas.List.{drop_all}
-use Rattle.std.proofs.lemmas.Result.{err_from_is_err_and}
-use Rattle.kt_ninja_reader.specs.NinjaRead.{block_scope}
+use Rattle.kt_ninja_reader.proofs.Common.{drop_all, err_from_is_err_and, block_scope, binding_view}
 use Rattle.kt_ninja_reader.specs.inner.Holding.{block_with}
-use Rattle.kt_ninja_reader.specs.inner.Wording.{binding_view}
 use Rattle.kt_ninja_reader.proofs.PieceLemmas.{refuses_too}
 use Rattle.kt_ninja_reader.proofs.StateLemmas.{block_end, block_refused, block_taken, told_at}
 use Rattle.kt_ninja_reader.proofs.state.block_scope.Goals as goal

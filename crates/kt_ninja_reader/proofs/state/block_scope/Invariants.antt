@@ -1,6 +1,5 @@
 use Rattle.std.proofs.Common.{◌≡◌, [], drop, map}
-use Rattle.kt_ninja_reader.specs.NinjaRead.{block_scope}
-use Rattle.kt_ninja_reader.specs.inner.Wording.{binding_view}
+use Rattle.kt_ninja_reader.proofs.Common.{block_scope, binding_view}
 use Rattle.kt_ninja_reader.proofs.state.block_scope.Given as goal
 
 abbrev pub invariant-loop-binding : goal.invariant-loop-binding

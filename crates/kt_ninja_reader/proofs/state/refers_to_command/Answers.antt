@@ -1,6 +1,5 @@
 use Rattle.std.proofs.Common.{codes, ap, map, sym, ◌∙◌}
-use Rattle.std.specs.List.{list_any}
-use Rattle.std.specs.Str.{bytes_eq}
+use Rattle.kt_ninja_reader.proofs.Common.{list_any, bytes_eq}
 use Rattle.kt_ninja_reader.proofs.ScopeLemmas.{any_now}
 use Rattle.kt_ninja_reader.proofs.SpelledParts.{refers_by_names}
 use Rattle.kt_ninja_reader.proofs.state.refers_to_command.Goals as goal

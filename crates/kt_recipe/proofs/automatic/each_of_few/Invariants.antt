@@ -1,5 +1,4 @@
-use Rattle.std.proofs.Common.{◌≡◌, [], map}
-use Rattle.std.specs.Prelude.{fold}
+use Rattle.std.proofs.Common.{◌≡◌, [], map, fold}
 use Rattle.kt_rules.specs.Names.{with_name}
 use Rattle.kt_recipe.proofs.automatic.each_of_few.Given as goal
 

@@ -1,7 +1,5 @@
 use Rattle.std.proofs.Common.{◌≡◌, drop, map}
-use Rattle.kt_text.specs.Words.{list_text}
-use Rattle.kt_text.proofs.ListLemmas.{put_words}
-use Rattle.kt_recipe.specs.Forms.{directory_of}
+use Rattle.kt_recipe.proofs.Common.{list_text, put_words, directory_of}
 use Rattle.kt_recipe.proofs.forms.directories.Given as goal
 
 abbrev pub invariant-loop-name : goal.invariant-loop-name

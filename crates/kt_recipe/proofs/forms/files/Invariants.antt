@@ -1,6 +1,5 @@
 use Rattle.std.proofs.Common.{◌≡◌, drop, map}
-use Rattle.kt_text.specs.Words.{list_text}
-use Rattle.kt_text.proofs.ListLemmas.{put_words}
+use Rattle.kt_recipe.proofs.Common.{list_text, put_words}
 use Rattle.kt_text.specs.Functions.{name_part}
 use Rattle.kt_recipe.proofs.forms.files.Given as goal
 

@@ -1,7 +1,6 @@
-use Rattle.std.proofs.Common.{rules, tests}
+use Rattle.kt_recipe.proofs.Common.{rules, tests, pieces_of}
 use Rattle.std.proofs.lemmas.Iterator.Consumers.{map_from_collect}
 use Rattle.std.proofs.lemmas.Iterator.Splits.{YieldsList-from_slice_split}
-use Rattle.kt_recipe.specs.Lines.{pieces_of}
 use Rattle.kt_recipe.proofs.lines.pieces.Goals as goal
 
 pub returns : goal.returns

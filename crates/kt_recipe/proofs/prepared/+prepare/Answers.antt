@@ -1,8 +1,5 @@
 use Rattle.std.proofs.Common.{◌≡◌, [], false, true, sym, rules}
-use Rattle.std.proofs.lemmas.Result.{IfOk-weaker}
-use Rattle.kt_syntax.specs.Terms.{dollar, literal, reference, terms_of, token_of}
-use Rattle.kt_eval.specs.expanding.Levels.{evaluator}
-use Rattle.kt_eval.specs.inner.Plain.{names_plainly}
+use Rattle.kt_recipe.proofs.Common.{IfOk-weaker, dollar, literal, reference, terms_of, token_of, evaluator, names_plainly}
 use Rattle.kt_recipe.proofs.PreparedLemmas.{all_added, deeper_adds, dollar_adds, entry_adds, known_adds, literal_adds, macro_adds, nothing_adds, reference_adds, term_added}
 use Rattle.kt_recipe.proofs.prepared.+prepare.Goals as goal
 

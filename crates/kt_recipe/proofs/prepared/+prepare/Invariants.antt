@@ -1,8 +1,7 @@
 -- The order of the cycle: a value is expanded with one level less. The loop: the terms that are left are added to what
 -- was added for those before them.
 use Rattle.std.proofs.Common.{[], false, ◌+◌, ◌*◌, length}
-use Rattle.kt_syntax.specs.Terms.{terms_of}
-use Rattle.kt_eval.specs.expanding.Levels.{evaluator}
+use Rattle.kt_recipe.proofs.Common.{terms_of, evaluator}
 use Rattle.kt_recipe.proofs.PreparedLemmas.{AddsUpTo}
 use Rattle.kt_recipe.proofs.prepared.+prepare.Given as goal
 

@@ -1,7 +1,4 @@
-use Rattle.std.proofs.Common.{None, length}
-use Rattle.std.specs.List.{range_with_len}
-use Rattle.std.proofs.lemmas.Result.{err_from_is_err_and}
-use Rattle.kt_recipe.specs.Shell.{shell_of}
+use Rattle.kt_recipe.proofs.Common.{None, length, range_with_len, err_from_is_err_and, shell_of}
 use Rattle.kt_recipe.proofs.ShellLemmas.{out_of_memory, put_parts_front}
 use Rattle.kt_recipe.proofs.shell.command.Goals as goal
 

@@ -1,8 +1,5 @@
 use Rattle.std.proofs.Common.{◌∙◌, ◌+◌, ◌-◌, length}
-use Rattle.std.specs.List.{range_with_len}
-use Rattle.std.proofs.lemmas.Result.{err_from_is_err_and}
-use Rattle.kt_recipe.specs.Shell.{put_part, put_parts}
-use Rattle.kt_recipe.specs.Views.{command_in}
+use Rattle.kt_recipe.proofs.Common.{range_with_len, err_from_is_err_and, put_part, put_parts, command_in}
 use Rattle.kt_recipe.proofs.LoopLemmas.{parts_from}
 use Rattle.kt_recipe.proofs.ShellLemmas.{put_parts_front, stops_all}
 use Rattle.kt_recipe.proofs.shell.put_parts.Goals as goal

@@ -1,8 +1,5 @@
 use Rattle.std.proofs.Common.{◌≡◌, ◌-◌, length}
-use Rattle.std.specs.List.{range_with_len}
-use Rattle.kt_list.specs.Prefixes.{IsPrefix}
-use Rattle.kt_recipe.specs.Shell.{put_parts}
-use Rattle.kt_recipe.specs.Views.{command_in}
+use Rattle.kt_recipe.proofs.Common.{range_with_len, IsPrefix, put_parts, command_in}
 use Rattle.kt_recipe.proofs.shell.put_parts.Given as goal
 
 abbrev pub invariant-loop-part : goal.invariant-loop-part

@@ -1,5 +1,4 @@
-use Rattle.std.proofs.Common.{◌≡◌, drop}
-use Rattle.std.specs.Prelude.{find}
+use Rattle.std.proofs.Common.{◌≡◌, drop, find}
 use Rattle.kt_rules.specs.Names.{is_refused_name}
 use Rattle.kt_rules.proofs.checking.refused_among.Given as goal
 

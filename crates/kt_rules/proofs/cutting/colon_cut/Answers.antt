@@ -1,6 +1,5 @@
 use Rattle.std.proofs.Common.{◌+◌, Some, sym, ◌∙◌, ap, take}
-use Rattle.std.proofs.lemmas.List.{take_rest}
-use Rattle.kt_text.specs.Words.{Text}
+use Rattle.kt_rules.proofs.Common.{take_rest, Text}
 use Rattle.kt_rules.proofs.BackslashLemmas.{first_colon, no_colon}
 use Rattle.kt_rules.proofs.cutting.colon_cut.Goals as goal
 

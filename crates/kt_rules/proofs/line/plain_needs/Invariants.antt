@@ -1,6 +1,5 @@
 use Rattle.std.proofs.Common.{◌≡◌}
-use Rattle.kt_rules.specs.Names.{without_dots, written_words}
-use Rattle.kt_rules.specs.RuleLine.{needs_of}
+use Rattle.kt_rules.proofs.Common.{without_dots, written_words, needs_of}
 use Rattle.kt_rules.proofs.NeedsLemmas.{needs_from}
 use Rattle.kt_rules.proofs.line.plain_needs.Given as goal
 

@@ -1,5 +1,4 @@
-use Rattle.std.proofs.Common.{◌≡◌, [], map}
-use Rattle.std.specs.Prelude.{fold}
+use Rattle.std.proofs.Common.{◌≡◌, [], map, fold}
 use Rattle.kt_rules.specs.Names.{name_of, with_name, without_dots, written_words}
 use Rattle.kt_rules.proofs.line.plain_targets.Given as goal
 

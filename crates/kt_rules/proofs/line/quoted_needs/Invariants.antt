@@ -1,6 +1,5 @@
 use Rattle.std.proofs.Common.{◌≡◌, length}
-use Rattle.kt_rules.specs.Names.{name_of, written_words}
-use Rattle.kt_rules.specs.RuleLine.{needs_of}
+use Rattle.kt_rules.proofs.Common.{name_of, written_words, needs_of}
 use Rattle.kt_rules.proofs.NeedsLemmas.{needs_from}
 use Rattle.kt_rules.proofs.line.quoted_needs.Given as goal
 

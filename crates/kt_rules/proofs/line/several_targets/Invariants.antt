@@ -1,5 +1,4 @@
-use Rattle.std.proofs.Common.{◌≡◌, [], length, map}
-use Rattle.std.specs.Prelude.{fold}
+use Rattle.std.proofs.Common.{◌≡◌, [], length, map, fold}
 use Rattle.kt_rules.specs.Names.{name_of, with_name, written_words}
 use Rattle.kt_rules.proofs.line.several_targets.Given as goal
 

@@ -1,7 +1,5 @@
 use Rattle.std.proofs.Common.{◌∙◌, [], Option, ap}
-use Rattle.std.specs.Option.{unwrap_or}
-use Rattle.std.proofs.lemmas.Option.{unwrap_or-slice_get}
-use Rattle.kt_text.specs.Words.{Text}
+use Rattle.kt_rules.proofs.Common.{unwrap_or, unwrap_or-slice_get, Text}
 use Rattle.kt_rules.proofs.listed.name_at.Goals as goal
 
 pub returns-in-None : goal.returns-in-None

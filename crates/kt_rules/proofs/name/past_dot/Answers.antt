@@ -1,5 +1,4 @@
-use Rattle.std.proofs.Common.{arith, length-drop}
-use Rattle.std.proofs.lemmas.List.{length-take}
+use Rattle.kt_rules.proofs.Common.{arith, length-drop, length-take}
 use Rattle.kt_rules.proofs.DotLemmas.{no_dots, past_slashes}
 use Rattle.kt_rules.proofs.name.past_dot.Goals as goal
 

@@ -1,6 +1,5 @@
 use Rattle.std.proofs.Common.{◌≡◌, ◌/◌, ◌%◌, ◌++◌, ◌∷◌, [], List, ℕ, length, get_or, drop, ap, sym, ◌∙◌, true≢false, arith}
-use Rattle.std.proofs.lemmas.Bool.{eqb-true, eq-eqb}
-use Rattle.kt_syntax.specs.Comments.{backslashes, uncommented, uncommented_of}
+use Rattle.kt_syntax.proofs.Common.{eqb-true, eq-eqb, backslashes, uncommented, uncommented_of}
 use Rattle.kt_syntax.proofs.Uncommenting.{at_symbol, uncommented-backslash, uncommented-literal, uncommented-comment, uncommented-other, uncommented-nil}
 use Rattle.kt_syntax.proofs.comment.without_comment.Goals as goal
 use Rattle.kt_syntax.proofs.comment.without_comment.Goals.{then-is, else-is+then-is-2+in_ok-put_backslashes+else-run-eq0+in_ok-push, else-is+else-is-2+in_ok-put_backslashes-2+in_ok-push-2}

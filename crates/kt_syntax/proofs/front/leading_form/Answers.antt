@@ -1,8 +1,5 @@
-use Rattle.std.proofs.Common.{◌≡◌, ◌∙◌, sym, ap, subst}
-use Rattle.std.proofs.lemmas.List.{take_rest}
-use Rattle.std.specs.Prelude.{IfSome}
-use Rattle.kt_text.specs.Words.{Text, trimmed_start}
-use Rattle.kt_syntax.specs.Kinds.{kind_of, kind_view}
+use Rattle.std.proofs.Common.{◌≡◌, ◌∙◌, sym, ap, subst, IfSome}
+use Rattle.kt_syntax.proofs.Common.{take_rest, Text, trimmed_start, kind_of, kind_view}
 use Rattle.kt_syntax.proofs.LeadingForms.{form_assigned}
 use Rattle.kt_syntax.proofs.front.leading_form.Goals as goal
 

@@ -1,7 +1,5 @@
 use Rattle.std.proofs.Common.{◌≡◌, ◌<◌, ◌+◌, ◌∷◌, List, ℕ, true, ap, ◌∙◌, sym, arith, drop, take, length, Some}
-use Rattle.kt_text.specs.Words.{is_blank}
-use Rattle.kt_syntax.specs.Heads.{after_modifier}
-use Rattle.kt_syntax.specs.Mask.{mask_of}
+use Rattle.kt_syntax.proofs.Common.{is_blank, after_modifier, mask_of}
 use Rattle.kt_syntax.proofs.Masking.{length-front}
 use Rattle.kt_syntax.proofs.ModifierLemmas.{next_rest, scan_blank, scan_next, scan_more, word_found, word_other, word_last, ahead_next, ahead_end}
 use Rattle.kt_syntax.proofs.heads.after_modifiers.Goals as goal

@@ -1,6 +1,5 @@
 use Rattle.std.proofs.Common.{◌≡◌, ◌+◌, length, drop, take}
-use Rattle.kt_syntax.specs.Heads.{after_modifiers}
-use Rattle.kt_syntax.specs.Mask.{mask_of}
+use Rattle.kt_syntax.proofs.Common.{after_modifiers, mask_of}
 use Rattle.kt_syntax.proofs.ModifierLemmas.{Ahead, Scan}
 use Rattle.kt_syntax.proofs.heads.after_modifiers.Given as goal
 

@@ -1,6 +1,5 @@
 use Rattle.std.proofs.Common.{◌≡◌, ◌+◌, length, take}
-use Rattle.kt_syntax.specs.Heads.{colon_place}
-use Rattle.kt_syntax.specs.Mask.{mask_of}
+use Rattle.kt_syntax.proofs.Common.{colon_place, mask_of}
 use Rattle.kt_syntax.proofs.heads.colon_place.Given as goal
 
 abbrev pub invariant-loop-symbol : goal.invariant-loop-symbol

@@ -1,6 +1,5 @@
 use Rattle.std.proofs.Common.{◌≡◌, ◌+◌, ◌==◌, length}
-use Rattle.std.specs.List.{position_or_len}
-use Rattle.kt_syntax.specs.Heads.{head_end}
+use Rattle.kt_syntax.proofs.Common.{position_or_len, head_end}
 use Rattle.kt_syntax.proofs.heads.masked_semicolon.Given as goal
 
 abbrev pub invariant-loop-symbol : goal.invariant-loop-symbol

@@ -1,6 +1,5 @@
 use Rattle.std.proofs.Common.{◌≡◌, ◌≤◌, ◌+◌, length, take, drop}
-use Rattle.kt_syntax.specs.Kinds.{name_end}
-use Rattle.kt_syntax.specs.Mask.{mask_of}
+use Rattle.kt_syntax.proofs.Common.{name_end, mask_of}
 use Rattle.kt_syntax.proofs.kind.masked_name_end.Given as goal
 
 abbrev pub invariant-loop-symbol : goal.invariant-loop-symbol

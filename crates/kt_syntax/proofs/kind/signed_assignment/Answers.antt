@@ -1,5 +1,4 @@
-use Rattle.kt_syntax.specs.Mask.{mask_of}
-use Rattle.std.proofs.Common.{take}
+use Rattle.kt_syntax.proofs.Common.{mask_of, take}
 use Rattle.kt_syntax.proofs.Kinding.{parts_found}
 use Rattle.kt_syntax.proofs.kind.signed_assignment.Goals as goal
 

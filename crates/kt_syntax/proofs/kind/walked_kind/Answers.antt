@@ -1,7 +1,5 @@
 use Rattle.std.proofs.Common.{Some, None, ap, ◌∙◌, List, ℕ}
-use Rattle.std.proofs.lemmas.List.{take_rest}
-use Rattle.std.specs.List.{slice_range}
-use Rattle.kt_syntax.specs.Kinds.{assignment}
+use Rattle.kt_syntax.proofs.Common.{take_rest, slice_range, assignment}
 use Rattle.kt_syntax.proofs.Kinding.{kind_blank, kind_other}
 use Rattle.kt_syntax.proofs.kind.walked_kind.Goals as goal
 

@@ -1,7 +1,4 @@
-use Rattle.std.proofs.Common.{refl}
-use Rattle.kt_text.specs.Words.{is_blank}
-use Rattle.kt_syntax.specs.Mask.{mask_from, mask_of, more_masked}
-use Rattle.kt_syntax.specs.Kinds.{assignment_parts, before_comment, block_word, directive_of, include_word, is_refused_word, kind_of, kind_within, name_end, operator_of, worded}
+use Rattle.kt_syntax.proofs.Common.{refl, is_blank, mask_from, mask_of, more_masked, assignment_parts, before_comment, block_word, directive_of, include_word, is_refused_word, kind_of, kind_within, name_end, operator_of, worded}
 use Rattle.kt_syntax.specs.Roles.{first_word, role_by_word, role_of, starts_condition}
 use Rattle.kt_syntax.specs.Parts.{after, open_at_end, part_of, parts_from}
 use Rattle.kt_syntax.specs.Steps.{ahead_of, places_after, step_of, steps_from}

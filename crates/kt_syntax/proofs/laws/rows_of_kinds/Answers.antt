@@ -1,9 +1,4 @@
-use Rattle.std.proofs.Common.{refl}
-use Rattle.kt_text.specs.Words.{is_blank}
-use Rattle.kt_text.specs.Lines.{is_continued, is_ended, groups, pieces_of, condensed_line, condensed_rest, condensed_group, condensed_of}
-use Rattle.kt_syntax.specs.Terms.{closing, after_dollar}
-use Rattle.kt_syntax.specs.Mask.{more_masked, mask_from, mask_of}
-use Rattle.kt_syntax.specs.Kinds.{before_comment, operator_of, name_end, assignment_parts, block_word, include_word, is_refused_word, directive_of, worded, kind_within, kind_of}
+use Rattle.kt_syntax.proofs.Common.{refl, is_blank, is_continued, is_ended, groups, pieces_of, condensed_line, condensed_rest, condensed_group, condensed_of, closing, after_dollar, more_masked, mask_from, mask_of, before_comment, operator_of, name_end, assignment_parts, block_word, include_word, is_refused_word, directive_of, worded, kind_within, kind_of}
 use Rattle.kt_syntax.proofs.laws.rows_of_kinds.Goals as goal
 
 pub returns : goal.returns

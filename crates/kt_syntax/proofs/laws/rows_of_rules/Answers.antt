@@ -1,10 +1,4 @@
-use Rattle.std.proofs.Common.{refl}
-use Rattle.kt_text.specs.Words.{is_blank}
-use Rattle.kt_text.specs.Lines.{is_continued, is_ended, groups, pieces_of, condensed_line, condensed_rest, condensed_group, condensed_of}
-use Rattle.kt_syntax.specs.Terms.{closing, after_dollar}
-use Rattle.kt_syntax.specs.Mask.{more_masked, mask_from, mask_of}
-use Rattle.kt_syntax.specs.Kinds.{before_comment, operator_of, name_end, assignment_parts}
-use Rattle.kt_syntax.specs.Heads.{head_end, colon_place, is_modifier, after_modifier, after_modifiers, is_target_specific, head_text, first_recipe, rule_texts}
+use Rattle.kt_syntax.proofs.Common.{refl, is_blank, is_continued, is_ended, groups, pieces_of, condensed_line, condensed_rest, condensed_group, condensed_of, closing, after_dollar, more_masked, mask_from, mask_of, before_comment, operator_of, name_end, assignment_parts, head_end, colon_place, is_modifier, after_modifier, after_modifiers, is_target_specific, head_text, first_recipe, rule_texts}
 use Rattle.kt_syntax.proofs.laws.rows_of_rules.Goals as goal
 
 pub returns : goal.returns

@@ -1,5 +1,4 @@
-use Rattle.std.proofs.Common.{refl}
-use Rattle.kt_syntax.specs.Terms.{closing, after_dollar, first_term, terms_after, terms_of}
+use Rattle.kt_syntax.proofs.Common.{refl, closing, after_dollar, first_term, terms_after, terms_of}
 use Rattle.kt_syntax.proofs.laws.rows_of_terms.Goals as goal
 
 pub returns : goal.returns

@@ -1,9 +1,4 @@
-use Rattle.std.proofs.Common.{refl}
-use Rattle.kt_text.specs.Words.{is_blank}
-use Rattle.kt_text.specs.Lines.{is_continued, is_ended, groups, pieces_of, condensed_line, condensed_rest, condensed_group, condensed_of}
-use Rattle.kt_syntax.specs.Terms.{closing, after_dollar}
-use Rattle.kt_syntax.specs.Mask.{more_masked, mask_from, mask_of}
-use Rattle.kt_syntax.specs.Comments.{uncommented, uncommented_of}
+use Rattle.kt_syntax.proofs.Common.{refl, is_blank, is_continued, is_ended, groups, pieces_of, condensed_line, condensed_rest, condensed_group, condensed_of, closing, after_dollar, more_masked, mask_from, mask_of, uncommented, uncommented_of}
 use Rattle.kt_syntax.specs.Recipes.{joint_of, recipe_line, recipe_lines, recipe_of}
 use Rattle.kt_syntax.proofs.laws.rows_of_texts.Goals as goal
 

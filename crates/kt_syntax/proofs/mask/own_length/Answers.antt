@@ -1,8 +1,6 @@
 use Rattle.std.proofs.Common.{take, ap, ◌∙◌}
-use Rattle.std.proofs.lemmas.List.{take_min}
-use Rattle.std.specs.List.{position_or_len}
+use Rattle.kt_syntax.proofs.Common.{take_min, position_or_len, first_byte_place}
 use Rattle.kt_syntax.specs.inner.OwnRuns.{is_mark}
-use Rattle.kt_text.proofs.PlaceLemmas.{first_byte_place}
 use Rattle.kt_syntax.proofs.mask.own_length.Goals as goal
 
 pub returns-clause-value : goal.returns-clause-value

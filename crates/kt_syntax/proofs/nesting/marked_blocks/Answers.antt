@@ -1,7 +1,5 @@
 use Rattle.std.proofs.Common.{◌≡◌, List, Option, ap, subst, sym, ◌∙◌}
-use Rattle.std.proofs.lemmas.List.{length-map}
-use Rattle.kt_syntax.specs.declared.part.Missing.{Missing}
-use Rattle.kt_syntax.specs.declared.step.Step.{Step}
+use Rattle.kt_syntax.proofs.Common.{length-map, Missing, Step}
 use Rattle.kt_syntax.specs.Blocks.{Flat, blocks_of, tree_of}
 use Rattle.kt_syntax.specs.Grammar.{IsTreeOf}
 use Rattle.kt_syntax.specs.Parts.{nothing_open, parts_of}

@@ -1,6 +1,5 @@
 use Rattle.std.proofs.Common.{drop, ap, sym, ◌∙◌}
-use Rattle.std.proofs.lemmas.List.{take_rest, nil_from_length}
-use Rattle.kt_syntax.specs.Terms.{token_of, terms_of}
+use Rattle.kt_syntax.proofs.Common.{take_rest, nil_from_length, token_of, terms_of}
 use Rattle.kt_syntax.proofs.Splitting.{text_ends, text_first}
 use Rattle.kt_syntax.proofs.next_term.next_term.Goals as goal
 

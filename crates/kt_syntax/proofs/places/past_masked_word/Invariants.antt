@@ -1,8 +1,5 @@
 use Rattle.std.proofs.Common.{◌≡◌, ◌≤◌, ◌+◌, length, not, take}
-use Rattle.std.specs.List.{prefix_len}
-use Rattle.kt_text.specs.Words.{is_blank}
-use Rattle.kt_syntax.specs.Kinds.{past_word}
-use Rattle.kt_syntax.specs.Mask.{mask_of}
+use Rattle.kt_syntax.proofs.Common.{prefix_len, is_blank, past_word, mask_of}
 use Rattle.kt_syntax.proofs.places.past_masked_word.Given as goal
 
 abbrev pub invariant-loop-symbol : goal.invariant-loop-symbol

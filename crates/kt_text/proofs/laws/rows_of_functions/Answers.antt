@@ -1,9 +1,7 @@
-use Rattle.std.proofs.Common.{refl}
+use Rattle.kt_text.proofs.Common.{refl, is_separator, is_blank, words_of, list_text, subst_of, findstring_of, patsubst_word, patsubst_of, word_set, sort_of, number_of, word_of, wordlist_of, words_count_of, dir_of, basename_of, joined_pairs, join_of}
 use Rattle.bstr.proofs.Computing.{computing}
 use Rattle.std.specs.Fmt.{digits}
-use Rattle.kt_text.specs.Words.{is_separator, is_blank, words_of, list_text}
 use Rattle.kt_text.specs.Match.{is_percent, has_percent, pattern_front, pattern_back, is_between, stem_span}
-use Rattle.kt_text.specs.Functions.{subst_of, findstring_of, patsubst_word, patsubst_of, word_set, sort_of, number_of, word_of, wordlist_of, words_count_of, dir_of, basename_of, joined_pairs, join_of}
 use Rattle.kt_text.proofs.laws.rows_of_functions.Goals as goal
 
 pub returns : goal.returns

@@ -1,6 +1,5 @@
 use Rattle.std.proofs.Common.{◌≡◌, ◌≤◌, ◌+◌, ◌++◌, length}
-use Rattle.bstr.specs.Text.{lines_of}
-use Rattle.kt_text.specs.Lines.{groups, logical_lines_of}
+use Rattle.kt_text.proofs.Common.{lines_of, groups, logical_lines_of}
 use Rattle.kt_text.proofs.LogicalLemmas.{lines_left}
 use Rattle.kt_text.proofs.logical.cut_lines.Given as goal
 

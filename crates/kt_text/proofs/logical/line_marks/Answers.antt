@@ -1,6 +1,4 @@
-use Rattle.std.proofs.Common.{length, List, sym, subst}
-use Rattle.kt_text.specs.declared.line.Line.{Line}
-use Rattle.kt_text.specs.Lines.{AreInOrder}
+use Rattle.kt_text.proofs.Common.{length, List, sym, subst, Line, AreInOrder}
 use Rattle.kt_text.proofs.OrderLemmas.{lines_in_order}
 use Rattle.kt_text.proofs.logical.line_marks.Goals as goal
 

@@ -1,5 +1,4 @@
-use Rattle.std.proofs.Common.{leb, arith, w8}
-use Rattle.std.proofs.lemmas.Simd.{bitmask_splat}
+use Rattle.kt_text.proofs.Common.{leb, arith, w8, bitmask_splat}
 use Rattle.kt_text.proofs.word_ends.low_bytes.Goals as goal
 
 pub returns : goal.returns

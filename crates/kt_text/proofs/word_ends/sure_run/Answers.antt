@@ -1,8 +1,6 @@
 use Rattle.std.proofs.Common.{◌<◌, map, take, nat_le, ap, arith, ◌∙◌}
 use Rattle.std.specs.Simd.Lanes.{mask_l}
-use Rattle.std.proofs.lemmas.List.{length-take-le}
-use Rattle.std.proofs.lemmas.List.Sums.{prefix_len-le-length}
-use Rattle.std.proofs.lemmas.Simd.{trailing_mask_l}
+use Rattle.kt_text.proofs.Common.{length-take-le, prefix_len-le-length, trailing_mask_l}
 use lib.Count.{count_trailing_zeros}
 use Rattle.kt_text.specs.inner.Sure.{is_sure}
 use Rattle.kt_text.proofs.word_ends.sure_run.Goals as goal

@@ -1,6 +1,5 @@
 use Rattle.std.proofs.Common.{◌≡◌, ℕ, List, drop, take, ap, arith, ◌∙◌}
-use Rattle.std.specs.List.{prefix_len}
-use Rattle.std.proofs.lemmas.List.{take_rest}
+use Rattle.kt_text.proofs.Common.{prefix_len, take_rest}
 use Rattle.kt_text.specs.inner.Sure.{is_sure}
 use Rattle.kt_text.proofs.SureLemmas.{run_on}
 use Rattle.kt_text.proofs.word_ends.sure_start.Goals as goal

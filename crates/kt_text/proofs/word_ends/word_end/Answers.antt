@@ -1,7 +1,5 @@
 use Rattle.std.proofs.Common.{ℕ, ◌+◌, ap, sym, ◌∙◌}
-use Rattle.std.specs.List.{position_or_len}
-use Rattle.std.proofs.lemmas.List.{take_rest}
-use Rattle.kt_text.specs.Words.{is_separator}
+use Rattle.kt_text.proofs.Common.{position_or_len, take_rest, is_separator}
 use Rattle.kt_text.specs.inner.Sure.{is_sure}
 use Rattle.kt_text.proofs.SureLemmas.{found_past, sure_is_none}
 use Rattle.kt_text.proofs.word_ends.word_end.Goals as goal

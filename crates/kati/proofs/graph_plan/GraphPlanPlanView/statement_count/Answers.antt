@@ -1,5 +1,4 @@
-use Rattle.std.proofs.Common.{◌≡◌, ◌+◌, ◌∙◌, ℕ, length, ap, rules}
-use Rattle.std.specs.Prelude.{min}
+use Rattle.std.proofs.Common.{◌≡◌, ◌+◌, ◌∙◌, ℕ, length, ap, rules, min}
 use Rattle.kati.proofs.GraphPlanLemmas.{size_with_always, size_without_always}
 use Rattle.kati.proofs.graph_plan.GraphPlanPlanView.statement_count.Goals as goal
 

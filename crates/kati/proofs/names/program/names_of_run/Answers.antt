@@ -1,5 +1,4 @@
-use Rattle.std.proofs.Common.{ap, refl}
-use Rattle.kati.specs.Devices.{devices}
+use Rattle.kati.proofs.Common.{ap, refl, devices}
 use Rattle.kati.proofs.BlameLemmas.{on_ok_weaker}
 use Rattle.kati.proofs.TellLemmas.{told_end}
 use Rattle.kati.proofs.NamesLemmas.{blames_after}

@@ -1,7 +1,5 @@
 use Rattle.std.proofs.Common.{Some, ◌∙◌, ap, sym, length, refl}
-use Rattle.std.proofs.lemmas.Bool.{ltb-false}
-use Rattle.std.proofs.lemmas.Option.{slice_get_past, slice_get_read}
-use Rattle.kati.specs.declared.sketch.Mark.{Mark}
+use Rattle.kati.proofs.Common.{ltb-false, slice_get_past, slice_get_read, Mark}
 use Rattle.kati.proofs.RangeLemmas.{range_at}
 use Rattle.kati.proofs.SketchLemmas.{drawn_nowhere, drawn_there}
 use Rattle.kati.proofs.sketch.Sketch.get.Goals as goal

@@ -1,7 +1,5 @@
 use Rattle.std.proofs.Common.{◌≡◌, ◌∙◌, List, subst, sym, true}
-use Rattle.std.specs.List.{list_all}
-use Rattle.kt_ninja.specs.Writable.{is_made}
-use Rattle.kati.specs.Planning.{made_by}
+use Rattle.kati.proofs.Common.{list_all, is_made, made_by}
 use Rattle.kati.specs.inner.Drawn.{Drawn}
 use Rattle.kati.proofs.SketchLemmas.{commands_made}
 use Rattle.kati.proofs.sketch.Sketch.has_writable_commands.Goals as goal

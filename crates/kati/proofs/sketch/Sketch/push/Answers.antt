@@ -1,6 +1,5 @@
 use Rattle.std.proofs.Common.{◌≡◌, ◌≤◌, length, ap, arith, rules}
-use Rattle.std.proofs.lemmas.List.{length-append}
-use Rattle.kati.specs.declared.sketch.Mark.{Mark}
+use Rattle.kati.proofs.Common.{length-append, Mark}
 use Rattle.kati.proofs.RangeLemmas.{ranges_longer, ranges_pushed, ranges_refused}
 use Rattle.kati.proofs.SketchLemmas.{drawn_more}
 use Rattle.kati.proofs.sketch.Sketch.push.Goals as goal

@@ -1,22 +1,11 @@
-use Rattle.std.proofs.Common.{◌≡◌, ◌∙◌, ap, arith, length, List, rules, subst, sym}
-use Rattle.kt_text.specs.Words.{Text}
-use Rattle.kt_syntax.specs.Reading.{left_at}
-use Rattle.kt_syntax.specs.Terms.{token_of}
-use Rattle.kt_eval.specs.expanding.Expansion.{expanded}
+use Rattle.std.proofs.Common.{◌≡◌, ◌∙◌, ap, arith, length, List, rules, subst, sym, IfErr, IfOk, Some, option_map, map}
+use Rattle.kt_eval.proofs.Common.{Text, left_at, token_of, expanded, Fails, Gave, IfCut, Outcome, left_of, World, lookup, GoesOn, AgreeWith, Store, err_from_is_err_and, evaluator, read_items}
 use Rattle.kt_eval.specs.inner.Views.{compared_view}
-use Rattle.kt_eval.specs.Outcome.{Fails, Gave, IfCut, Outcome, left_of}
-use Rattle.kt_eval.specs.State.{World, lookup}
-use Rattle.kt_eval.specs.Step.{GoesOn}
-use Rattle.kt_eval.specs.files.Files.{AgreeWith, Store}
-use Rattle.std.proofs.lemmas.Result.{err_from_is_err_and}
 use Rattle.kt_eval.proofs.lemmas.EarlyLemmas.{Early, call_fails, close_fails, eval_fails, foreach_fails, word_fails, sheet_fails, equal_fails, argument_at_fails, argument_at_front, or_at_fails, and_at_fails, definition_fails, definition_taken, first_fails, branch_fails}
 use Rattle.kt_eval.specs.inner.Plain.{put_of}
 use Rattle.kt_eval.proofs.lemmas.expanding.AppendingLemmas.{put_gives, value_fails, value_front, value_gives, whole_gives, term_fails, term_gives}
 use Rattle.kt_eval.proofs.lemmas.expanding.PlainLemmas.{value_put, value_expanded}
 use Rattle.kt_eval.proofs.lemmas.StepLemmas.{call_by_name_front, rule_of_parts_front}
-use Rattle.std.specs.Prelude.{IfErr, IfOk, Some, option_map, map}
-use Rattle.kt_eval.specs.expanding.Levels.{evaluator}
-use Rattle.kt_eval.specs.reading.Reading.{read_items}
 use Rattle.kt_eval.proofs.lemmas.reading.CommentLemmas.{ahead_from}
 use Rattle.kt_eval.proofs.lemmas.reading.ReadingLemmas.{first_taken}
 use Rattle.kt_eval.proofs.evaluation.Evaluation.+evaluate.Goals as goal

@@ -1,16 +1,8 @@
 -- The order of the cycle: each function ranks above those that it calls at the same level. The loops: what remains to
 -- be done from here is what was to be done from the start.
 use Rattle.std.proofs.Common.{◌≡◌, ◌<◌, ◌≤◌, ◌+◌, ◌-◌, ◌*◌, [], length, map, drop}
-use Rattle.kt_text.specs.Words.{words_of}
-use Rattle.kt_syntax.specs.Terms.{terms_of}
-use Rattle.kt_eval.specs.Step.{Keeps}
-use Rattle.kt_eval.specs.files.Files.{AgreeWith, Store}
-use Rattle.kt_eval.specs.expanding.Expansion.{each_term, each_argument, apply_or, apply_and, each_word}
-use Rattle.kt_eval.specs.expanding.Levels.{evaluator}
+use Rattle.kt_eval.proofs.Common.{words_of, terms_of, Keeps, AgreeWith, Store, each_term, each_argument, apply_or, apply_and, each_word, evaluator, read_items, tree_of, left_at}
 use Rattle.kt_eval.specs.files.Including.{each_include}
-use Rattle.kt_eval.specs.reading.Reading.{read_items}
-use Rattle.kt_syntax.specs.Blocks.{tree_of}
-use Rattle.kt_syntax.specs.Reading.{left_at}
 use Rattle.kt_eval.proofs.lemmas.reading.ReadingLemmas.{Tries}
 use Rattle.kt_eval.proofs.evaluation.Evaluation.+evaluate.Given as goal
 

@@ -1,7 +1,4 @@
-use Rattle.std.proofs.Common.{arith, subst}
-use Rattle.std.proofs.lemmas.Result.{err_from_is_err_and}
-use Rattle.kt_eval.specs.Outcome.{Outcome}
-use Rattle.kt_eval.specs.State.{World}
+use Rattle.kt_eval.proofs.Common.{arith, subst, err_from_is_err_and, Outcome, World}
 use Rattle.kt_eval.proofs.lemmas.EarlyLemmas.{Early, file_at_fails}
 use Rattle.kt_eval.proofs.evaluation.Evaluation.read_first.Goals as goal
 

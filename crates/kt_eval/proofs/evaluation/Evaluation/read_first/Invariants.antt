@@ -1,8 +1,5 @@
 use Rattle.std.proofs.Common.{◌≡◌, map, drop}
-use Rattle.kt_eval.specs.expanding.Levels.{evaluator}
-use Rattle.kt_eval.specs.reading.Reading.{read_first}
-use Rattle.kt_eval.specs.Step.{Keeps}
-use Rattle.kt_eval.specs.files.Files.{AgreeWith, Store}
+use Rattle.kt_eval.proofs.Common.{evaluator, read_first, Keeps, AgreeWith, Store}
 use Rattle.kt_eval.proofs.evaluation.Evaluation.read_first.Given as goal
 
 abbrev pub invariant-loop-name : goal.invariant-loop-name

@@ -1,5 +1,4 @@
-use Rattle.std.proofs.Common.{◌≡◌, take}
-use Rattle.std.specs.Prelude.{min}
+use Rattle.std.proofs.Common.{◌≡◌, take, min}
 use Rattle.std.specs.Str.Parse.{digits_value}
 use Rattle.kt_eval.proofs.expanding.frames.capped_value.Given as goal
 

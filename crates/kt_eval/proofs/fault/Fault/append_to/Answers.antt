@@ -1,5 +1,4 @@
-use Rattle.std.proofs.Common.{◌∙◌, ◌++◌, ap}
-use Rattle.std.specs.Prelude.{codes}
+use Rattle.std.proofs.Common.{◌∙◌, ◌++◌, ap, codes}
 use Rattle.kt_text.proofs.BegunLemmas.{begun, begun_front, on_err}
 use Rattle.kt_eval.specs.Faults.{two_digits}
 use Rattle.kt_eval.proofs.lemmas.FaultLemmas.{from_brace, from_words, placing, marked, worded, braced, numbered}

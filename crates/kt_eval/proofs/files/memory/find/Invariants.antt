@@ -1,5 +1,4 @@
-use Rattle.std.proofs.Common.{◌≡◌, drop, map}
-use Rattle.std.specs.Prelude.{string_bytes}
+use Rattle.std.proofs.Common.{◌≡◌, drop, map, string_bytes}
 use Rattle.kt_eval.specs.files.Files.{look}
 use Rattle.kt_eval.proofs.files.memory.find.Given as goal
 

@@ -1,8 +1,7 @@
 use Rattle.std.proofs.Common.{◌++◌, codes, sym, ap, ◌∙◌}
 use Rattle.std.specs.Option.{option_copied_mut}
 use Rattle.indexmap.proofs.MapLemmas.{OnOk-map}
-use Rattle.kt_eval.specs.declared.macros.Macro.{Macro}
-use Rattle.kt_eval.specs.macros.Macros.{put}
+use Rattle.kt_eval.proofs.Common.{Macro, put}
 use Rattle.kt_eval.proofs.lemmas.macros.TableLemmas.{set_entries}
 use Rattle.kt_eval.proofs.macros.Macros.append.Goals as goal
 

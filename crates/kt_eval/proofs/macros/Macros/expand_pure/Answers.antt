@@ -1,5 +1,4 @@
-use Rattle.std.proofs.Common.{rules, []}
-use Rattle.kt_eval.specs.files.Files.{AgreeWith}
+use Rattle.kt_eval.proofs.Common.{rules, [], AgreeWith}
 use Rattle.kt_eval.proofs.lemmas.AgreementLemmas.{absent_agree}
 use Rattle.kt_eval.proofs.lemmas.expanding.PureLemmas.{says_when}
 use Rattle.kt_eval.proofs.macros.Macros.expand_pure.Goals as goal

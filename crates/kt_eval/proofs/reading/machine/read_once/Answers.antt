@@ -1,7 +1,5 @@
-use Rattle.std.proofs.Common.{map, refl, rules}
-use Rattle.kt_eval.specs.files.Files.{AgreeWith}
+use Rattle.kt_eval.proofs.Common.{map, refl, rules, AgreeWith, told, asked_for}
 use Rattle.kt_eval.specs.reading.Machine.{read_of, traced}
-use Rattle.kt_eval.specs.Step.{told, asked_for}
 use Rattle.kt_eval.proofs.lemmas.reading.MachineLemmas.{cut_when, reads_when}
 use Rattle.kt_eval.proofs.lemmas.expanding.PureLemmas.{front_by}
 use Rattle.kt_eval.proofs.reading.machine.read_once.Goals as goal

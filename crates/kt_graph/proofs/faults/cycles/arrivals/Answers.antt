@@ -1,7 +1,5 @@
 use Rattle.std.proofs.Common.{◌≤◌, ◌<◌, ℕ, List, flat_map, fold, length, sym, ap, ◌∙◌, arith}
-use Rattle.std.proofs.lemmas.List.{drop_all}
-use Rattle.kt_graph.specs.inner.faults.Arrivals.{with_arrival}
-use Rattle.kt_graph.specs.inner.faults.Edges.{rows_of}
+use Rattle.kt_graph.proofs.Common.{drop_all, with_arrival, rows_of}
 use Rattle.kt_graph.proofs.lemmas.faults.ArrivalLemmas.{arrived}
 use Rattle.kt_graph.proofs.lemmas.faults.CircleLemmas.{length-rows}
 use Rattle.kt_graph.proofs.faults.cycles.arrivals.Goals as goal

@@ -1,6 +1,5 @@
 use Rattle.std.proofs.Common.{◌≡◌, drop, flat_map, fold, replicate}
-use Rattle.kt_graph.specs.inner.faults.Arrivals.{with_arrival}
-use Rattle.kt_graph.specs.inner.faults.Edges.{count_of, rows_of}
+use Rattle.kt_graph.proofs.Common.{with_arrival, count_of, rows_of}
 use Rattle.kt_graph.proofs.faults.cycles.arrivals.Given as goal
 
 abbrev pub invariant-loop-vertex : goal.invariant-loop-vertex

@@ -1,7 +1,5 @@
 use Rattle.std.proofs.Common.{◌≡◌, ◌+◌, ◌-◌, ◌<◌, [], subst, arith}
-use Rattle.std.specs.List.{range_with_len}
-use Rattle.kt_graph.specs.inner.faults.Arrivals.{AreCounted}
-use Rattle.kt_graph.specs.inner.faults.Edges.{count_of}
+use Rattle.kt_graph.proofs.Common.{range_with_len, AreCounted, count_of}
 use Rattle.kt_graph.proofs.lemmas.faults.ArrivalLemmas.{begun, next_turn, turn_taken}
 use Rattle.kt_graph.proofs.faults.cycles.arrivals_left.Goals as goal
 

@@ -1,7 +1,5 @@
 use Rattle.std.proofs.Common.{◌≡◌, ◌-◌, []}
-use Rattle.std.specs.List.{range_with_len}
-use Rattle.kt_graph.specs.inner.faults.Arrivals.{AreCounted}
-use Rattle.kt_graph.specs.inner.faults.Edges.{count_of}
+use Rattle.kt_graph.proofs.Common.{range_with_len, AreCounted, count_of}
 use Rattle.kt_graph.proofs.faults.cycles.arrivals_left.Given as goal
 
 abbrev pub invariant-loop-vertex : goal.invariant-loop-vertex

@@ -1,6 +1,5 @@
 use Rattle.std.proofs.Common.{◌≡◌, ℕ, List, [], sym, ◌∙◌, subst, arith}
-use Rattle.std.proofs.lemmas.List.{append-nil, nil_from_length}
-use Rattle.kt_graph.specs.inner.faults.Arrivals.{AreCounted}
+use Rattle.kt_graph.proofs.Common.{append-nil, nil_from_length, AreCounted}
 use Rattle.kt_graph.proofs.lemmas.faults.ArrivalLemmas.{after_more, many_after}
 use Rattle.kt_graph.proofs.faults.cycles.leave_after.Goals as goal
 

@@ -1,6 +1,5 @@
 use Rattle.std.proofs.Common.{◌≤◌, ◌<◌, length, refl, ⊎_elim, arith}
-use Rattle.std.proofs.lemmas.Bool.{cases_lt}
-use Rattle.std.proofs.lemmas.List.{get_or_past}
+use Rattle.kt_graph.proofs.Common.{cases_lt, get_or_past}
 use Rattle.kt_graph.proofs.lemmas.faults.ArrivalLemmas.{held_more}
 use Rattle.kt_graph.proofs.faults.cycles.left_in_both.Goals as goal
 

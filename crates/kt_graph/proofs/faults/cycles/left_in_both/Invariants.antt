@@ -1,6 +1,5 @@
 use Rattle.std.proofs.Common.{◌≡◌, ◌<◌, ℕ, length, true}
-use Rattle.kt_graph.specs.inner.faults.Arrivals.{IsLeftIn}
-use Rattle.kt_graph.specs.inner.faults.Edges.{holds_in}
+use Rattle.kt_graph.proofs.Common.{IsLeftIn, holds_in}
 use Rattle.kt_graph.proofs.faults.cycles.left_in_both.Given as goal
 
 abbrev pub invariant-loop-vertex : goal.invariant-loop-vertex

@@ -1,5 +1,4 @@
-use Rattle.std.proofs.Common.{take}
-use Rattle.kt_graph.specs.inner.faults.Edges.{Visits}
+use Rattle.kt_graph.proofs.Common.{take, Visits}
 use Rattle.kt_graph.proofs.faults.cycles.visit.Given as goal
 
 abbrev pub invariant-loop-vertex : goal.invariant-loop-vertex

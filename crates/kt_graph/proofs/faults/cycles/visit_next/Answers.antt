@@ -1,5 +1,4 @@
-use Rattle.std.proofs.Common.{List, ℕ, subst}
-use Rattle.kt_graph.specs.inner.faults.Edges.{Visits}
+use Rattle.kt_graph.proofs.Common.{List, ℕ, subst, Visits}
 use Rattle.kt_graph.proofs.lemmas.faults.MarkLemmas.{visits_join}
 use Rattle.kt_graph.proofs.faults.cycles.visit_next.Goals as goal
 

@@ -1,7 +1,5 @@
 use Rattle.std.proofs.Common.{◌≡◌}
-use Rattle.std.proofs.lemmas.Result.{on_ok_weaker}
-use Rattle.kt_graph.specs.inner.faults.Edges.{making_edges, needed_numbers, rows_held, with_edges}
-use Rattle.kt_graph.specs.inner.nodes.Stored.{stored_at}
+use Rattle.kt_graph.proofs.Common.{on_ok_weaker, making_edges, needed_numbers, rows_held, with_edges, stored_at}
 use Rattle.kt_graph.proofs.lemmas.faults.EdgeLemmas.{edges_again, edges_more}
 use Rattle.kt_graph.proofs.faults.edges.add_new.Goals as goal
 

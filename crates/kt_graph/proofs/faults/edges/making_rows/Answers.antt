@@ -1,7 +1,5 @@
 use Rattle.std.proofs.Common.{◌≤◌, List, length, subst, arith}
-use Rattle.std.proofs.lemmas.List.{take_all}
-use Rattle.kt_graph.specs.inner.nodes.Stored.{StoredNode}
-use Rattle.kt_graph.specs.inner.faults.Edges.{HaveEdges, makings_edges, rows_held}
+use Rattle.kt_graph.proofs.Common.{take_all, StoredNode, HaveEdges, makings_edges, rows_held}
 use Rattle.kt_graph.proofs.lemmas.faults.EdgeLemmas.{edges_none}
 use Rattle.kt_graph.proofs.faults.edges.making_rows.Goals as goal
 

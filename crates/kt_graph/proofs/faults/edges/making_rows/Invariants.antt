@@ -1,5 +1,4 @@
-use Rattle.std.proofs.Common.{take}
-use Rattle.kt_graph.specs.inner.faults.Edges.{HaveEdges, makings_edges, rows_held}
+use Rattle.kt_graph.proofs.Common.{take, HaveEdges, makings_edges, rows_held}
 use Rattle.kt_graph.proofs.faults.edges.making_rows.Given as goal
 
 abbrev pub invariant-loop-number : goal.invariant-loop-number

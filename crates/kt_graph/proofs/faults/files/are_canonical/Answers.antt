@@ -1,7 +1,5 @@
 use Rattle.std.proofs.Common.{◌≡◌, List, All, subst, sym}
-use Rattle.kt_graph.specs.inner.faults.Files.{made_names}
-use Rattle.kt_graph.specs.nodes.Node.{Node}
-use Rattle.kt_graph.specs.faults.Paths.{canon_of}
+use Rattle.kt_graph.proofs.Common.{made_names, Node, canon_of}
 use Rattle.kt_graph.proofs.lemmas.faults.FileLemmas.{canonical_more}
 use Rattle.kt_graph.proofs.faults.files.are_canonical.Goals as goal
 

@@ -1,6 +1,5 @@
 use Rattle.std.proofs.Common.{◌≡◌, All}
-use Rattle.kt_graph.specs.inner.faults.Files.{made_names}
-use Rattle.kt_graph.specs.faults.Paths.{canon_of}
+use Rattle.kt_graph.proofs.Common.{made_names, canon_of}
 use Rattle.kt_graph.proofs.faults.files.are_canonical.Given as goal
 
 abbrev pub invariant-loop-node : goal.invariant-loop-node

@@ -1,6 +1,5 @@
 use Rattle.std.proofs.Common.{◌≡◌}
-use Rattle.std.specs.List.{list_any}
-use Rattle.kt_graph.specs.faults.Paths.{is_reserved}
+use Rattle.kt_graph.proofs.Common.{list_any, is_reserved}
 use Rattle.kt_graph.proofs.faults.files.has_always.Given as goal
 
 abbrev pub invariant-loop-node : goal.invariant-loop-node

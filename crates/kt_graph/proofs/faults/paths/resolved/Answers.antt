@@ -1,5 +1,4 @@
-use Rattle.std.proofs.Common.{drop, ap}
-use Rattle.std.proofs.lemmas.List.{drop_all}
+use Rattle.kt_graph.proofs.Common.{drop, ap, drop_all}
 use Rattle.kt_graph.proofs.lemmas.faults.PartLemmas.{canon_is, told}
 use Rattle.kt_graph.proofs.faults.paths.resolved.Goals as goal
 

@@ -1,7 +1,5 @@
 use Rattle.std.proofs.Common.{◌≡◌, ◌==◌, [], map, drop, fold, reverse, List, ℕ}
-use Rattle.std.specs.Borrow.{Bor}
-use Rattle.std.specs.List.{slice_split}
-use Rattle.kt_graph.specs.faults.Paths.{with_part}
+use Rattle.kt_graph.proofs.Common.{Bor, slice_split, with_part}
 use Rattle.kt_graph.proofs.faults.paths.resolved.Given as goal
 
 abbrev pub invariant-loop-part : goal.invariant-loop-part

@@ -1,10 +1,6 @@
 use Rattle.std.proofs.Common.{◌∙◌, [], List, fold, sym, ap}
-use Rattle.std.specs.List.{flat_map}
+use Rattle.kt_graph.proofs.Common.{flat_map, Text, with_name, without_repeats, suffixes_of, known_names, listed_names, named_by}
 use Rattle.std.proofs.lemmas.Grind.{fold-append}
-use Rattle.kt_text.specs.Words.{Text}
-use Rattle.kt_rules.specs.Names.{with_name, without_repeats}
-use Rattle.kt_rules.specs.Suffixes.{suffixes_of}
-use Rattle.kt_graph.specs.Known.{known_names, listed_names, named_by}
 use Rattle.kt_graph.proofs.lemmas.EndMarkLemmas.{both_marked}
 use Rattle.kt_graph.proofs.known.Known.of.Goals as goal
 

@@ -1,12 +1,5 @@
 use Rattle.std.proofs.Common.{◌≡◌, ◌∙◌, ap, fold, subst}
-use Rattle.kt_rules.specs.Entry.{needs_for}
-use Rattle.kt_rules.specs.Names.{with_name}
-use Rattle.kt_rules.specs.Slots.{rule_view}
-use Rattle.kt_rules.specs.Suffixes.{all_needs}
-use Rattle.kt_rules.specs.Targets.{needs_view}
-use Rattle.kt_graph.specs.inner.nodes.Needed.{needing_view}
-use Rattle.kt_graph.specs.inner.nodes.Numbering.{SaysNeeds}
-use Rattle.kt_graph.specs.nodes.Node.{Part}
+use Rattle.kt_graph.proofs.Common.{needs_for, with_name, rule_view, all_needs, needs_view, needing_view, SaysNeeds, Part}
 use Rattle.kt_graph.proofs.lemmas.nodes.BuildingLemmas.{joined_own}
 use Rattle.kt_graph.proofs.nodes.building.double_part.Goals as goal
 

@@ -1,13 +1,5 @@
 use Rattle.std.proofs.Common.{◌++◌, ◌∷◌, ◌∙◌, [], ap, fold, map, subst, sym, take}
-use Rattle.std.proofs.lemmas.List.{map-append}
-use Rattle.kt_rules.specs.Names.{with_name}
-use Rattle.kt_rules.specs.Slots.{rule_view}
-use Rattle.kt_rules.specs.Suffixes.{all_needs, suffixes_of}
-use Rattle.kt_graph.specs.declared.nodes.part.NumberedPart.{NumberedPart}
-use Rattle.kt_graph.specs.inner.nodes.Needed.{needed_by_parts}
-use Rattle.kt_graph.specs.inner.nodes.Numbering.{SayParts}
-use Rattle.kt_graph.specs.inner.nodes.Stored.{part_held, parts_held}
-use Rattle.kt_graph.specs.nodes.Node.{own_part}
+use Rattle.kt_graph.proofs.Common.{map-append, with_name, rule_view, all_needs, suffixes_of, NumberedPart, needed_by_parts, SayParts, part_held, parts_held, own_part}
 use Rattle.kt_graph.proofs.lemmas.nodes.BuildingLemmas.{needed_more, one_more_part}
 use Rattle.kt_graph.proofs.lemmas.nodes.NumberLemmas.{parts_more}
 use Rattle.kt_graph.proofs.nodes.building.double_parts.Goals as goal

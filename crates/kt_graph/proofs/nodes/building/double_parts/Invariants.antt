@@ -1,12 +1,5 @@
 use Rattle.std.proofs.Common.{◌≡◌, fold, map, take}
-use Rattle.kt_text.specs.Words.{Text}
-use Rattle.kt_rules.specs.Names.{with_name}
-use Rattle.kt_rules.specs.Slots.{rule_view}
-use Rattle.kt_rules.specs.Suffixes.{suffixes_of}
-use Rattle.kt_graph.specs.inner.nodes.Needed.{needed_by_parts}
-use Rattle.kt_graph.specs.inner.nodes.Numbering.{SayParts}
-use Rattle.kt_graph.specs.inner.nodes.Stored.{parts_held}
-use Rattle.kt_graph.specs.nodes.Node.{own_part}
+use Rattle.kt_graph.proofs.Common.{Text, with_name, rule_view, suffixes_of, needed_by_parts, SayParts, parts_held, own_part}
 use Rattle.kt_graph.proofs.nodes.building.double_parts.Given as goal
 
 abbrev pub invariant-loop-rule : goal.invariant-loop-rule

@@ -1,7 +1,5 @@
 use Rattle.std.proofs.Common.{◌≡◌, drop, map}
-use Rattle.std.specs.List.{list_any}
-use Rattle.kt_rules.specs.Book.{is_double}
-use Rattle.kt_rules.specs.Slots.{rule_view}
+use Rattle.kt_graph.proofs.Common.{list_any, is_double, rule_view}
 use Rattle.kt_graph.proofs.nodes.building.has_double.Given as goal
 
 abbrev pub invariant-loop-rule : goal.invariant-loop-rule

@@ -1,6 +1,5 @@
 use Rattle.std.proofs.Common.{◌≡◌, true, rules, arith}
-use Rattle.kt_rules.specs.Book.{has_recipe}
-use Rattle.kt_rules.specs.Slots.{rule_view}
+use Rattle.kt_graph.proofs.Common.{has_recipe, rule_view}
 use Rattle.kt_graph.proofs.lemmas.nodes.BuildingLemmas.{used_at}
 use Rattle.kt_graph.proofs.nodes.building.used_rule.Goals as goal
 

@@ -1,6 +1,5 @@
 use Rattle.std.proofs.Common.{◌≡◌, [], drop, filter, length, map, take}
-use Rattle.kt_rules.specs.Book.{has_recipe}
-use Rattle.kt_rules.specs.Slots.{rule_view}
+use Rattle.kt_graph.proofs.Common.{has_recipe, rule_view}
 use Rattle.kt_graph.proofs.nodes.building.used_rule.Given as goal
 
 abbrev pub invariant-loop-left : goal.invariant-loop-left

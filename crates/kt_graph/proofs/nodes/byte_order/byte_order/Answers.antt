@@ -1,13 +1,5 @@
 use Rattle.std.proofs.Common.{◌≡◌, ◌∙◌, ℕ, List, Bor, Vec, Global, length, map, sym, ap, subst, rules}
-use Rattle.std.specs.List.Sorted.{IsSorted}
-use Rattle.std.specs.Ordering.{is_lt}
-use Rattle.std.proofs.lemmas.Fn.{always_returns_same}
-use Rattle.std.proofs.lemmas.List.{length-map}
-use Rattle.std.proofs.lemmas.Map.Keys.{apart_from_distinct}
-use Rattle.std.proofs.lemmas.Result.{IfOk-weaker}
-use Rattle.kt_text.specs.Words.{Text}
-use Rattle.kt_graph.specs.declared.nodes.byte_order.Front.{Front}
-use Rattle.kt_graph.specs.inner.faults.Files.{AreDistinct, IsByteOrder}
+use Rattle.kt_graph.proofs.Common.{IsSorted, is_lt, always_returns_same, length-map, apart_from_distinct, IfOk-weaker, Text, Front, AreDistinct, IsByteOrder}
 use Rattle.kt_graph.specs.inner.nodes.Fronts.{AreFronts, front_cmp}
 use Rattle.kt_graph.proofs.lemmas.nodes.GraphLemmas.{names_distinct}
 use Rattle.kt_graph.proofs.lemmas.nodes.OrderLemmas.{front_ranks, sorted_order}

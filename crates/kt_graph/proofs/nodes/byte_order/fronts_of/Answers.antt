@@ -1,7 +1,6 @@
 use Rattle.std.proofs.Common.{◌≡◌, ◌∙◌, ◌<◌, All, Bor, ap, map, subst, sym}
 use Rattle.kt_text.specs.Sorted.{front_number}
-use Rattle.kt_text.specs.Words.{Text}
-use Rattle.kt_graph.specs.nodes.Views.{name_at}
+use Rattle.kt_graph.proofs.Common.{Text, name_at}
 use Rattle.kt_graph.proofs.lemmas.nodes.OrderLemmas.{fronts_more}
 use Rattle.kt_graph.proofs.nodes.byte_order.fronts_of.Goals as goal
 

@@ -1,6 +1,5 @@
 use Rattle.std.proofs.Common.{◌∙◌, ◌++◌, ◌∷◌, [], List, Bor, ap, map, take, arith}
-use Rattle.std.proofs.lemmas.List.{map-append}
-use Rattle.kt_text.specs.Words.{Text}
+use Rattle.kt_graph.proofs.Common.{map-append, Text}
 use Rattle.kt_graph.proofs.lemmas.nodes.OrderLemmas.{taken_more}
 use Rattle.kt_graph.proofs.nodes.byte_order.texts_of.Goals as goal
 

@@ -1,8 +1,6 @@
 use Rattle.std.proofs.Common.{◌≤◌, List, ℕ, length, subst, arith}
-use Rattle.std.proofs.lemmas.List.{take_all}
-use Rattle.std.proofs.lemmas.List.Elements.{All-more}
+use Rattle.kt_graph.proofs.Common.{take_all, All-more, AreAlike, stored_at}
 use Rattle.kt_graph.specs.inner.nodes.Grouping.{AreAllAlike}
-use Rattle.kt_graph.specs.inner.nodes.Stored.{AreAlike, stored_at}
 use Rattle.kt_graph.proofs.nodes.grouping.are_all_alike.Goals as goal
 
 pub loop-number-preserved : goal.loop-number-preserved

@@ -1,6 +1,5 @@
 use Rattle.std.proofs.Common.{◌≡◌, ◌∙◌, not, ap, rules}
-use Rattle.kt_graph.specs.declared.nodes.node.NodeKind.{NodeKind}
-use Rattle.kt_graph.specs.nodes.Node.{is_leaf}
+use Rattle.kt_graph.proofs.Common.{NodeKind, is_leaf}
 use Rattle.kt_graph.proofs.lemmas.nodes.StoredLemmas.{made_there}
 use Rattle.kt_graph.proofs.nodes.grouping.is_made_at.Goals as goal
 

@@ -1,6 +1,5 @@
 use Rattle.std.proofs.Common.{◌<◌, ℕ, List, length, get_or, take, sym, subst, arith}
-use Rattle.std.proofs.lemmas.List.{take_all, take_more}
-use Rattle.kt_graph.specs.inner.faults.Edges.{rows_held}
+use Rattle.kt_graph.proofs.Common.{take_all, take_more, rows_held}
 use Rattle.kt_graph.specs.inner.nodes.Grouping.{HasMembers}
 use Rattle.kt_graph.proofs.lemmas.nodes.GroupingLemmas.{none_noted, one_noted}
 use Rattle.kt_graph.proofs.nodes.grouping.members_of.Goals as goal

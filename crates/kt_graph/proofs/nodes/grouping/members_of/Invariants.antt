@@ -1,5 +1,4 @@
-use Rattle.std.proofs.Common.{take}
-use Rattle.kt_graph.specs.inner.faults.Edges.{rows_held}
+use Rattle.kt_graph.proofs.Common.{take, rows_held}
 use Rattle.kt_graph.specs.inner.nodes.Grouping.{HasMembers}
 use Rattle.kt_graph.proofs.nodes.grouping.members_of.Given as goal
 

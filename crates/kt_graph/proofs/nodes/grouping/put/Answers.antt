@@ -1,10 +1,5 @@
 use Rattle.std.proofs.Common.{◌∷◌, ◌++◌, ◌<◌, ◌∙◌, [], Option, arith, length, option_map, sym, ap}
-use Rattle.std.specs.List.{cons_option}
-use Rattle.std.proofs.lemmas.List.{append-nil}
-use Rattle.std.proofs.lemmas.Option.{slice_get_past}
-use Rattle.kt_graph.specs.inner.nodes.Stored.{StoredNode}
-use Rattle.kt_graph.specs.nodes.Node.{Node}
-use Rattle.kt_graph.specs.nodes.Views.{node_view}
+use Rattle.kt_graph.proofs.Common.{cons_option, append-nil, slice_get_past, StoredNode, Node, node_view}
 use Rattle.kt_graph.proofs.lemmas.nodes.StoredLemmas.{stored_there}
 use Rattle.kt_graph.proofs.nodes.grouping.put.Goals as goal
 

@@ -1,6 +1,5 @@
 use Rattle.std.proofs.Common.{◌<◌, ◌++◌, ◌∙◌, [], List, ℕ, length, get_or, sym, ap, arith}
-use Rattle.std.proofs.lemmas.List.{append-nil, drop_all, get_or_default}
-use Rattle.kt_graph.specs.nodes.Views.{nodes_view}
+use Rattle.kt_graph.proofs.Common.{append-nil, drop_all, get_or_default, nodes_view}
 use Rattle.kt_graph.proofs.lemmas.nodes.GroupingLemmas.{put_more}
 use Rattle.kt_graph.proofs.nodes.grouping.put_all.Goals as goal
 

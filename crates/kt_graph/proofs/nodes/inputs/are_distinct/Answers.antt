@@ -1,6 +1,5 @@
 use Rattle.std.proofs.Common.{sym, ◌∙◌, ap, subst}
-use Rattle.std.specs.List.Sorted.{IsPermutation}
-use Rattle.kt_graph.specs.inner.nodes.Inputs.{rise}
+use Rattle.kt_graph.proofs.Common.{IsPermutation, rise}
 use Rattle.kt_graph.proofs.lemmas.nodes.InputLemmas.{differ_distinct, rising_distinct, sorted_distinct}
 use Rattle.kt_graph.proofs.nodes.inputs.are_distinct.Goals as goal
 

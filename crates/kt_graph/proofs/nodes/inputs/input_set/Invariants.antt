@@ -1,6 +1,5 @@
 use Rattle.std.proofs.Common.{◌≡◌, [], drop, fold, get_or}
-use Rattle.std.specs.List.{flat_map}
-use Rattle.kt_graph.specs.inner.nodes.Inputs.{inputs_held, with_number}
+use Rattle.kt_graph.proofs.Common.{flat_map, inputs_held, with_number}
 use Rattle.kt_graph.proofs.nodes.inputs.input_set.Given as goal
 
 abbrev pub invariant-loop-part : goal.invariant-loop-part

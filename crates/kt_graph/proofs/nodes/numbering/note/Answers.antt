@@ -1,6 +1,5 @@
 use Rattle.std.proofs.Common.{◌≡◌, ◌∙◌, ◌+◌, ◌++◌, ℕ, Some, length, option_map, sym}
-use Rattle.std.proofs.lemmas.Result.{IfOk-weaker}
-use Rattle.kt_list.specs.Names.{place_of}
+use Rattle.kt_graph.proofs.Common.{IfOk-weaker, place_of}
 use Rattle.kt_graph.proofs.lemmas.nodes.ReachedNames.{place_first, place_second}
 use Rattle.kt_graph.proofs.nodes.numbering.note.Goals as goal
 

@@ -1,6 +1,5 @@
 use Rattle.std.proofs.Common.{◌∙◌, ap, refl, subst}
-use Rattle.std.proofs.lemmas.List.{take_rest}
-use Rattle.kt_graph.specs.inner.nodes.Stored.{AreRowsOf, input_numbers, order_only_numbers, parts_stored, some_if}
+use Rattle.kt_graph.proofs.Common.{take_rest, AreRowsOf, input_numbers, order_only_numbers, parts_stored, some_if}
 use Rattle.kt_graph.proofs.lemmas.nodes.StoredLemmas.{head_from}
 use Rattle.kt_graph.proofs.nodes.stored.head_from.Goals as goal
 

@@ -1,6 +1,5 @@
 use Rattle.std.proofs.Common.{◌∙◌, ap, length, refl, sym}
-use Rattle.std.proofs.lemmas.Option.{slice_get_read}
-use Rattle.kt_graph.specs.inner.nodes.Stored.{some_if}
+use Rattle.kt_graph.proofs.Common.{slice_get_read, some_if}
 use Rattle.kt_graph.proofs.lemmas.nodes.InputLemmas.{one_alone}
 use Rattle.kt_graph.proofs.nodes.stored.head_like.Goals as goal
 

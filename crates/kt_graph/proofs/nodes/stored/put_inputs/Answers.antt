@@ -1,6 +1,5 @@
 use Rattle.std.proofs.Common.{◌≡◌, ◌∙◌, [], ap, fold, subst, sym}
-use Rattle.kt_graph.specs.inner.nodes.Inputs.{numbers_without, others_held, with_number}
-use Rattle.kt_graph.specs.inner.nodes.Stored.{AreRowsOf, IsPartWithin, input_numbers, order_only_numbers, parts_stored}
+use Rattle.kt_graph.proofs.Common.{numbers_without, others_held, with_number, AreRowsOf, IsPartWithin, input_numbers, order_only_numbers, parts_stored}
 use Rattle.kt_graph.proofs.lemmas.nodes.InputLemmas.{inputs_same, one_alone, order_only_same, own_rows}
 use Rattle.kt_graph.proofs.nodes.stored.put_inputs.Goals as goal
 

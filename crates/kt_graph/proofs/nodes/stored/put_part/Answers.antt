@@ -1,5 +1,4 @@
-use Rattle.std.proofs.Common.{arith, subst, sym}
-use Rattle.kt_graph.specs.inner.nodes.Stored.{Grew}
+use Rattle.kt_graph.proofs.Common.{arith, subst, sym, Grew}
 use Rattle.kt_graph.proofs.lemmas.nodes.StoredLemmas.{grew_after, grew_part, grew_rows}
 use Rattle.kt_graph.proofs.nodes.stored.put_part.Goals as goal
 

@@ -1,7 +1,5 @@
 use Rattle.std.proofs.Common.{◌∷◌, [], subst, sym}
-use Rattle.std.proofs.lemmas.List.{map-append}
-use Rattle.kt_graph.specs.declared.nodes.part.NumberedPart.{NumberedPart}
-use Rattle.kt_graph.specs.inner.nodes.Stored.{PutsParts, part_held, parts_held}
+use Rattle.kt_graph.proofs.Common.{map-append, NumberedPart, PutsParts, part_held, parts_held}
 use Rattle.kt_graph.proofs.lemmas.nodes.StoredLemmas.{grew_after, grew_none, puts_more, puts_none}
 use Rattle.kt_graph.proofs.nodes.stored.put_parts.Goals as goal
 

@@ -1,7 +1,4 @@
-use Rattle.std.proofs.Common.{IfOk, sym, subst}
-use Rattle.std.proofs.lemmas.Result.{IfOk-weaker}
-use Rattle.kt_graph.specs.search.Search.{IsFoundByTrees, Searching, choice_of}
-use Rattle.kt_graph.specs.search.Views.{choice_view}
+use Rattle.kt_graph.proofs.Common.{IfOk, sym, subst, IfOk-weaker, IsFoundByTrees, Searching, choice_of, choice_view}
 use Rattle.kt_graph.proofs.lemmas.search.TreeLemmas.{found_as_trees, told_as_trees}
 use Rattle.kt_graph.proofs.search.Search.choose.Goals as goal
 

@@ -1,5 +1,4 @@
-use Rattle.std.proofs.Common.{sym}
-use Rattle.std.proofs.lemmas.Option.{slice_get_within}
+use Rattle.kt_graph.proofs.Common.{sym, slice_get_within}
 use Rattle.kt_graph.proofs.lemmas.search.EndLemmas.{told_none, told_numbered, within_numbered}
 use Rattle.kt_graph.proofs.search.candidates.candidate_numbered.Goals as goal
 

@@ -1,8 +1,6 @@
 use Rattle.std.proofs.Common.{◌≡◌, true, not, ◌||◌, if◌then◌else◌, List, filter, sym, ◌∙◌, ap, rules}
-use Rattle.std.specs.List.{list_any}
-use Rattle.std.proofs.lemmas.Fn.{filter_same}
+use Rattle.kt_graph.proofs.Common.{list_any, filter_same, stays}
 use Rattle.kt_graph.specs.declared.search.candidate.Candidate.{Candidate}
-use Rattle.kt_graph.specs.search.Views.{stays}
 use Rattle.kt_graph.proofs.search.candidates.drop_any.Goals as goal
 
 pub returns-then-drops_any : goal.returns-then-drops_any

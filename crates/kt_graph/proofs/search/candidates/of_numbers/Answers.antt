@@ -1,7 +1,5 @@
 use Rattle.std.proofs.Common.{◌<◌, ◌++◌, ap, length, sym, ◌∙◌, arith}
-use Rattle.std.proofs.lemmas.List.{append-nil, drop_all}
-use Rattle.kt_graph.specs.inner.search.Ends.{candidates_numbered}
-use Rattle.kt_graph.specs.search.Views.{candidates_view}
+use Rattle.kt_graph.proofs.Common.{append-nil, drop_all, candidates_numbered, candidates_view}
 use Rattle.kt_graph.proofs.lemmas.search.EndLemmas.{numbered_more, within_with}
 use Rattle.kt_graph.proofs.lemmas.search.CandidateViewLemmas.{read_itself}
 use Rattle.kt_graph.proofs.search.candidates.of_numbers.Goals as goal

@@ -1,6 +1,5 @@
 use Rattle.std.proofs.Common.{◌≡◌, ◌++◌, drop}
-use Rattle.kt_graph.specs.inner.search.Ends.{candidates_numbered}
-use Rattle.kt_graph.specs.search.Views.{AreWithin, candidates_view}
+use Rattle.kt_graph.proofs.Common.{candidates_numbered, AreWithin, candidates_view}
 use Rattle.kt_graph.proofs.search.candidates.of_numbers.Given as goal
 
 abbrev pub invariant-loop-number : goal.invariant-loop-number

@@ -1,6 +1,5 @@
 use Rattle.std.proofs.Common.{◌≡◌, drop, filter_map, option_map, IfSome}
-use Rattle.kt_graph.specs.search.Candidates.{candidate_by, shortest}
-use Rattle.kt_graph.specs.search.Views.{IsFitWithin, candidate_at}
+use Rattle.kt_graph.proofs.Common.{candidate_by, shortest, IsFitWithin, candidate_at}
 use Rattle.kt_graph.proofs.lemmas.search.CandidateLemmas.{shortest_from}
 use Rattle.kt_graph.proofs.search.candidates.shortest.Given as goal
 

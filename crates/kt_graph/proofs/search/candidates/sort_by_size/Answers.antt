@@ -1,8 +1,5 @@
-use Rattle.std.proofs.Common.{rules}
-use Rattle.std.proofs.lemmas.List.Sorted.{IsNonDecreasingBy-from_sort_by_key, answers_always}
-use Rattle.std.proofs.lemmas.Result.{on_ok_weaker}
+use Rattle.kt_graph.proofs.Common.{rules, IsNonDecreasingBy-from_sort_by_key, answers_always, on_ok_weaker, fit_size}
 use Rattle.kt_graph.specs.declared.search.candidate.Candidate.{Candidate}
-use Rattle.kt_graph.specs.search.Views.{fit_size}
 use Rattle.kt_graph.proofs.lemmas.search.CandidateLemmas.{sorted_by_size}
 use Rattle.kt_graph.proofs.search.candidates.sort_by_size.Goals as goal
 

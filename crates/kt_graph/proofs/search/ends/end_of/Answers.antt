@@ -1,6 +1,5 @@
 use Rattle.std.proofs.Common.{◌∙◌}
-use Rattle.std.proofs.lemmas.List.{take_rest}
-use Rattle.kt_text.proofs.MatchLemmas.{percent_found}
+use Rattle.kt_graph.proofs.Common.{take_rest, percent_found}
 use Rattle.kt_graph.proofs.lemmas.search.EndLemmas.{no_back}
 use Rattle.kt_graph.proofs.search.ends.end_of.Goals as goal
 

@@ -1,6 +1,5 @@
 use Rattle.std.proofs.Common.{◌-◌, length, take, sym, ◌∙◌, arith, take-append-drop, length-drop}
-use Rattle.std.proofs.lemmas.List.{take_rest}
-use Rattle.kt_text.specs.Words.{Text}
+use Rattle.kt_graph.proofs.Common.{take_rest, Text}
 use Rattle.kt_graph.proofs.search.knowing.fixed_end.Goals as goal
 
 pub returns : goal.returns

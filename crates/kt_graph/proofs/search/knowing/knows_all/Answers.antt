@@ -1,9 +1,5 @@
 use Rattle.std.proofs.Common.{◌≡◌, ◌∙◌, sym}
-use Rattle.std.specs.List.{list_all}
-use Rattle.std.proofs.lemmas.Result.{IfOk-weaker}
-use Rattle.kt_rules.specs.Names.{is_among}
-use Rattle.kt_rules.specs.Suffixes.{all_needs}
-use Rattle.kt_graph.specs.search.Candidates.{needed_names, needs_with}
+use Rattle.kt_graph.proofs.Common.{list_all, IfOk-weaker, is_among, all_needs, needed_names, needs_with}
 use Rattle.kt_graph.proofs.lemmas.search.UnknownLemmas.{known_both, known_first}
 use Rattle.kt_graph.proofs.search.knowing.knows_all.Goals as goal
 

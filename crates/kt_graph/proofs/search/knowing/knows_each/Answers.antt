@@ -1,7 +1,5 @@
 use Rattle.std.proofs.Common.{◌+◌, ◌<◌, ◌∙◌, ◌&&◌, length, drop, sym, ap, arith}
-use Rattle.std.specs.List.{list_all}
-use Rattle.kt_rules.specs.Names.{is_among}
-use Rattle.kt_graph.specs.search.Candidates.{needed_name, needed_names}
+use Rattle.kt_graph.proofs.Common.{list_all, is_among, needed_name, needed_names}
 use Rattle.kt_graph.proofs.lemmas.search.UnknownLemmas.{known_past, known_step}
 use Rattle.kt_graph.proofs.search.knowing.knows_each.Goals as goal
 

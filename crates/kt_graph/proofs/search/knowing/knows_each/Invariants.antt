@@ -1,7 +1,5 @@
 use Rattle.std.proofs.Common.{◌≡◌, drop}
-use Rattle.std.specs.List.{list_all}
-use Rattle.kt_rules.specs.Names.{is_among}
-use Rattle.kt_graph.specs.search.Candidates.{needed_names}
+use Rattle.kt_graph.proofs.Common.{list_all, is_among, needed_names}
 use Rattle.kt_graph.proofs.search.knowing.knows_each.Given as goal
 
 -- whether all is known from here on is whether all is

@@ -1,6 +1,5 @@
 use Rattle.std.proofs.Common.{◌≤◌, length, subst, arith}
-use Rattle.kt_text.specs.Words.{Text}
-use Rattle.kt_graph.specs.inner.search.Ends.{IsFixedEnd}
+use Rattle.kt_graph.proofs.Common.{Text, IsFixedEnd}
 use Rattle.kt_graph.proofs.lemmas.EndMarkLemmas.{unknown_need}
 use Rattle.kt_graph.proofs.search.knowing.may_be_known.Goals as goal
 

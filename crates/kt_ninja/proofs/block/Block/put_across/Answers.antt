@@ -1,6 +1,4 @@
-use Rattle.std.proofs.Common.{List, ℕ, arith, sym, subst}
-use Rattle.std.proofs.Math.Seq.{take-add}
-use Rattle.std.proofs.lemmas.List.{take_rest}
+use Rattle.kt_ninja.proofs.Common.{List, ℕ, arith, sym, subst, take-add, take_rest}
 use Rattle.kt_ninja.specs.Blocks.{Puts}
 use Rattle.kt_ninja.proofs.Putting.{puts_then}
 use Rattle.kt_ninja.proofs.block.Block.put_across.Goals as goal

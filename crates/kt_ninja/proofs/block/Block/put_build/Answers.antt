@@ -1,6 +1,4 @@
-use Rattle.std.proofs.Common.{codes, ℕ, List}
-use Rattle.std.specs.Prelude.{option_map, slice_get}
-use Rattle.std.specs.Borrow.{Bor}
+use Rattle.kt_ninja.proofs.Common.{codes, ℕ, List, option_map, slice_get, Bor}
 use Rattle.kt_ninja.proofs.Putting.{puts_none, puts_then}
 use Rattle.kt_ninja.proofs.ViewLemmas.{marked_put, names_put, rule_name_put}
 use Rattle.kt_ninja.proofs.block.Block.put_build.Goals as goal

@@ -1,5 +1,4 @@
-use Rattle.std.proofs.Common.{ℕ, List, [], ◌∷◌, ◌++◌, take, refl, sym, subst}
-use Rattle.std.specs.Prelude.{slice_index}
+use Rattle.std.proofs.Common.{ℕ, List, [], ◌∷◌, ◌++◌, take, refl, sym, subst, slice_index}
 use Rattle.kt_ninja.specs.Text.{escaped}
 use Rattle.kt_ninja.specs.Escaping.{is_special}
 use Rattle.kt_ninja.specs.Blocks.{Puts}

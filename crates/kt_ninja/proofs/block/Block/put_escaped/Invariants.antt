@@ -1,5 +1,4 @@
-use Rattle.std.proofs.Common.{length}
-use Rattle.kt_ninja.specs.Text.{escaped}
+use Rattle.kt_ninja.proofs.Common.{length, escaped}
 use Rattle.kt_ninja.specs.Escaping.{is_special}
 use Rattle.kt_ninja.proofs.Putting.{PutsUpTo}
 use Rattle.kt_ninja.proofs.block.Block.put_escaped.Given as goal

@@ -1,6 +1,5 @@
 use Rattle.std.proofs.Common.{◌+◌, ◌++◌, codes, drop, ap, rules}
-use Rattle.std.proofs.lemmas.List.{drop_all}
-use Rattle.kt_ninja.specs.Text.{names_text, name_text}
+use Rattle.kt_ninja.proofs.Common.{drop_all, names_text, name_text}
 use Rattle.kt_ninja.proofs.Places.{drop_at}
 use Rattle.kt_ninja.proofs.Putting.{puts_then, up_to_more, up_to_end, up_to_start}
 use Rattle.kt_ninja.proofs.block.Block.put_names.Goals as goal

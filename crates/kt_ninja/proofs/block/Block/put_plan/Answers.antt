@@ -1,5 +1,4 @@
-use Rattle.std.proofs.Common.{codes}
-use Rattle.kt_ninja.specs.Text.{plan_text}
+use Rattle.kt_ninja.proofs.Common.{codes, plan_text}
 use Rattle.kt_ninja.proofs.Putting.{puts_none, puts_then}
 use Rattle.kt_ninja.proofs.block.Block.put_plan.Goals as goal
 

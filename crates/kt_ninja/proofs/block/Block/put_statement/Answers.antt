@@ -1,7 +1,5 @@
-use Rattle.std.proofs.Common.{◌∙◌, ◌≡◌, ℕ, List, arith, sym}
-use Rattle.std.specs.Prelude.{option_map, slice_get}
-use Rattle.std.specs.Borrow.{Bor}
-use Rattle.kt_ninja.specs.Text.{number_text}
+use Rattle.std.proofs.Common.{◌∙◌, ◌≡◌, ℕ, List, arith, sym, option_map, slice_get}
+use Rattle.kt_ninja.proofs.Common.{Bor, number_text}
 use Rattle.kt_ninja.proofs.Numbers.{number_decimal}
 use Rattle.kt_ninja.proofs.Putting.{puts_then}
 use Rattle.kt_ninja.proofs.ViewLemmas.{rule_put}

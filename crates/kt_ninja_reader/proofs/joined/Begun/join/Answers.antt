@@ -1,6 +1,4 @@
-use Rattle.std.proofs.Common.{refl}
-use Rattle.std.proofs.lemmas.Result.{on_ok_weaker}
-use Rattle.kt_ninja_reader.specs.declared.joined.Begun.{Begun as OpenLine}
+use Rattle.kt_ninja_reader.proofs.Common.{refl, on_ok_weaker, Begun as OpenLine}
 use Rattle.kt_ninja_reader.proofs.JoinedLemmas.{joins}
 use Rattle.kt_ninja_reader.proofs.joined.Begun.join.Goals as goal
 

@@ -1,9 +1,6 @@
 use Rattle.std.proofs.Common.{sym, ◌∙◌, ap}
-use Rattle.std.proofs.lemmas.Result.{err_from_is_err_and}
-use Rattle.kt_ninja_reader.specs.NinjaRead.{paths_in, pending_with}
-use Rattle.kt_ninja_reader.specs.Scopes.{value_within}
+use Rattle.kt_ninja_reader.proofs.Common.{err_from_is_err_and, paths_in, pending_with, value_within, build_view}
 use Rattle.kt_ninja_reader.specs.inner.Holding.{making_as}
-use Rattle.kt_ninja_reader.specs.inner.Wording.{build_view}
 use Rattle.kt_ninja_reader.proofs.PieceLemmas.{refuses_too}
 use Rattle.kt_ninja_reader.proofs.StateLemmas.{no_implicit, no_inputs, no_order_only}
 use Rattle.kt_ninja_reader.proofs.pending_statement.PendingStatement.of.Goals as goal

@@ -1,7 +1,5 @@
 use Rattle.std.proofs.Common.{◌++◌, ap, sym, ◌∙◌}
-use Rattle.std.specs.List.{list_all}
-use Rattle.kt_ninja_reader.specs.NinjaRead.{State, add_defaults}
-use Rattle.kt_list.specs.Names.{is_among}
+use Rattle.kt_ninja_reader.proofs.Common.{list_all, State, add_defaults, is_among}
 use Rattle.kt_ninja_reader.proofs.StateLemmas.{defaults_added}
 use Rattle.kt_ninja_reader.proofs.state.State.with_defaults.Goals as goal
 

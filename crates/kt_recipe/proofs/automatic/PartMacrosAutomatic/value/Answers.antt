@@ -1,8 +1,5 @@
 use Rattle.std.proofs.Common.{◌≡◌, IfOk, option_map, sym, subst, ◌∙◌}
-use Rattle.std.proofs.lemmas.Result.{IfOk-weaker}
-use Rattle.std.specs.Cow.{cow_slice_items}
-use Rattle.kt_eval.specs.files.Files.{look}
-use Rattle.kt_recipe.specs.Automatic.{MacrosOf, automatic_in}
+use Rattle.kt_recipe.proofs.Common.{IfOk-weaker, cow_slice_items, look, MacrosOf, automatic_in}
 use Rattle.kt_recipe.proofs.AskingLemmas.{found_by_name}
 use Rattle.kt_recipe.proofs.automatic.PartMacrosAutomatic.value.Goals as goal
 

@@ -1,6 +1,4 @@
-use Rattle.std.proofs.Common.{subst}
-use Rattle.std.proofs.lemmas.Result.{IfOk-weaker}
-use Rattle.kt_text.specs.Words.{Text}
+use Rattle.kt_recipe.proofs.Common.{subst, IfOk-weaker, Text}
 use Rattle.kt_recipe.specs.inner.Kept.{IsFilled}
 use Rattle.kt_recipe.proofs.PreparedLemmas.{line_fills}
 use Rattle.kt_recipe.proofs.kept.KeptLines.fill.Goals as goal

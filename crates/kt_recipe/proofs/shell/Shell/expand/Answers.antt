@@ -1,6 +1,4 @@
-use Rattle.std.proofs.lemmas.Result.{err_from_is_err_and}
-use Rattle.kt_recipe.specs.Shell.{expansion}
-use Rattle.kt_recipe.specs.Views.{setting_at}
+use Rattle.kt_recipe.proofs.Common.{err_from_is_err_and, expansion, setting_at}
 use Rattle.kt_recipe.proofs.ShellLemmas.{expansion_front, out_of_memory}
 use Rattle.kt_recipe.proofs.shell.Shell.expand.Goals as goal
 

@@ -1,10 +1,4 @@
-use Rattle.std.proofs.Common.{refl}
-use Rattle.std.proofs.lemmas.Result.{err_from_is_err_and}
-use Rattle.kt_text.specs.Words.{Text}
-use Rattle.kt_eval.proofs.lemmas.GrowingLemmas.{front_same}
-use Rattle.kt_recipe.specs.Lines.{after_run, is_marked, pieces_of}
-use Rattle.kt_recipe.specs.Shell.{expansion, put_line, put_pieces}
-use Rattle.kt_recipe.specs.Views.{command_in, setting_at}
+use Rattle.kt_recipe.proofs.Common.{refl, err_from_is_err_and, Text, front_same, after_run, is_marked, pieces_of, expansion, put_line, put_pieces, command_in, setting_at}
 use Rattle.kt_recipe.proofs.ShellLemmas.{put_pieces_front, stops_all}
 use Rattle.kt_recipe.proofs.shell.Shell.put_expanded.Goals as goal
 

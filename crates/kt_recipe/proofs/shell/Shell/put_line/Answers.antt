@@ -1,9 +1,5 @@
 use Rattle.std.proofs.Common.{◌≡◌, true, rules, subst}
-use Rattle.std.proofs.lemmas.Result.{err_from_is_err_and}
-use Rattle.kt_text.specs.Words.{Text}
-use Rattle.kt_recipe.specs.Lines.{after_run}
-use Rattle.kt_recipe.specs.Shell.{CommandsOf, put_line}
-use Rattle.kt_recipe.specs.Views.{command_in, setting_at}
+use Rattle.kt_recipe.proofs.Common.{err_from_is_err_and, Text, after_run, CommandsOf, put_line, command_in, setting_at}
 use Rattle.kt_recipe.specs.inner.Kept.{IsFilled}
 use Rattle.kt_recipe.proofs.PieceLemmas.{says_expanded}
 use Rattle.kt_recipe.proofs.ShellLemmas.{out_of_memory, put_line_front}

@@ -1,8 +1,5 @@
 use Rattle.std.proofs.Common.{◌∙◌, ◌+◌, drop}
-use Rattle.std.proofs.lemmas.Result.{err_from_is_err_and}
-use Rattle.kt_recipe.specs.Automatic.{automatic_in}
-use Rattle.kt_recipe.specs.Shell.{put_line, put_lines}
-use Rattle.kt_recipe.specs.Views.{command_in, setting_at}
+use Rattle.kt_recipe.proofs.Common.{err_from_is_err_and, automatic_in, put_line, put_lines, command_in, setting_at}
 use Rattle.kt_recipe.proofs.LoopLemmas.{lines_from}
 use Rattle.kt_recipe.proofs.ShellLemmas.{put_lines_front, stops_all}
 use Rattle.kt_recipe.proofs.shell.Shell.put_lines.Goals as goal

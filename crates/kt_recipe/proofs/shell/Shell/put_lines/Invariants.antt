@@ -1,8 +1,5 @@
 use Rattle.std.proofs.Common.{◌≡◌, drop}
-use Rattle.kt_list.specs.Prefixes.{IsPrefix}
-use Rattle.kt_recipe.specs.Automatic.{automatic_in}
-use Rattle.kt_recipe.specs.Shell.{put_lines}
-use Rattle.kt_recipe.specs.Views.{command_in}
+use Rattle.kt_recipe.proofs.Common.{IsPrefix, automatic_in, put_lines, command_in}
 use Rattle.kt_recipe.proofs.shell.Shell.put_lines.Given as goal
 
 abbrev pub invariant-loop-number : goal.invariant-loop-number

@@ -1,7 +1,4 @@
-use Rattle.std.proofs.Common.{[], sym, ap, unwrap_or}
-use Rattle.kt_recipe.specs.Automatic.{automatic_in}
-use Rattle.kt_recipe.specs.Shell.{put_lines, put_part}
-use Rattle.kt_recipe.specs.Views.{command_in}
+use Rattle.kt_recipe.proofs.Common.{[], sym, ap, unwrap_or, automatic_in, put_lines, put_part, command_in}
 use Rattle.kt_recipe.proofs.ShellLemmas.{says_nothing}
 use Rattle.kt_recipe.proofs.shell.Shell.put_part.Goals as goal
 

@@ -1,7 +1,5 @@
 use Rattle.std.proofs.Common.{◌∙◌, ◌+◌, ℕ, List, [], Bor, drop, get_or, map}
-use Rattle.std.proofs.lemmas.Result.{err_from_is_err_and}
-use Rattle.kt_recipe.specs.Shell.{put_piece, put_pieces}
-use Rattle.kt_recipe.specs.Views.{command_in, setting_at}
+use Rattle.kt_recipe.proofs.Common.{err_from_is_err_and, put_piece, put_pieces, command_in, setting_at}
 use Rattle.kt_recipe.proofs.LoopLemmas.{pieces_from}
 use Rattle.kt_recipe.proofs.ShellLemmas.{put_pieces_front, stops_all}
 use Rattle.kt_recipe.proofs.shell.Shell.put_pieces.Goals as goal

@@ -1,7 +1,5 @@
 use Rattle.std.proofs.Common.{◌≡◌, drop, map}
-use Rattle.kt_list.specs.Prefixes.{IsPrefix}
-use Rattle.kt_recipe.specs.Shell.{put_pieces}
-use Rattle.kt_recipe.specs.Views.{command_in, setting_at}
+use Rattle.kt_recipe.proofs.Common.{IsPrefix, put_pieces, command_in, setting_at}
 use Rattle.kt_recipe.proofs.shell.Shell.put_pieces.Given as goal
 
 abbrev pub invariant-loop-piece : goal.invariant-loop-piece

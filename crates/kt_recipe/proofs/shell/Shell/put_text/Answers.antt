@@ -1,8 +1,5 @@
 use Rattle.std.proofs.Common.{sym, ◌∙◌}
-use Rattle.std.proofs.lemmas.Result.{err_from_is_err_and}
-use Rattle.kt_recipe.specs.Lines.{pieces_of}
-use Rattle.kt_recipe.specs.Shell.{put_pieces}
-use Rattle.kt_recipe.specs.Views.{command_in, setting_at}
+use Rattle.kt_recipe.proofs.Common.{err_from_is_err_and, pieces_of, put_pieces, command_in, setting_at}
 use Rattle.kt_recipe.proofs.PieceLemmas.{says_one}
 use Rattle.kt_recipe.proofs.ShellLemmas.{out_of_memory, put_pieces_front}
 use Rattle.kt_recipe.proofs.shell.Shell.put_text.Goals as goal

@@ -1,6 +1,4 @@
-use Rattle.std.specs.Cow.{cow_slice_items}
-use Rattle.kt_recipe.specs.Shell.{expansion, shell_text}
-use Rattle.kt_recipe.specs.Views.{setting_at}
+use Rattle.kt_recipe.proofs.Common.{cow_slice_items, expansion, shell_text, setting_at}
 use Rattle.kt_recipe.proofs.PlainLemmas.{shell_is}
 use Rattle.kt_recipe.proofs.ShellLemmas.{says_nothing}
 use Rattle.kt_recipe.proofs.shell.Shell.shell.Goals as goal

@@ -1,12 +1,6 @@
 use Rattle.std.proofs.Common.{◌≡◌, ◌∙◌, ◌&&◌, List, ap, is_some, map, refl, sym}
-use Rattle.std.specs.List.{list_any}
-use Rattle.kt_text.specs.Words.{Text}
-use Rattle.kt_rules.specs.declared.book.spot.Spot.{Spot}
-use Rattle.kt_rules.specs.Book.{explicit_rules, rule_needs}
-use Rattle.kt_rules.specs.Slots.{explicit_left, spots_at}
-use Rattle.kt_rules.specs.Suffixes.{suffix_patterns}
+use Rattle.kt_rules.proofs.Common.{list_any, Text, Spot, explicit_rules, rule_needs, explicit_left, spots_at, suffix_patterns, is_bare_at}
 use Rattle.kt_rules.specs.inner.Lists.{Notes}
-use Rattle.kt_rules.specs.inner.SuffixCuts.{is_bare_at}
 use Rattle.kt_rules.proofs.GoalLemmas.{explicit_by_spots}
 use Rattle.kt_rules.proofs.book.Book.are_made_alike.Goals as goal
 

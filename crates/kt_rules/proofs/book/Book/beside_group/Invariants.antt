@@ -1,7 +1,5 @@
 use Rattle.std.proofs.Common.{◌≡◌, find, filter}
-use Rattle.std.specs.List.{list_any}
-use Rattle.kt_rules.specs.Book.{is_made, is_beside_group, recipes_of, beside_group_in}
-use Rattle.kt_rules.specs.Targets.{targets_view}
+use Rattle.kt_rules.proofs.Common.{list_any, is_made, is_beside_group, recipes_of, beside_group_in, targets_view}
 use Rattle.kt_rules.proofs.book.Book.beside_group.Given as goal
 
 abbrev pub invariant-loop-target : goal.invariant-loop-target

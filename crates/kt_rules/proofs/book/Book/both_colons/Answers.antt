@@ -1,8 +1,5 @@
 use Rattle.std.proofs.Common.{◌∙◌, true, false, find, filter, sym, ap}
-use Rattle.std.specs.List.{list_any}
-use Rattle.kt_rules.specs.declared.entry.Target.{Target}
-use Rattle.kt_rules.specs.Book.{is_made, differ_in_colons, rules_of}
-use Rattle.kt_rules.specs.Targets.{target_view, targets_view}
+use Rattle.kt_rules.proofs.Common.{list_any, Target, is_made, differ_in_colons, rules_of, target_view, targets_view}
 use Rattle.kt_rules.proofs.FindLemmas.{find_left}
 use Rattle.kt_rules.proofs.book.Book.both_colons.Goals as goal
 

@@ -1,5 +1,4 @@
-use Rattle.std.proofs.Common.{subst}
-use Rattle.kt_rules.specs.Book.{GroupsStandAlone}
+use Rattle.kt_rules.proofs.Common.{subst, GroupsStandAlone}
 use Rattle.kt_rules.proofs.book.Book.entries.Goals as goal
 
 pub returns-clause-groups : goal.returns-clause-groups

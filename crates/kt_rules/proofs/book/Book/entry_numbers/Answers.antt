@@ -1,14 +1,8 @@
 use Rattle.std.proofs.Common.{◌≡◌, ◌∙◌, ◌++◌, ◌+◌, ◌≤◌, ◌∷◌, List, ℕ, length, sym, ap, arith}
-use Rattle.std.specs.List.{enumerate_from, flat_map}
+use Rattle.kt_rules.proofs.Common.{enumerate_from, flat_map, append_assoc, append-nil, Rule, numbers_in, rules_in, suffixes_of, entry_view}
 use Rattle.std.specs.declared.iter.Enumerate.{Enumerate}
-use Rattle.std.proofs.lemmas.List.{append_assoc, append-nil}
 use Rattle.kt_rules.specs.declared.book.entries.Entries.{Entries}
-use Rattle.kt_rules.specs.Entry.{Rule}
-use Rattle.kt_rules.specs.Book.{numbers_in}
 use Rattle.kt_rules.specs.Indexes.{noted_at}
-use Rattle.kt_rules.specs.Slots.{rules_in}
-use Rattle.kt_rules.specs.Suffixes.{suffixes_of}
-use Rattle.kt_rules.specs.Targets.{entry_view}
 use Rattle.kt_rules.proofs.NumberLemmas.{numbers_start, numbers_step, rules_fit}
 use Rattle.kt_rules.proofs.book.Book.entry_numbers.Goals as goal
 

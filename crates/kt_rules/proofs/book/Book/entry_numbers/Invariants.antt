@@ -1,9 +1,6 @@
 use Rattle.std.proofs.Common.{◌≡◌, ◌++◌, ◌+◌, ◌<◌, ◌^◌, length}
-use Rattle.std.specs.List.{enumerate_from, flat_map}
-use Rattle.kt_text.specs.Words.{Text}
-use Rattle.kt_rules.specs.Book.{explicit_numbers, numbers_in}
+use Rattle.kt_rules.proofs.Common.{enumerate_from, flat_map, Text, explicit_numbers, numbers_in, suffixes_of}
 use Rattle.kt_rules.specs.Indexes.{noted_at}
-use Rattle.kt_rules.specs.Suffixes.{suffixes_of}
 use Rattle.kt_rules.proofs.book.Book.entry_numbers.Given as goal
 
 abbrev pub invariant-loop-number : goal.invariant-loop-number

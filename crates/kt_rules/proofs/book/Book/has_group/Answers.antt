@@ -1,9 +1,5 @@
 use Rattle.std.proofs.Common.{◌∙◌, ◌||◌, Some, ap, false, subst, sym, ◌≡◌}
-use Rattle.kt_rules.specs.declared.entry.Kind.{Kind}
-use Rattle.std.specs.List.{All}
-use Rattle.kt_rules.specs.Entry.{Rule}
-use Rattle.kt_rules.specs.Book.{is_group}
-use Rattle.kt_rules.specs.Slots.{first_found, rule_view}
+use Rattle.kt_rules.proofs.Common.{Kind, All, Rule, is_group, first_found, rule_view}
 use Rattle.kt_rules.proofs.GoalLemmas.{group_by_first, none_beside}
 use Rattle.kt_rules.proofs.book.Book.has_group.Goals as goal
 

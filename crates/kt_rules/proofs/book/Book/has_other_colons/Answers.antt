@@ -1,9 +1,5 @@
 use Rattle.std.proofs.Common.{◌∙◌, Some, ap, false, subst, sym, ◌≡◌}
-use Rattle.kt_rules.specs.declared.entry.Kind.{Kind}
-use Rattle.std.specs.List.{All}
-use Rattle.kt_rules.specs.Entry.{Rule}
-use Rattle.kt_rules.specs.Book.{is_double, xor}
-use Rattle.kt_rules.specs.Slots.{first_found, rule_view}
+use Rattle.kt_rules.proofs.Common.{Kind, All, Rule, is_double, xor, first_found, rule_view}
 use Rattle.kt_rules.proofs.GoalLemmas.{colons_by_first, none_differs}
 use Rattle.kt_rules.proofs.book.Book.has_other_colons.Goals as goal
 

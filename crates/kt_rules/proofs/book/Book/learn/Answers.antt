@@ -1,6 +1,5 @@
 use Rattle.std.proofs.Common.{◌≡◌, ◌∙◌, ◌++◌, ◌∷◌, [], List, Some, ap}
-use Rattle.kt_rules.specs.Entry.{Rule}
-use Rattle.kt_rules.specs.Slots.{slot_rule}
+use Rattle.kt_rules.proofs.Common.{Rule, slot_rule}
 use Rattle.kt_rules.proofs.BookLemmas.{holds_emptied, holds_grown, holds_learned, pushed_rule, rules_emptied, rules_learned}
 use Rattle.kt_rules.proofs.book.Book.learn.Goals as goal
 

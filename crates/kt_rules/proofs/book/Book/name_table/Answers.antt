@@ -1,7 +1,4 @@
-use Rattle.std.proofs.Common.{List, All, flat_map, subst, sym}
-use Rattle.std.specs.List.{Contains}
-use Rattle.kt_text.specs.Words.{Text}
-use Rattle.kt_rules.specs.Entry.{Rule}
+use Rattle.kt_rules.proofs.Common.{List, All, flat_map, subst, sym, Contains, Text, Rule}
 use Rattle.kt_rules.specs.Known.{names_in}
 use Rattle.kt_rules.proofs.book.Book.name_table.Goals as goal
 

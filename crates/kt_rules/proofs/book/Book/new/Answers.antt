@@ -1,8 +1,5 @@
 use Rattle.std.proofs.Common.{◌≤◌, List, Option, length, ap, subst, sym, arith}
-use Rattle.kt_text.specs.Words.{Text}
-use Rattle.kt_rules.specs.declared.book.spot.Spot.{Spot}
-use Rattle.kt_rules.specs.Entry.{Rule}
-use Rattle.kt_rules.specs.Slots.{spots_at}
+use Rattle.kt_rules.proofs.Common.{Text, Spot, Rule, spots_at}
 use Rattle.kt_rules.proofs.BookLemmas.{kept_made}
 use Rattle.kt_rules.proofs.book.Book.new.Goals as goal
 

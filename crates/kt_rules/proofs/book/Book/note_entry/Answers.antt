@@ -1,11 +1,6 @@
 use Rattle.std.proofs.Common.{◌∙◌, ◌++◌, ◌&&◌, ◌∷◌, [], List, sym, ap, map, filter, ℕ, if◌then◌else◌}
-use Rattle.std.specs.Str.{bytes_eq}
-use Rattle.std.proofs.lemmas.List.{append_assoc}
-use Rattle.kt_rules.specs.declared.entry.Target.{Target}
-use Rattle.kt_rules.specs.Book.{is_explicit}
+use Rattle.kt_rules.proofs.Common.{bytes_eq, append_assoc, Target, is_explicit, suffixes_of, entry_view, target_view, targets_view}
 use Rattle.kt_rules.specs.Indexes.{noted_at}
-use Rattle.kt_rules.specs.Suffixes.{suffixes_of}
-use Rattle.kt_rules.specs.Targets.{entry_view, target_view, targets_view}
 use Rattle.kt_rules.proofs.NumberLemmas.{numbers_left}
 use Rattle.kt_rules.proofs.book.Book.note_entry.Goals as goal
 

@@ -1,10 +1,6 @@
 use Rattle.std.proofs.Common.{◌≡◌, ◌++◌, ◌&&◌, filter, map}
-use Rattle.std.specs.Str.{bytes_eq}
-use Rattle.kt_text.specs.Words.{Text}
-use Rattle.kt_rules.specs.Book.{is_explicit, numbers_in}
+use Rattle.kt_rules.proofs.Common.{bytes_eq, Text, is_explicit, numbers_in, suffixes_of, entry_view, targets_view}
 use Rattle.kt_rules.specs.Indexes.{noted_at}
-use Rattle.kt_rules.specs.Suffixes.{suffixes_of}
-use Rattle.kt_rules.specs.Targets.{entry_view, targets_view}
 use Rattle.kt_rules.proofs.book.Book.note_entry.Given as goal
 
 abbrev pub invariant-loop-target : goal.invariant-loop-target

@@ -1,10 +1,5 @@
 use Rattle.std.proofs.Common.{◌∙◌, ◌∷◌, ◌++◌, [], ◌&&◌, List, true, sym, ap, map, filter, if◌then◌else◌}
-use Rattle.std.specs.List.{list_any}
-use Rattle.std.proofs.lemmas.List.{append_assoc}
-use Rattle.kt_text.specs.Words.{Text}
-use Rattle.kt_rules.specs.declared.entry.Target.{Target}
-use Rattle.kt_rules.specs.Book.{is_made, recipes_of, override_message}
-use Rattle.kt_rules.specs.Targets.{target_view, targets_view}
+use Rattle.kt_rules.proofs.Common.{list_any, append_assoc, Text, Target, is_made, recipes_of, override_message, target_view, targets_view}
 use Rattle.kt_rules.proofs.FindLemmas.{filter_left}
 use Rattle.kt_rules.proofs.book.Book.second_recipes.Goals as goal
 

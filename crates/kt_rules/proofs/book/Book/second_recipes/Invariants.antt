@@ -1,7 +1,5 @@
 use Rattle.std.proofs.Common.{◌≡◌, ◌++◌, true, map, filter}
-use Rattle.std.specs.List.{list_any}
-use Rattle.kt_rules.specs.Book.{is_made, recipes_of, override_message, targets_with_recipe}
-use Rattle.kt_rules.specs.Targets.{targets_view}
+use Rattle.kt_rules.proofs.Common.{list_any, is_made, recipes_of, override_message, targets_with_recipe, targets_view}
 use Rattle.kt_rules.proofs.book.Book.second_recipes.Given as goal
 
 abbrev pub invariant-loop-target : goal.invariant-loop-target

@@ -1,8 +1,5 @@
 use Rattle.std.proofs.Common.{◌∙◌, sym, ap, Option}
-use Rattle.std.specs.Option.{option_or}
-use Rattle.kt_text.specs.Words.{Text}
-use Rattle.kt_rules.specs.Book.{first_goal_by}
-use Rattle.kt_rules.specs.Targets.{entry_view}
+use Rattle.kt_rules.proofs.Common.{option_or, Text, first_goal_by, entry_view}
 use Rattle.kt_rules.proofs.GoalLemmas.{goal_left, goal_none}
 use Rattle.kt_rules.proofs.book.goal.first_goal.Goals as goal
 

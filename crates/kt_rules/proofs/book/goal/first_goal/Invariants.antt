@@ -1,6 +1,5 @@
 use Rattle.std.proofs.Common.{◌≡◌}
-use Rattle.kt_rules.specs.Book.{first_goal_by}
-use Rattle.kt_rules.specs.Slots.{rules_in}
+use Rattle.kt_rules.proofs.Common.{first_goal_by, rules_in}
 use Rattle.kt_rules.proofs.book.goal.first_goal.Given as goal
 
 abbrev pub invariant-loop-entry : goal.invariant-loop-entry

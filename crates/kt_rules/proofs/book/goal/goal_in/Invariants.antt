@@ -1,7 +1,5 @@
 use Rattle.std.proofs.Common.{◌≡◌, find, filter, map}
-use Rattle.kt_rules.specs.Book.{is_goal, is_made, goal_in}
-use Rattle.std.specs.Option.{option_map}
-use Rattle.kt_rules.specs.Targets.{entry_view, targets_view}
+use Rattle.kt_rules.proofs.Common.{is_goal, is_made, goal_in, option_map, entry_view, targets_view}
 use Rattle.kt_rules.proofs.book.goal.goal_in.Given as goal
 
 abbrev pub invariant-loop-target : goal.invariant-loop-target

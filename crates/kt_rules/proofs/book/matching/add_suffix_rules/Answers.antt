@@ -1,10 +1,6 @@
 use Rattle.std.proofs.Common.{◌∙◌, ◌++◌, List, sym, ap, map, filter}
-use Rattle.std.specs.List.{filter_map}
-use Rattle.std.proofs.lemmas.List.{append_assoc}
-use Rattle.kt_rules.specs.Entry.{Rule}
-use Rattle.kt_rules.specs.Book.{is_made, suffix_rule_as_pattern}
+use Rattle.kt_rules.proofs.Common.{filter_map, append_assoc, Rule, is_made, suffix_rule_as_pattern, entry_view, target_view, targets_view}
 use Rattle.kt_rules.specs.Patterns.{suffix_rules_at}
-use Rattle.kt_rules.specs.Targets.{entry_view, target_view, targets_view}
 use Rattle.kt_rules.proofs.PatternLemmas.{suffix_rules_left}
 use Rattle.kt_rules.proofs.book.matching.add_suffix_rules.Goals as goal
 

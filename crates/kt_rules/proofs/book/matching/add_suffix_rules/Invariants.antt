@@ -1,8 +1,6 @@
 use Rattle.std.proofs.Common.{◌≡◌, ◌++◌, map, filter}
-use Rattle.std.specs.List.{filter_map}
-use Rattle.kt_rules.specs.Book.{is_made, suffix_rule_as_pattern}
+use Rattle.kt_rules.proofs.Common.{filter_map, is_made, suffix_rule_as_pattern, entry_view, targets_view}
 use Rattle.kt_rules.specs.Patterns.{suffix_rules_in}
-use Rattle.kt_rules.specs.Targets.{entry_view, targets_view}
 use Rattle.kt_rules.proofs.book.matching.add_suffix_rules.Given as goal
 
 abbrev pub invariant-loop-target : goal.invariant-loop-target

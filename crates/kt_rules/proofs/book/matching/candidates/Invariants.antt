@@ -1,7 +1,5 @@
 use Rattle.std.proofs.Common.{◌≡◌, ◌++◌}
-use Rattle.std.specs.List.{flat_map}
-use Rattle.kt_rules.specs.Book.{patterns_in}
-use Rattle.kt_rules.specs.Slots.{rules_in}
+use Rattle.kt_rules.proofs.Common.{flat_map, patterns_in, rules_in}
 use Rattle.kt_rules.proofs.book.matching.candidates.Given as goal
 
 abbrev pub invariant-loop-entry : goal.invariant-loop-entry

@@ -1,8 +1,5 @@
 use Rattle.std.proofs.Common.{◌∙◌, ◌++◌, sym, ap, Some, drop, take, if◌then◌else◌}
-use Rattle.std.specs.Option.{option_map}
-use Rattle.std.proofs.lemmas.List.{take_rest}
-use Rattle.kt_rules.specs.Book.{pattern_rule}
-use Rattle.kt_rules.specs.Suffixes.{percent, suffix_cut}
+use Rattle.kt_rules.proofs.Common.{option_map, take_rest, pattern_rule, percent, suffix_cut}
 use Rattle.kt_rules.proofs.book.matching.named_form.Goals as goal
 
 pub returns-then-contains : goal.returns-then-contains

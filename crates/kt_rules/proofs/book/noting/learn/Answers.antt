@@ -1,7 +1,4 @@
-use Rattle.std.proofs.Common.{List, subst}
-use Rattle.std.specs.Result.{OnErr}
-use Rattle.kt_text.specs.Words.{Text}
-use Rattle.kt_rules.specs.Slots.{GrewIn}
+use Rattle.kt_rules.proofs.Common.{List, subst, OnErr, Text, GrewIn}
 use Rattle.kt_rules.proofs.book.noting.learn.Goals as goal
 
 pub returns-in-Some-clause-targets_refused : goal.returns-in-Some-clause-targets_refused

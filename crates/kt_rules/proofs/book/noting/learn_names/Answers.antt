@@ -1,6 +1,5 @@
 use Rattle.std.proofs.Common.{◌∙◌}
-use Rattle.kt_rules.specs.Book.{phony_of}
-use Rattle.kt_rules.specs.Targets.{entry_view}
+use Rattle.kt_rules.proofs.Common.{phony_of, entry_view}
 use Rattle.kt_rules.proofs.FindLemmas.{take_grown}
 use Rattle.kt_rules.proofs.book.noting.learn_names.Goals as goal
 

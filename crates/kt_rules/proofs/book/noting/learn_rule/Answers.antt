@@ -1,5 +1,4 @@
-use Rattle.kt_rules.specs.Targets.{entry_view}
-use Rattle.kt_text.proofs.BegunLemmas.{on_err}
+use Rattle.kt_rules.proofs.Common.{entry_view, on_err}
 use Rattle.kt_rules.proofs.SlotLemmas.{grew_recipes, grew_spots}
 use Rattle.kt_rules.proofs.book.noting.learn_rule.Goals as goal
 

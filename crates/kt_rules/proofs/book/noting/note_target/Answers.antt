@@ -1,15 +1,5 @@
 use Rattle.std.proofs.Common.{◌≡◌, ◌∙◌, ◌&&◌, ◌++◌, ◌∷◌, if◌then◌else◌, ℕ, nat_eq, List, [], Some, Bool, true, not, is_some, slice_get, get_or, sym, ap}
-use Rattle.std.specs.Borrow.{Bor}
-use Rattle.std.proofs.lemmas.Option.{slice_get-get_or}
-use Rattle.std.proofs.lemmas.Result.{on_err_weaker, on_ok_weaker}
-use Rattle.kt_list.proofs.general.Places.{is_some-map}
-use Rattle.kt_text.specs.Words.{Text}
-use Rattle.kt_rules.specs.declared.entry.Kind.{Kind}
-use Rattle.kt_rules.specs.declared.entry.RecipeLine.{RecipeLine}
-use Rattle.kt_rules.specs.Book.{is_made, is_pattern}
-use Rattle.kt_rules.specs.Names.{is_special}
-use Rattle.kt_rules.specs.Targets.{entry_view}
-use Rattle.kt_rules.specs.inner.Held.{numbered_target}
+use Rattle.kt_rules.proofs.Common.{Bor, slice_get-get_or, on_err_weaker, on_ok_weaker, is_some-map, Text, Kind, RecipeLine, is_made, is_pattern, is_special, entry_view, numbered_target}
 use Rattle.kt_rules.specs.inner.Lists.{list_at}
 use Rattle.kt_rules.proofs.NoteLemmas.{grew_at_names, target_noted}
 use Rattle.kt_rules.proofs.book.noting.note_target.Goals as goal

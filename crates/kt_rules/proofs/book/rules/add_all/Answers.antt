@@ -1,6 +1,5 @@
 use Rattle.std.proofs.Common.{◌∙◌, ◌++◌, [], subst}
-use Rattle.std.proofs.lemmas.List.{append-nil}
-use Rattle.kt_rules.specs.inner.Held.{IsRow}
+use Rattle.kt_rules.proofs.Common.{append-nil, IsRow}
 use Rattle.kt_rules.proofs.HeldLemmas.{last_stays, lists_twice, row_stays}
 use Rattle.kt_rules.proofs.book.rules.add_all.Goals as goal
 

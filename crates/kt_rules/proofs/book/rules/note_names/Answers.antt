@@ -1,7 +1,5 @@
 use Rattle.std.proofs.Common.{◌≡◌, ◌∙◌, ◌++◌, ◌∷◌, ◌+◌, List, [], ap, subst, sym, take}
-use Rattle.std.proofs.lemmas.List.{append_assoc, take_all, take_more}
-use Rattle.kt_text.specs.Words.{Text}
-use Rattle.kt_rules.specs.inner.Held.{GotRow}
+use Rattle.kt_rules.proofs.Common.{append_assoc, take_all, take_more, Text, GotRow}
 use Rattle.kt_rules.proofs.HeldLemmas.{got_twice}
 use Rattle.kt_rules.proofs.book.rules.note_names.Goals as goal
 

@@ -1,6 +1,5 @@
 use Rattle.std.proofs.Common.{List, ◌++◌, take, ℕ}
-use Rattle.kt_text.specs.Words.{Text}
-use Rattle.kt_rules.specs.inner.Held.{GotNames, GotRow, HasOneMore}
+use Rattle.kt_rules.proofs.Common.{Text, GotNames, GotRow, HasOneMore}
 use Rattle.kt_rules.proofs.book.rules.note_names.Given as goal
 
 abbrev pub invariant-loop-name : goal.invariant-loop-name

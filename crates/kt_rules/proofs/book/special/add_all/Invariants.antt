@@ -1,7 +1,5 @@
 use Rattle.std.proofs.Common.{◌≡◌, ◌++◌, List, fold}
-use Rattle.kt_text.specs.Words.{Text}
-use Rattle.kt_rules.specs.Names.{with_name}
-use Rattle.kt_rules.specs.Targets.{names_view}
+use Rattle.kt_rules.proofs.Common.{Text, with_name, names_view}
 use Rattle.kt_rules.proofs.book.special.add_all.Given as goal
 
 abbrev pub invariant-loop-name : goal.invariant-loop-name

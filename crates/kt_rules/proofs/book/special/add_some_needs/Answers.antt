@@ -1,9 +1,5 @@
 use Rattle.std.proofs.Common.{◌≡◌, ◌∙◌, ◌++◌, List, ap, fold}
-use Rattle.std.proofs.lemmas.List.{append_assoc}
-use Rattle.std.proofs.lemmas.Result.{on_err_weaker}
-use Rattle.kt_text.specs.Words.{Text}
-use Rattle.kt_rules.specs.Names.{with_name}
-use Rattle.kt_rules.specs.Targets.{needs_view}
+use Rattle.kt_rules.proofs.Common.{append_assoc, on_err_weaker, Text, with_name, needs_view}
 use Rattle.kt_rules.proofs.FindLemmas.{names_grow}
 use Rattle.kt_rules.proofs.book.special.add_some_needs.Goals as goal
 

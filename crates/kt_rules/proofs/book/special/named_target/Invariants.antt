@@ -1,6 +1,5 @@
 use Rattle.std.proofs.Common.{◌≡◌, find}
-use Rattle.std.specs.Str.{bytes_eq}
-use Rattle.kt_rules.specs.Targets.{targets_view}
+use Rattle.kt_rules.proofs.Common.{bytes_eq, targets_view}
 use Rattle.kt_rules.proofs.book.special.named_target.Given as goal
 
 abbrev pub invariant-loop-target : goal.invariant-loop-target

@@ -1,6 +1,5 @@
 use Rattle.std.proofs.Common.{◌≡◌, fold}
-use Rattle.kt_rules.specs.Names.{with_name}
-use Rattle.kt_rules.specs.Suffixes.{start_suffixes}
+use Rattle.kt_rules.proofs.Common.{with_name, start_suffixes}
 use Rattle.kt_rules.proofs.book.special.start_names.Given as goal
 
 abbrev pub invariant-loop-suffix : goal.invariant-loop-suffix

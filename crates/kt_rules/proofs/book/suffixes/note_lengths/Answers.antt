@@ -1,6 +1,5 @@
 use Rattle.std.proofs.Common.{◌∙◌, ◌+◌, ◌≤◌, ap, sym, subst, drop, length, arith}
-use Rattle.kt_text.specs.Words.{Text}
-use Rattle.kt_rules.specs.inner.SuffixCuts.{KeepLengths, lengths_with, with_number}
+use Rattle.kt_rules.proofs.Common.{Text, KeepLengths, lengths_with, with_number}
 use Rattle.kt_rules.proofs.SuffixLemmas.{length_kept, lengths_at, lengths_end}
 use Rattle.kt_rules.proofs.book.suffixes.note_lengths.Goals as goal
 

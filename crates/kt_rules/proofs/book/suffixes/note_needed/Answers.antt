@@ -1,7 +1,5 @@
 use Rattle.std.proofs.Common.{◌∙◌, ap, sym, subst, length}
-use Rattle.kt_text.specs.Words.{Text}
-use Rattle.kt_rules.specs.inner.SuffixCuts.{KeepLengths, with_number}
-use Rattle.kt_rules.specs.Targets.{needed_view, names_view}
+use Rattle.kt_rules.proofs.Common.{Text, KeepLengths, with_number, needed_view, names_view}
 use Rattle.kt_rules.proofs.SuffixLemmas.{length_kept, lengths_left, lengths_none}
 use Rattle.kt_rules.proofs.book.suffixes.note_needed.Goals as goal
 

@@ -1,6 +1,5 @@
 use Rattle.std.proofs.Common.{◌≡◌}
-use Rattle.kt_rules.specs.inner.SuffixCuts.{KeepLengths, lengths_with}
-use Rattle.kt_rules.specs.Targets.{names_view}
+use Rattle.kt_rules.proofs.Common.{KeepLengths, lengths_with, names_view}
 use Rattle.kt_rules.proofs.book.suffixes.note_needed.Given as goal
 
 abbrev pub invariant-loop-name : goal.invariant-loop-name

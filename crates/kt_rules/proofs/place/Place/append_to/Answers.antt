@@ -1,5 +1,4 @@
-use Rattle.std.proofs.Common.{◌∙◌, ◌++◌, ap, refl}
-use Rattle.std.specs.Prelude.{codes, decimal}
+use Rattle.std.proofs.Common.{◌∙◌, ◌++◌, ap, refl, codes, decimal}
 use Rattle.kt_text.proofs.BegunLemmas.{on_err}
 use Rattle.kt_rules.proofs.place.Place.append_to.Goals as goal
 

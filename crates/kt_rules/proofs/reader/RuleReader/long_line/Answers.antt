@@ -1,5 +1,4 @@
-use Rattle.std.proofs.Common.{subst}
-use Rattle.std.specs.Prelude.{IfSome}
+use Rattle.std.proofs.Common.{subst, IfSome}
 use Rattle.kt_rules.specs.inner.Remembered.{Names}
 use Rattle.kt_rules.proofs.ReaderLemmas.{reads_long}
 use Rattle.kt_rules.proofs.reader.RuleReader.long_line.Goals.{in-None-2, in-Some-2+in_ok-of-in-Some-2}

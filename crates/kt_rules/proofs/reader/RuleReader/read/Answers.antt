@@ -1,6 +1,4 @@
-use Rattle.std.proofs.Common.{subst}
-use Rattle.std.specs.Prelude.{IfSome}
-use Rattle.kt_rules.specs.Entry.{rule_of}
+use Rattle.kt_rules.proofs.Common.{subst, IfSome, rule_of}
 use Rattle.kt_rules.specs.inner.Remembered.{ReadsAsLong}
 use Rattle.kt_rules.proofs.reader.RuleReader.read.Goals.{in-Ok-Some, in-Ok-None, in-Err+in-Some-1, in-Err+in-None-1}
 use Rattle.kt_rules.proofs.reader.RuleReader.read.Goals as goal

@@ -1,6 +1,5 @@
 use Rattle.std.proofs.Common.{◌≡◌, ◌+◌, length, drop, take, ap, ◌∙◌, List, ℕ, arith}
-use Rattle.std.proofs.lemmas.List.{take_rest}
-use Rattle.kt_syntax.specs.Mask.{mask_of}
+use Rattle.kt_syntax.proofs.Common.{take_rest, mask_of}
 use Rattle.kt_syntax.proofs.Masking.{one_taken, length-between}
 use Rattle.kt_syntax.proofs.OwnSymbols.{after_own}
 use Rattle.kt_syntax.proofs.mask.Mask.between.Goals as goal

@@ -1,5 +1,4 @@
-use Rattle.std.proofs.Common.{refl}
-use Rattle.kt_syntax.specs.Mask.{mask_of}
+use Rattle.kt_syntax.proofs.Common.{refl, mask_of}
 use Rattle.kt_syntax.proofs.Masking.{length-front, whole_mask}
 use Rattle.kt_syntax.proofs.mask.Mask.new.Goals as goal
 

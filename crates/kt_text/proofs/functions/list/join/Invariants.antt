@@ -1,6 +1,5 @@
 use Rattle.std.proofs.Common.{◌≡◌}
-use Rattle.kt_text.specs.Words.{words_of, list_text}
-use Rattle.kt_text.specs.Functions.{joined_pairs}
+use Rattle.kt_text.proofs.Common.{words_of, list_text, joined_pairs}
 use Rattle.kt_text.proofs.ListLemmas.{put_words}
 use Rattle.kt_text.proofs.functions.list.join.Given as goal
 

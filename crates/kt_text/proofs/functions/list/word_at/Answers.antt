@@ -1,7 +1,6 @@
 use Rattle.std.proofs.Common.{◌≡◌, List, ℕ, [], ap, refl, ◌∙◌, Option, Some, None, unwrap_or, option_map}
-use Rattle.std.specs.Borrow.{Bor}
+use Rattle.kt_text.proofs.Common.{Bor, words_of}
 use Rattle.std.proofs.lemmas.Iterator.Consumers.{YieldsList-from_first, nth_from_yields_List}
-use Rattle.kt_text.specs.Words.{words_of}
 use Rattle.kt_text.proofs.functions.list.word_at.Goals as goal
 
 now-unwrap_or : (found : Option (Bor (List ℕ))) (empty : Bor (List ℕ)) → (unwrap_or found empty).now ≡ unwrap_or (option_map (λ text. text.now) found) empty.now

@@ -1,6 +1,5 @@
 use Rattle.std.proofs.Common.{◌≡◌}
-use Rattle.std.specs.List.{slice_range}
-use Rattle.kt_text.specs.Words.{words_of, list_text}
+use Rattle.kt_text.proofs.Common.{slice_range, words_of, list_text}
 use Rattle.kt_text.proofs.ListLemmas.{put_words}
 use Rattle.kt_text.proofs.functions.list.words_between.Given as goal
 

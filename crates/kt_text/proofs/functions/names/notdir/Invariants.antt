@@ -1,6 +1,5 @@
 use Rattle.std.proofs.Common.{◌≡◌, map}
-use Rattle.kt_text.specs.Words.{words_of, list_text}
-use Rattle.kt_text.specs.Functions.{name_part}
+use Rattle.kt_text.proofs.Common.{words_of, list_text, name_part}
 use Rattle.kt_text.proofs.ListLemmas.{put_words}
 use Rattle.kt_text.proofs.functions.names.notdir.Given as goal
 

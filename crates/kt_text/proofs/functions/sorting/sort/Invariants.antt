@@ -1,6 +1,5 @@
 use Rattle.std.proofs.Common.{◌≡◌, drop}
-use Rattle.kt_text.specs.Words.{words_of, list_text}
-use Rattle.kt_text.specs.Functions.{word_set}
+use Rattle.kt_text.proofs.Common.{words_of, list_text, word_set}
 use Rattle.kt_text.proofs.ListLemmas.{put_words}
 use Rattle.kt_text.proofs.functions.sorting.sort.Given as goal
 

@@ -1,6 +1,5 @@
 use Rattle.std.proofs.Common.{◌≡◌, filter}
-use Rattle.kt_text.specs.Words.{words_of, list_text}
-use Rattle.kt_text.specs.Functions.{matches_some}
+use Rattle.kt_text.proofs.Common.{words_of, list_text, matches_some}
 use Rattle.kt_text.proofs.ListLemmas.{put_words}
 use Rattle.kt_text.proofs.functions.substitution.filter.Given as goal
 

@@ -1,7 +1,5 @@
 use Rattle.std.proofs.Common.{◌≡◌, sym, refl}
-use Rattle.std.specs.Ordering.{MatchOrdering}
-use Rattle.std.specs.declared.cmp.Ordering.{Ordering}
-use Rattle.std.specs.declared.cmp.Ordering.TheVariants.{Less, Equal, Greater}
+use Rattle.kt_text.proofs.Common.{MatchOrdering, Ordering, Less, Equal, Greater}
 use Rattle.kt_text.proofs.SortLemmas.{order, AreBytes, fronts_decide}
 use Rattle.kt_text.proofs.sort_key.SortKeyOrd.cmp.Goals as goal
 

@@ -1,5 +1,4 @@
-use Rattle.std.proofs.Common.{map}
-use Rattle.std.proofs.lemmas.Result.{err_from_is_err_and}
+use Rattle.kt_eval.proofs.Common.{map, err_from_is_err_and}
 use Rattle.kt_eval.specs.reading.Machine.{read_by, traced_by}
 use Rattle.kt_eval.proofs.lemmas.reading.MachineLemmas.{before_reading}
 use Rattle.kt_eval.proofs.reading.machine.Machine.read.Goals as goal

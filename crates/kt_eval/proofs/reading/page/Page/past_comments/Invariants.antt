@@ -1,6 +1,5 @@
 use Rattle.std.proofs.Common.{◌≡◌, ◌<◌, ◌≤◌, ◌-◌, length, Some}
-use Rattle.std.specs.List.{slice_get}
-use Rattle.kt_syntax.specs.Reading.{IsAhead, ReadsOn}
+use Rattle.kt_eval.proofs.Common.{slice_get, IsAhead, ReadsOn}
 use Rattle.kt_eval.specs.inner.Doing.{ReadsAlike}
 use Rattle.kt_eval.proofs.reading.page.Page.past_comments.Given as goal
 

@@ -1,8 +1,5 @@
 use Rattle.std.proofs.Common.{◌∙◌, ◌≤◌, length, sym, arith}
-use Rattle.std.proofs.lemmas.Bool.{false≢true}
-use Rattle.std.proofs.lemmas.List.{take_all}
-use Rattle.std.proofs.lemmas.List.Elements.{All-more}
-use Rattle.kt_graph.specs.inner.faults.Edges.{LeadsBack}
+use Rattle.kt_graph.proofs.Common.{false≢true, take_all, All-more, LeadsBack}
 use Rattle.kt_graph.proofs.lemmas.faults.CircleLemmas.{first_at}
 use Rattle.kt_graph.proofs.faults.cycles.Left.first_back.Goals as goal
 

@@ -1,5 +1,4 @@
-use Rattle.std.proofs.Common.{All, take}
-use Rattle.kt_graph.specs.inner.faults.Edges.{LeadsBack}
+use Rattle.kt_graph.proofs.Common.{All, take, LeadsBack}
 use Rattle.kt_graph.proofs.faults.cycles.Left.first_back.Given as goal
 
 abbrev pub invariant-loop-vertex : goal.invariant-loop-vertex

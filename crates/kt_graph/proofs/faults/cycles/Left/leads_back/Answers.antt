@@ -1,6 +1,5 @@
 use Rattle.std.proofs.Common.{◌≡◌, [], arith}
-use Rattle.std.proofs.lemmas.Bool.{false≢true}
-use Rattle.std.proofs.lemmas.List.{nil_from_length}
+use Rattle.kt_graph.proofs.Common.{false≢true, nil_from_length}
 use Rattle.kt_graph.proofs.lemmas.faults.CircleLemmas.{searches_begun, searches_on, searches_ended}
 use Rattle.kt_graph.proofs.faults.cycles.Left.leads_back.Goals as goal
 

@@ -1,7 +1,5 @@
 use Rattle.std.proofs.Common.{◌<◌, ◌∙◌, arith, length, sym}
-use Rattle.std.proofs.lemmas.List.{get_or_default}
-use Rattle.kt_graph.specs.inner.faults.Edges.{row_of, rows_held}
-use Rattle.kt_graph.specs.inner.nodes.Stored.{stored_at}
+use Rattle.kt_graph.proofs.Common.{get_or_default, row_of, rows_held, stored_at}
 use Rattle.kt_graph.proofs.lemmas.faults.EdgeLemmas.{row_after, row_in_front}
 use Rattle.kt_graph.proofs.faults.edges.Edges.next.Goals as goal
 

@@ -1,6 +1,5 @@
 use Rattle.std.proofs.Common.{◌+◌, ◌<◌, ℕ, Global, Vec, length, subst}
-use Rattle.std.proofs.lemmas.List.{length-map}
-use Rattle.kt_graph.specs.inner.faults.Edges.{rows_held}
+use Rattle.kt_graph.proofs.Common.{length-map, rows_held}
 use Rattle.kt_graph.proofs.lemmas.faults.EdgeLemmas.{edges_are, edges_within}
 use Rattle.kt_graph.proofs.faults.edges.Edges.of.Goals as goal
 

@@ -1,6 +1,5 @@
 use Rattle.std.proofs.Common.{◌≤◌, ◌<◌, ◌++◌, ℕ, List, length, sym, ap, ◌∙◌, arith}
-use Rattle.std.proofs.lemmas.List.{drop_all}
-use Rattle.kt_graph.specs.inner.faults.Edges.{edges_to, rows_held, rows_of, with_edges}
+use Rattle.kt_graph.proofs.Common.{drop_all, edges_to, rows_held, rows_of, with_edges}
 use Rattle.kt_graph.proofs.lemmas.faults.CircleLemmas.{length-rows}
 use Rattle.kt_graph.proofs.lemmas.faults.EdgeLemmas.{turned_are, turned_from, turned_more, turned_parts}
 use Rattle.kt_graph.proofs.faults.edges.Edges.reversed.Goals as goal

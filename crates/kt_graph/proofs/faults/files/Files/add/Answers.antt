@@ -1,10 +1,6 @@
 use Rattle.std.proofs.Common.{◌≡◌, ◌++◌, ◌∷◌, [], List, ap, subst, sym, true, ◌∙◌, if◌then◌else◌, Some, is_some}
-use Rattle.std.specs.Str.{bytes_eq}
-use Rattle.kt_text.specs.Words.{Text}
-use Rattle.kt_graph.specs.inner.faults.Files.{held_for, made_names, several_in}
-use Rattle.kt_graph.specs.faults.Paths.{canon_of}
+use Rattle.kt_graph.proofs.Common.{bytes_eq, Text, held_for, made_names, several_in, canon_of, on_ok_weaker}
 use Rattle.kt_graph.proofs.lemmas.faults.FileLemmas.{files_with, made_one}
-use Rattle.std.proofs.lemmas.Result.{on_ok_weaker}
 use Rattle.kt_graph.proofs.faults.files.Files.add.Goals as goal
 
 pub returns : goal.returns

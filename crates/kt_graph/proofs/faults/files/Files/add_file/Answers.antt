@@ -1,6 +1,5 @@
 use Rattle.std.proofs.Common.{Bool, Some, if◌then◌else◌, ap, ◌∙◌}
-use Rattle.std.specs.Str.{bytes_eq}
-use Rattle.kt_graph.specs.inner.faults.Files.{held_for}
+use Rattle.kt_graph.proofs.Common.{bytes_eq, held_for}
 use Rattle.kt_graph.proofs.lemmas.faults.FileLemmas.{held_after}
 use Rattle.kt_graph.proofs.faults.files.Files.add_file.Goals as goal
 

@@ -1,6 +1,5 @@
 use Rattle.std.proofs.Common.{◌≡◌, ◌∙◌, [], Some, ap, rules, false, sym, true}
-use Rattle.kt_text.specs.Words.{Text}
-use Rattle.kt_graph.specs.inner.faults.Files.{is_repeated}
+use Rattle.kt_graph.proofs.Common.{Text, is_repeated}
 use Rattle.kt_graph.proofs.lemmas.faults.FileLemmas.{found_first}
 use Rattle.kt_graph.proofs.faults.files.Files.first_repeated.Goals as goal
 

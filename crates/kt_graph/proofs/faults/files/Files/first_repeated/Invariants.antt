@@ -1,6 +1,5 @@
 use Rattle.std.proofs.Common.{◌≡◌, List, find}
-use Rattle.kt_text.specs.Words.{Text}
-use Rattle.kt_graph.specs.inner.faults.Files.{HasFiles, is_repeated, made_names}
+use Rattle.kt_graph.proofs.Common.{Text, HasFiles, is_repeated, made_names}
 use Rattle.kt_graph.proofs.faults.files.Files.first_repeated.Given as goal
 
 abbrev pub invariant-loop-node : goal.invariant-loop-node

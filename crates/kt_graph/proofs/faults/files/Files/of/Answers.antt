@@ -1,6 +1,5 @@
 use Rattle.std.proofs.Common.{◌≡◌, ◌++◌, ◌∷◌, [], List, rules, subst}
-use Rattle.kt_text.specs.Words.{Text}
-use Rattle.kt_graph.specs.inner.faults.Files.{HasFiles, made_names}
+use Rattle.kt_graph.proofs.Common.{Text, HasFiles, made_names}
 use Rattle.kt_graph.proofs.lemmas.faults.FileLemmas.{made_end, made_more}
 use Rattle.kt_graph.proofs.faults.files.Files.of.Goals as goal
 

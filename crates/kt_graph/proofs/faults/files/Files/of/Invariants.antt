@@ -1,6 +1,5 @@
 use Rattle.std.proofs.Common.{◌≡◌, ◌++◌, List}
-use Rattle.kt_text.specs.Words.{Text}
-use Rattle.kt_graph.specs.inner.faults.Files.{HasFiles, made_names}
+use Rattle.kt_graph.proofs.Common.{Text, HasFiles, made_names}
 use Rattle.kt_graph.proofs.faults.files.Files.of.Given as goal
 
 abbrev pub invariant-loop-node : goal.invariant-loop-node

@@ -1,5 +1,4 @@
-use Rattle.std.proofs.Common.{refl}
-use Rattle.std.specs.Prelude.{slice_get}
+use Rattle.std.proofs.Common.{refl, slice_get}
 use Rattle.kt_graph.proofs.lemmas.EndMarkLemmas.{chosen_kept, chosen_marked}
 use Rattle.kt_graph.proofs.known.end_marks.EndMarks.mark_chosen.Goals as goal
 

@@ -1,6 +1,4 @@
-use Rattle.std.proofs.Common.{sym, subst}
-use Rattle.std.proofs.lemmas.Option.{MatchOption-at_none, MatchOption-at_some}
-use Rattle.kt_graph.specs.Reach.{IsGraph}
+use Rattle.kt_graph.proofs.Common.{sym, subst, MatchOption-at_none, MatchOption-at_some, IsGraph}
 use Rattle.kt_graph.proofs.lemmas.faults.CyclicLemmas.{first_cyclic, none_cyclic}
 use Rattle.kt_graph.proofs.lemmas.nodes.WholeLemmas.{needed_below}
 use Rattle.kt_graph.proofs.nodes.graph.Graph.circular.Goals as goal

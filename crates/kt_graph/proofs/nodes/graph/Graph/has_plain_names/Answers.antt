@@ -1,11 +1,5 @@
 use Rattle.std.proofs.Common.{◌≡◌, All, List, false, ℕ, ◌<◌, ⊎_elim, subst, arith}
-use Rattle.std.specs.List.{list_any}
-use Rattle.std.proofs.lemmas.Bool.{cases_lt}
-use Rattle.kt_text.specs.Words.{Text}
-use Rattle.kt_graph.specs.faults.Paths.{canon_of, is_reserved}
-use Rattle.kt_graph.specs.inner.faults.Files.{made_names}
-use Rattle.kt_graph.specs.nodes.Node.{Node}
-use Rattle.kt_graph.specs.nodes.Views.{name_at, nodes_view}
+use Rattle.kt_graph.proofs.Common.{list_any, cases_lt, Text, canon_of, is_reserved, made_names, Node, name_at, nodes_view}
 use Rattle.kt_graph.proofs.lemmas.faults.PlainNameLemmas.{made_canonical, none_reserved, of_nodes}
 use Rattle.kt_graph.proofs.nodes.graph.Graph.has_plain_names.Goals as goal
 

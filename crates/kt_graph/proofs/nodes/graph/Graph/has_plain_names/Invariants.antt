@@ -1,6 +1,5 @@
 use Rattle.std.proofs.Common.{◌≡◌, ◌<◌, ℕ, false}
-use Rattle.kt_graph.specs.faults.Paths.{canon_of, is_reserved}
-use Rattle.kt_graph.specs.nodes.Views.{name_at}
+use Rattle.kt_graph.proofs.Common.{canon_of, is_reserved, name_at}
 use Rattle.kt_graph.proofs.nodes.graph.Graph.has_plain_names.Given as goal
 
 abbrev pub invariant-loop-number : goal.invariant-loop-number

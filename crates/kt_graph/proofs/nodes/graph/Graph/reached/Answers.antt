@@ -1,11 +1,5 @@
 use Rattle.std.proofs.Common.{◌≡◌, ◌∙◌, List, Bor, ap, fold, subst}
-use Rattle.std.proofs.lemmas.Result.{IfOk-weaker}
-use Rattle.kt_text.specs.Words.{Text}
-use Rattle.kt_rules.specs.Entry.{Rule}
-use Rattle.kt_rules.specs.Names.{with_name}
-use Rattle.kt_graph.specs.declared.nodes.graph_builder.GraphBuilder.{GraphBuilder}
-use Rattle.kt_graph.specs.Reach.{IsGraph}
-use Rattle.kt_graph.specs.inner.nodes.GraphBuilder.{IsBegun, IsDone}
+use Rattle.kt_graph.proofs.Common.{IfOk-weaker, Text, Rule, with_name, GraphBuilder, IsGraph, IsBegun, IsDone}
 use Rattle.kt_graph.proofs.lemmas.nodes.BuilderLemmas.{done_numbers}
 use Rattle.kt_graph.proofs.nodes.graph.Graph.reached.Goals as goal
 

@@ -1,13 +1,8 @@
 use Rattle.std.proofs.Common.{◌≡◌, ℕ, Bool, true, false, ap}
-use Rattle.std.proofs.lemmas.Bool.{and_from, eq-eqb, false≢true}
-use Rattle.std.proofs.lemmas.Map.Keys.{apart_from_distinct}
-use Rattle.std.proofs.lemmas.Slice.Eq.{bytes_eq-Decides}
-use Rattle.kt_text.specs.Words.{Text}
+use Rattle.kt_graph.proofs.Common.{and_from, eq-eqb, false≢true, apart_from_distinct, bytes_eq-Decides, Text, Instance as Held, of_group, of_pattern, instance_view}
 use Rattle.kt_graph.specs.contracts.nodes.node.InstancePartialEq.TheImpl.{eq-value}
-use Rattle.kt_graph.specs.declared.nodes.node.Instance.{Instance as Held}
 use Rattle.kt_graph.specs.declared.nodes.node.Instance.TheVariants as held
-use Rattle.kt_graph.specs.nodes.Node.{Instance, of_group, of_pattern}
-use Rattle.kt_graph.specs.nodes.Views.{instance_view}
+use Rattle.kt_graph.specs.nodes.Node.{Instance}
 use Rattle.kt_graph.proofs.lemmas.nodes.GraphLemmas.{graph_is, makings_apart, names_distinct}
 use Rattle.kt_graph.proofs.nodes.graph.Graph.whole.Goals as goal
 

@@ -1,13 +1,5 @@
 use Rattle.std.proofs.Common.{◌∙◌, List, Some, map, subst, sym}
-use Rattle.std.proofs.lemmas.Result.{on_ok_weaker}
-use Rattle.kt_text.specs.Words.{Text}
-use Rattle.kt_rules.specs.declared.entry.Target.{Target}
-use Rattle.kt_rules.specs.Entry.{Rule}
-use Rattle.kt_rules.specs.Slots.{rule_view}
-use Rattle.kt_rules.specs.Suffixes.{suffixes_of}
-use Rattle.kt_graph.specs.nodes.Node.{double_node, explicit_node}
-use Rattle.kt_graph.specs.inner.nodes.Reached.{reached_text}
-use Rattle.kt_graph.specs.inner.nodes.GraphBuilder.{BuildsNode, IsCut}
+use Rattle.kt_graph.proofs.Common.{on_ok_weaker, Text, Target, Rule, rule_view, suffixes_of, double_node, explicit_node, reached_text, BuildsNode, IsCut}
 use Rattle.kt_graph.proofs.lemmas.nodes.StepLemmas.{double_with, single_with}
 use Rattle.kt_graph.proofs.nodes.graph_builder.GraphBuilder.build_by.Goals as goal
 

@@ -1,12 +1,5 @@
 use Rattle.std.proofs.Common.{◌≡◌, ◌∷◌, ◌∙◌, [], ap, map, subst, sym}
-use Rattle.std.proofs.lemmas.Result.{on_ok_weaker}
-use Rattle.kt_text.specs.Words.{Text}
-use Rattle.kt_rules.specs.Entry.{needs_for}
-use Rattle.kt_rules.specs.Slots.{rule_view}
-use Rattle.kt_rules.specs.Suffixes.{suffixes_of}
-use Rattle.kt_graph.specs.inner.nodes.GraphBuilder.{BuildsNode, LastNeeds, sole_node}
-use Rattle.kt_graph.specs.inner.nodes.Reached.{reached_text}
-use Rattle.kt_graph.specs.nodes.Node.{node_with}
+use Rattle.kt_graph.proofs.Common.{on_ok_weaker, Text, needs_for, rule_view, suffixes_of, BuildsNode, LastNeeds, sole_node, reached_text, node_with}
 use Rattle.kt_graph.proofs.lemmas.nodes.InputLemmas.{one_alone}
 use Rattle.kt_graph.proofs.lemmas.nodes.LikeLemmas.{last_needs, sole_is}
 use Rattle.kt_graph.proofs.nodes.graph_builder.GraphBuilder.build_from.Goals as goal

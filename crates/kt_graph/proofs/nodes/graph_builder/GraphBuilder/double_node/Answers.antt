@@ -1,9 +1,5 @@
 use Rattle.std.proofs.Common.{◌≡◌, ◌++◌, ◌∷◌, [], None, map}
-use Rattle.std.proofs.lemmas.Result.{on_ok_weaker}
-use Rattle.kt_rules.specs.Slots.{rule_view}
-use Rattle.kt_rules.specs.Suffixes.{suffixes_of}
-use Rattle.kt_graph.specs.declared.nodes.node.NodeKind.TheVariants.{DoubleColon}
-use Rattle.kt_graph.specs.inner.nodes.Stored.{stored_with, parts_held}
+use Rattle.kt_graph.proofs.Common.{on_ok_weaker, rule_view, suffixes_of, DoubleColon, stored_with, parts_held}
 use Rattle.kt_graph.proofs.lemmas.nodes.StepLemmas.{holds_double}
 use Rattle.kt_graph.proofs.nodes.graph_builder.GraphBuilder.double_node.Goals as goal
 

@@ -1,18 +1,5 @@
 use Rattle.std.proofs.Common.{◌∙◌, List, map, subst}
-use Rattle.std.proofs.lemmas.Result.{on_ok_weaker}
-use Rattle.std.specs.Option.{option_map}
-use Rattle.kt_text.specs.Words.{Text}
-use Rattle.kt_rules.specs.declared.entry.Target.{Target}
-use Rattle.kt_rules.specs.Entry.{Rule}
-use Rattle.kt_rules.specs.Slots.{rule_view}
-use Rattle.kt_rules.specs.Suffixes.{suffixes_of}
-use Rattle.kt_rules.specs.Targets.{needs_view}
-use Rattle.kt_graph.specs.declared.nodes.node.NodeKind.TheVariants.{Explicit}
-use Rattle.kt_graph.specs.inner.nodes.Needed.{needing_view, single_node}
-use Rattle.kt_graph.specs.nodes.Node.{group_of, other_rules, joined_needs, needs_after, part_of}
-use Rattle.kt_rules.specs.Entry.{needs_for}
-use Rattle.kt_graph.specs.inner.nodes.GraphBuilder.{BuildsNode}
-use Rattle.kt_graph.specs.nodes.Views.{instance_view}
+use Rattle.kt_graph.proofs.Common.{on_ok_weaker, option_map, Text, Target, Rule, rule_view, suffixes_of, needs_view, Explicit, needing_view, single_node, group_of, other_rules, joined_needs, needs_after, part_of, needs_for, BuildsNode, instance_view}
 use Rattle.kt_graph.proofs.lemmas.nodes.BuildingLemmas.{used_needs}
 use Rattle.kt_graph.proofs.lemmas.nodes.StepLemmas.{single_told}
 use Rattle.kt_graph.proofs.nodes.graph_builder.GraphBuilder.explicit_node.Goals as goal

@@ -1,7 +1,5 @@
 use Rattle.std.proofs.Common.{◌≡◌, ◌++◌, map}
-use Rattle.kt_rules.specs.Book.{explicit_rules}
-use Rattle.kt_rules.specs.Slots.{rule_view}
-use Rattle.kt_graph.specs.inner.nodes.Reached.{reached_text}
+use Rattle.kt_graph.proofs.Common.{explicit_rules, rule_view, reached_text}
 use Rattle.kt_graph.proofs.nodes.graph_builder.GraphBuilder.find_rules.Given as goal
 
 abbrev pub invariant-loop-rule : goal.invariant-loop-rule

@@ -1,9 +1,5 @@
 use Rattle.std.proofs.Common.{◌≡◌, ◌++◌, ◌∷◌, []}
-use Rattle.std.proofs.lemmas.Result.{on_ok_weaker}
-use Rattle.std.specs.Option.{option_map}
-use Rattle.kt_graph.specs.inner.nodes.Needed.{needing_view}
-use Rattle.kt_graph.specs.inner.nodes.Stored.{stored_with, part_held}
-use Rattle.kt_graph.specs.nodes.Views.{instance_view}
+use Rattle.kt_graph.proofs.Common.{on_ok_weaker, option_map, needing_view, stored_with, part_held, instance_view}
 use Rattle.kt_graph.proofs.lemmas.nodes.StepLemmas.{holds_node}
 use Rattle.kt_graph.proofs.nodes.graph_builder.GraphBuilder.hold.Goals as goal
 

@@ -1,13 +1,6 @@
 use Rattle.std.proofs.Common.{◌∙◌, [], ap, map, refl, subst}
-use Rattle.std.proofs.lemmas.Result.{on_ok_weaker}
-use Rattle.std.specs.Option.{option_map}
-use Rattle.kt_text.specs.Words.{Text}
-use Rattle.kt_rules.specs.Slots.{rule_view}
-use Rattle.kt_graph.specs.declared.nodes.node.NodeKind.TheVariants.{Implicit}
+use Rattle.kt_graph.proofs.Common.{on_ok_weaker, option_map, Text, rule_view, Implicit, BuildsNode, joined_after, needing_view, single_node, instance_view}
 use Rattle.kt_graph.specs.declared.nodes.part.Part.{Part}
-use Rattle.kt_graph.specs.inner.nodes.GraphBuilder.{BuildsNode}
-use Rattle.kt_graph.specs.inner.nodes.Needed.{joined_after, needing_view, single_node}
-use Rattle.kt_graph.specs.nodes.Views.{instance_view}
 use Rattle.kt_graph.proofs.lemmas.nodes.BuildingLemmas.{joined_first}
 use Rattle.kt_graph.proofs.lemmas.nodes.StepLemmas.{implicit_told}
 use Rattle.kt_graph.proofs.nodes.graph_builder.GraphBuilder.implicit_node.Goals as goal

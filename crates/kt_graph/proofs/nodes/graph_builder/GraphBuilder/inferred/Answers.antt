@@ -1,12 +1,7 @@
 use Rattle.std.proofs.Common.{◌≡◌, ◌∙◌, Some, ap, subst, sym}
-use Rattle.std.specs.Option.{option_map}
-use Rattle.std.proofs.lemmas.Result.{IfOk-weaker}
-use Rattle.kt_rules.specs.Book.{patterns_of}
+use Rattle.kt_graph.proofs.Common.{option_map, IfOk-weaker, patterns_of, searched, choice_of, choice_view}
 use Rattle.kt_graph.specs.inner.nodes.Inferring.{Infers, InfersFrom}
-use Rattle.kt_graph.specs.nodes.Node.{searched}
 use Rattle.kt_graph.specs.inner.search.Chains.{Finding}
-use Rattle.kt_graph.specs.search.Search.{choice_of}
-use Rattle.kt_graph.specs.search.Views.{choice_view}
 use Rattle.kt_graph.proofs.lemmas.nodes.InferringLemmas.{some_tells}
 use Rattle.kt_graph.proofs.nodes.graph_builder.GraphBuilder.inferred.Goals as goal
 

@@ -1,7 +1,5 @@
 use Rattle.std.proofs.Common.{◌≡◌, ◌++◌, slice_get, subst}
-use Rattle.std.specs.Option.{option_to_list}
-use Rattle.std.proofs.lemmas.Result.{on_ok_weaker}
-use Rattle.kt_graph.specs.inner.nodes.GraphBuilder.{IsLeafOf}
+use Rattle.kt_graph.proofs.Common.{option_to_list, on_ok_weaker, IsLeafOf}
 use Rattle.kt_graph.proofs.lemmas.nodes.StepLemmas.{holds_again, holds_first}
 use Rattle.kt_graph.proofs.nodes.graph_builder.GraphBuilder.leaf_node.Goals as goal
 

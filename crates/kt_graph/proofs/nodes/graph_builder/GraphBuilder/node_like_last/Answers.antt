@@ -1,11 +1,5 @@
 use Rattle.std.proofs.Common.{◌≡◌, ◌++◌, ◌∷◌, ◌-◌, [], length}
-use Rattle.std.proofs.lemmas.Result.{on_ok_weaker}
-use Rattle.std.specs.Option.{option_map}
-use Rattle.kt_rules.specs.Slots.{rule_view}
-use Rattle.kt_rules.specs.Suffixes.{suffixes_of}
-use Rattle.kt_graph.specs.declared.nodes.node.NodeKind.TheVariants.{Explicit}
-use Rattle.kt_graph.specs.inner.nodes.Stored.{node_like, stored_at}
-use Rattle.kt_graph.specs.nodes.Views.{instance_view}
+use Rattle.kt_graph.proofs.Common.{on_ok_weaker, option_map, rule_view, suffixes_of, Explicit, node_like, stored_at, instance_view}
 use Rattle.kt_graph.proofs.lemmas.nodes.LikeLemmas.{holds_like}
 use Rattle.kt_graph.proofs.nodes.graph_builder.GraphBuilder.node_like_last.Goals as goal
 

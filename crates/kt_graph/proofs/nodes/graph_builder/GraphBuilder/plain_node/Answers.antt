@@ -1,13 +1,5 @@
 use Rattle.std.proofs.Common.{◌∙◌, [], None, ap, false, map, subst, sym}
-use Rattle.std.proofs.lemmas.Result.{on_ok_weaker}
-use Rattle.kt_text.specs.Words.{Text}
-use Rattle.kt_rules.specs.Book.{is_phony}
-use Rattle.kt_rules.specs.Slots.{rule_view}
-use Rattle.kt_rules.specs.Suffixes.{suffixes_of}
-use Rattle.kt_graph.specs.inner.nodes.Needed.{needing_view, single_node}
-use Rattle.kt_graph.specs.inner.nodes.Reached.{reached_text}
-use Rattle.kt_graph.specs.nodes.Node.{plain_node}
-use Rattle.kt_graph.specs.inner.nodes.GraphBuilder.{BuildsNode}
+use Rattle.kt_graph.proofs.Common.{on_ok_weaker, Text, is_phony, rule_view, suffixes_of, needing_view, single_node, reached_text, plain_node, BuildsNode}
 use Rattle.kt_graph.proofs.lemmas.nodes.BuildingLemmas.{joined_alone}
 use Rattle.kt_graph.proofs.lemmas.nodes.StepLemmas.{leaf_told, plain_told}
 use Rattle.kt_graph.proofs.nodes.graph_builder.GraphBuilder.plain_node.Goals as goal

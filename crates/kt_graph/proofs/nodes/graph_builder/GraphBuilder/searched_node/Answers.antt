@@ -1,11 +1,6 @@
 use Rattle.std.proofs.Common.{◌≡◌, ◌∙◌, [], None, Some, ap, map, subst, sym}
-use Rattle.std.proofs.lemmas.Result.{on_ok_weaker}
-use Rattle.kt_text.specs.Words.{Text}
-use Rattle.kt_rules.specs.Slots.{rule_view}
+use Rattle.kt_graph.proofs.Common.{on_ok_weaker, Text, rule_view, node_by, searched, reached_text, BuildsNode}
 use Rattle.kt_graph.specs.inner.nodes.Inferring.{InfersFrom, inferred_node}
-use Rattle.kt_graph.specs.nodes.Node.{node_by, searched}
-use Rattle.kt_graph.specs.inner.nodes.Reached.{reached_text}
-use Rattle.kt_graph.specs.inner.nodes.GraphBuilder.{BuildsNode}
 use Rattle.kt_graph.proofs.lemmas.nodes.StepLemmas.{builds_after, over_kept}
 use Rattle.kt_graph.proofs.nodes.graph_builder.GraphBuilder.searched_node.Goals as goal
 

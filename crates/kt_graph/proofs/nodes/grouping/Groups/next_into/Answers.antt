@@ -1,7 +1,5 @@
 use Rattle.std.proofs.Common.{◌+◌, ◌-◌, ◌∙◌, drop, length, sym, take}
-use Rattle.std.proofs.lemmas.Bool.{ltb-false}
-use Rattle.std.proofs.lemmas.List.{take_rest}
-use Rattle.kt_graph.specs.inner.faults.Edges.{rows_held}
+use Rattle.kt_graph.proofs.Common.{ltb-false, take_rest, rows_held}
 use Rattle.kt_graph.proofs.lemmas.nodes.GroupingLemmas.{none_next, some_next}
 use Rattle.kt_graph.proofs.nodes.grouping.Groups.next_into.Goals as goal
 

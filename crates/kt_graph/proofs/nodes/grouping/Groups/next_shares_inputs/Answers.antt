@@ -1,7 +1,6 @@
 use Rattle.std.proofs.Common.{◌+◌, drop, refl, sym, ◌∙◌}
-use Rattle.kt_graph.specs.inner.faults.Edges.{rows_held}
+use Rattle.kt_graph.proofs.Common.{rows_held, nodes_view}
 use Rattle.kt_graph.specs.inner.nodes.Grouping.{groups_left, members_of}
-use Rattle.kt_graph.specs.nodes.Views.{nodes_view}
 use Rattle.kt_graph.proofs.lemmas.nodes.GroupingLemmas.{some_next}
 use Rattle.kt_graph.proofs.lemmas.nodes.SharedLemmas.{first_shares, share_inputs}
 use Rattle.kt_graph.proofs.nodes.grouping.Groups.next_shares_inputs.Goals as goal

@@ -1,7 +1,5 @@
 use Rattle.std.proofs.Common.{◌∙◌, ap}
-use Rattle.kt_graph.specs.nodes.Node.{inputs_of}
-use Rattle.kt_graph.specs.inner.nodes.Stored.{stored_at}
-use Rattle.kt_graph.specs.nodes.Views.{names_at}
+use Rattle.kt_graph.proofs.Common.{inputs_of, stored_at, names_at}
 use Rattle.kt_graph.proofs.lemmas.nodes.NodeLemmas.{inputs_are}
 use Rattle.kt_graph.proofs.nodes.node.Node.inputs.Goals as goal
 

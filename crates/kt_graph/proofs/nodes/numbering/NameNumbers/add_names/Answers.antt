@@ -1,6 +1,5 @@
 use Rattle.std.proofs.Common.{◌∙◌, [], ap, slice_get, subst, sym}
-use Rattle.kt_rules.specs.Targets.{names_view, needed_view}
-use Rattle.kt_graph.specs.inner.nodes.Numbering.{AddsNumbers}
+use Rattle.kt_graph.proofs.Common.{names_view, needed_view, AddsNumbers}
 use Rattle.kt_graph.proofs.lemmas.nodes.NumberLemmas.{added_all, added_more, adds_none}
 use Rattle.kt_graph.proofs.nodes.numbering.NameNumbers.add_names.Goals as goal
 

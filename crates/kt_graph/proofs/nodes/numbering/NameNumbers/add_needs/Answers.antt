@@ -1,8 +1,5 @@
 use Rattle.std.proofs.Common.{◌++◌, map}
-use Rattle.std.proofs.lemmas.Result.{on_ok_weaker}
-use Rattle.kt_rules.specs.Slots.{rule_view}
-use Rattle.kt_graph.specs.inner.nodes.Needed.{first_needs, rules_needs}
-use Rattle.kt_graph.specs.inner.nodes.Numbering.{AddsNumbers}
+use Rattle.kt_graph.proofs.Common.{on_ok_weaker, rule_view, first_needs, rules_needs, AddsNumbers}
 use Rattle.kt_graph.proofs.lemmas.nodes.NumberLemmas.{adds_after}
 use Rattle.kt_graph.proofs.nodes.numbering.NameNumbers.add_needs.Goals as goal
 

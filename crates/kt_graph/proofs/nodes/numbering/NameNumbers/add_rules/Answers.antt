@@ -1,9 +1,5 @@
 use Rattle.std.proofs.Common.{◌∙◌, ap, map, subst, sym, take}
-use Rattle.kt_rules.specs.declared.entry.Target.{Target}
-use Rattle.kt_rules.specs.Entry.{Rule, needs_for}
-use Rattle.kt_rules.specs.Slots.{rule_view}
-use Rattle.kt_graph.specs.inner.nodes.Needed.{needed_as, rules_needs}
-use Rattle.kt_graph.specs.inner.nodes.Numbering.{AddsNumbers}
+use Rattle.kt_graph.proofs.Common.{Target, Rule, needs_for, rule_view, needed_as, rules_needs, AddsNumbers}
 use Rattle.kt_graph.proofs.lemmas.nodes.NumberLemmas.{adds_after, adds_none, taken_more}
 use Rattle.kt_graph.proofs.nodes.numbering.NameNumbers.add_rules.Goals as goal
 

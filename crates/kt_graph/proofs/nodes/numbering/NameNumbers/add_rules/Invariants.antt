@@ -1,7 +1,4 @@
-use Rattle.std.proofs.Common.{map, take}
-use Rattle.kt_rules.specs.Slots.{rule_view}
-use Rattle.kt_graph.specs.inner.nodes.Needed.{rules_needs}
-use Rattle.kt_graph.specs.inner.nodes.Numbering.{AddsNumbers}
+use Rattle.kt_graph.proofs.Common.{map, take, rule_view, rules_needs, AddsNumbers}
 use Rattle.kt_graph.proofs.nodes.numbering.NameNumbers.add_rules.Given as goal
 
 abbrev pub invariant-loop-rule : goal.invariant-loop-rule

@@ -1,6 +1,4 @@
-use Rattle.std.proofs.Common.{[], sym}
-use Rattle.std.proofs.lemmas.List.{append-nil}
-use Rattle.kt_rules.specs.Targets.{needed_view}
+use Rattle.kt_graph.proofs.Common.{[], sym, append-nil, needed_view}
 use Rattle.kt_graph.proofs.lemmas.nodes.ReachedNames.{place_first, step_numbered, step_placed, step_reached}
 use Rattle.kt_graph.proofs.nodes.numbering.NameNumbers.needed_number.Goals as goal
 

@@ -1,7 +1,4 @@
-use Rattle.std.proofs.lemmas.Result.{on_ok_weaker}
-use Rattle.kt_graph.specs.declared.nodes.needing.Sort.TheVariants.{OrderOnly, Prerequisite}
-use Rattle.kt_graph.specs.inner.nodes.Needed.{needing_as}
-use Rattle.kt_graph.specs.inner.nodes.Numbering.{AddsNumbers}
+use Rattle.kt_graph.proofs.Common.{on_ok_weaker, OrderOnly, Prerequisite, needing_as, AddsNumbers}
 use Rattle.kt_graph.proofs.lemmas.nodes.NumberLemmas.{both_reached, both_said}
 use Rattle.kt_graph.proofs.nodes.numbering.NameNumbers.number_needs.Goals as goal
 

@@ -1,5 +1,4 @@
-use Rattle.std.proofs.lemmas.Result.{IfOk-weaker}
-use Rattle.kt_graph.specs.inner.nodes.Reached.{IsPushed, ReachesNumber}
+use Rattle.kt_graph.proofs.Common.{IfOk-weaker, IsPushed, ReachesNumber}
 use Rattle.kt_graph.proofs.lemmas.nodes.ReachedNames.{reached_before, reached_now}
 use Rattle.kt_graph.proofs.nodes.reached.Reached.reach.Goals as goal
 

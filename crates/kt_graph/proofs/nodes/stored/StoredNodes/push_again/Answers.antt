@@ -1,7 +1,5 @@
 use Rattle.std.proofs.Common.{◌≡◌, ◌++◌, ◌∙◌, Some, None, ap, slice_get, sym}
-use Rattle.std.specs.Option.{option_to_list}
-use Rattle.std.proofs.lemmas.List.{append-nil}
-use Rattle.kt_graph.specs.inner.nodes.Stored.{nodes_stored}
+use Rattle.kt_graph.proofs.Common.{option_to_list, append-nil, nodes_stored}
 use Rattle.kt_graph.proofs.lemmas.nodes.StoredLemmas.{nodes_again}
 use Rattle.kt_graph.proofs.nodes.stored.StoredNodes.push_again.Goals as goal
 

@@ -1,6 +1,5 @@
 use Rattle.std.proofs.Common.{◌++◌, ◌∷◌, ◌∙◌, [], None, ap, subst, sym}
-use Rattle.kt_graph.specs.declared.nodes.node.NodeKind.TheVariants.{DoubleColon}
-use Rattle.kt_graph.specs.inner.nodes.Stored.{AreStored, stored_with, nodes_stored, parts_held}
+use Rattle.kt_graph.proofs.Common.{DoubleColon, AreStored, stored_with, nodes_stored, parts_held}
 use Rattle.kt_graph.proofs.lemmas.nodes.StoredLemmas.{nodes_push, stored_more, stored_push}
 use Rattle.kt_graph.proofs.nodes.stored.StoredNodes.push_double.Goals as goal
 

@@ -1,9 +1,5 @@
 use Rattle.std.proofs.Common.{◌∙◌, List, ap, sym}
-use Rattle.kt_list.specs.Names.{place_of}
-use Rattle.kt_rules.proofs.NoteLemmas.{place_at}
-use Rattle.kt_rules.specs.Targets.{needed_view}
-use Rattle.kt_text.specs.Words.{Text}
-use Rattle.kt_graph.specs.inner.nodes.Reached.{listed_in}
+use Rattle.kt_graph.proofs.Common.{place_of, place_at, needed_view, Text, listed_in}
 use Rattle.kt_graph.proofs.lemmas.nodes.ReachedNames.{place_first}
 use Rattle.kt_graph.proofs.nodes.tables.Tables.needed.Goals as goal
 

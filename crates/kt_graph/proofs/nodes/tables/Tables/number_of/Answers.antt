@@ -1,7 +1,5 @@
 use Rattle.std.proofs.Common.{◌∙◌, List, ap, sym}
-use Rattle.kt_list.specs.Names.{place_of}
-use Rattle.kt_text.specs.Words.{Text}
-use Rattle.kt_graph.specs.inner.nodes.Reached.{listed_in}
+use Rattle.kt_graph.proofs.Common.{place_of, Text, listed_in}
 use Rattle.kt_graph.proofs.lemmas.nodes.ReachedNames.{place_first, place_second}
 use Rattle.kt_graph.proofs.nodes.tables.Tables.number_of.Goals as goal
 

@@ -1,11 +1,7 @@
 -- The lemmas of each step, at the values of the code.
-use Rattle.std.proofs.Common.{◌≡◌, ◌+◌, Some, None, find, length, not, is_some, refl, sym, ap, ◌∙◌, subst, arith, rules}
-use Rattle.std.specs.Prelude.{IfSome}
-use Rattle.std.specs.List.{list_all}
-use Rattle.std.proofs.lemmas.Result.{IfOk-weaker, on_ok_weaker}
+use Rattle.std.proofs.Common.{◌≡◌, ◌+◌, Some, None, find, length, not, is_some, refl, sym, ap, ◌∙◌, subst, arith, rules, IfSome}
+use Rattle.kt_graph.proofs.Common.{list_all, IfOk-weaker, on_ok_weaker, asking, chain_limit, fitting, is_inferred, is_met, open_candidates, candidate_view, candidates_view}
 use Rattle.kt_graph.specs.inner.search.Chains.{IsFound, IsRightFor}
-use Rattle.kt_graph.specs.search.Search.{asking, chain_limit, fitting, is_inferred, is_met, open_candidates}
-use Rattle.kt_graph.specs.search.Views.{candidate_view, candidates_view}
 use Rattle.kt_graph.proofs.lemmas.search.AskingLemmas.{length-with_rule}
 use Rattle.kt_graph.proofs.lemmas.search.ChainLemmas.{keeps_more, last_leaves, last_ready, stood_found, stood_leaves}
 use Rattle.kt_graph.proofs.lemmas.search.TurnLemmas.{asked_past, asked_so, asking_ends, asking_starts, asks_later, asks_no_more, among_past, after_are, finds_later, finds_not, finds_past, fitting_is, inferred_so, infers_later, infers_no_more, met_leaves, none_asked, none_fits, unmet_asked}

@@ -1,9 +1,7 @@
 -- How deep in the chain a step is: a question is above the questions that it asks, each of which has one rule more. The
 -- loops: what remains to be asked and found from here is what was to be asked and found from the start.
 use Rattle.std.proofs.Common.{◌≡◌, ◌+◌, ◌-◌, ◌*◌, length, drop, is_some}
-use Rattle.std.specs.List.{find, list_all}
-use Rattle.kt_graph.specs.search.Search.{asked_among, asked_for, asking, fitting, is_inferred}
-use Rattle.kt_graph.specs.search.Views.{candidates_view}
+use Rattle.kt_graph.proofs.Common.{find, list_all, asked_among, asked_for, asking, fitting, is_inferred, candidates_view}
 use Rattle.kt_graph.proofs.lemmas.search.TurnLemmas.{IsAsking}
 use Rattle.kt_graph.proofs.search.chains.Chains.+search.Given as goal
 

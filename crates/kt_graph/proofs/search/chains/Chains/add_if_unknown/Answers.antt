@@ -1,7 +1,5 @@
-use Rattle.std.proofs.Common.{true, false, sym, ap, ◌∙◌}
-use Rattle.std.specs.Prelude.{fold}
-use Rattle.std.proofs.lemmas.Result.{on_ok_weaker}
-use Rattle.kt_rules.specs.Names.{with_name}
+use Rattle.std.proofs.Common.{true, false, sym, ap, ◌∙◌, fold}
+use Rattle.kt_graph.proofs.Common.{on_ok_weaker, with_name}
 use Rattle.kt_graph.proofs.lemmas.search.UnknownLemmas.{one_unknown}
 use Rattle.kt_graph.proofs.search.chains.Chains.add_if_unknown.Goals as goal
 

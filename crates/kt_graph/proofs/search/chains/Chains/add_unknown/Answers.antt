@@ -1,8 +1,5 @@
-use Rattle.std.proofs.Common.{◌+◌, ◌<◌, length, drop, sym, ap, ◌∙◌, arith}
-use Rattle.std.specs.Prelude.{fold}
-use Rattle.kt_rules.specs.Names.{with_name}
-use Rattle.kt_graph.specs.search.Candidates.{needed_name, needed_names}
-use Rattle.kt_graph.specs.Known.{unknown_of}
+use Rattle.std.proofs.Common.{◌+◌, ◌<◌, length, drop, sym, ap, ◌∙◌, arith, fold}
+use Rattle.kt_graph.proofs.Common.{with_name, needed_name, needed_names, unknown_of}
 use Rattle.kt_graph.proofs.lemmas.search.UnknownLemmas.{unknown_past, unknown_step}
 use Rattle.kt_graph.proofs.search.chains.Chains.add_unknown.Goals as goal
 

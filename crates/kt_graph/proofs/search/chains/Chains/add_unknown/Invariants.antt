@@ -1,8 +1,5 @@
-use Rattle.std.proofs.Common.{◌≡◌, drop}
-use Rattle.std.specs.Prelude.{fold}
-use Rattle.kt_rules.specs.Names.{with_name}
-use Rattle.kt_graph.specs.search.Candidates.{needed_names}
-use Rattle.kt_graph.specs.Known.{unknown_of}
+use Rattle.std.proofs.Common.{◌≡◌, drop, fold}
+use Rattle.kt_graph.proofs.Common.{with_name, needed_names, unknown_of}
 use Rattle.kt_graph.proofs.search.chains.Chains.add_unknown.Given as goal
 
 -- what remains to be added from here is what was to be added from the start

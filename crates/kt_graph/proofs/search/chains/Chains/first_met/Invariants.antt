@@ -1,7 +1,5 @@
 use Rattle.std.proofs.Common.{◌≡◌, drop}
-use Rattle.std.specs.List.{find}
-use Rattle.kt_graph.specs.search.Search.{is_met}
-use Rattle.kt_graph.specs.search.Views.{candidates_view}
+use Rattle.kt_graph.proofs.Common.{find, is_met, candidates_view}
 use Rattle.kt_graph.proofs.search.chains.Chains.first_met.Given as goal
 
 -- what is found from here is what is found from the start

@@ -1,11 +1,6 @@
-use Rattle.std.proofs.Common.{◌≡◌, ◌<◌, not, length, filter, sym, ap, ◌∙◌, subst, rules}
-use Rattle.std.specs.Prelude.{All}
-use Rattle.std.proofs.lemmas.Fn.{filter_same}
-use Rattle.std.proofs.lemmas.List.Elements.{All-filter}
+use Rattle.std.proofs.Common.{◌≡◌, ◌<◌, not, length, filter, sym, ap, ◌∙◌, subst, rules, All}
+use Rattle.kt_graph.proofs.Common.{filter_same, All-filter, Candidate, candidates_for, is_used, IsFitWithin, candidates_view}
 use Rattle.kt_graph.specs.declared.search.candidate.Candidate.{Candidate as HeldCandidate}
-use Rattle.kt_graph.specs.search.Candidates.{Candidate, candidates_for}
-use Rattle.kt_graph.specs.search.Search.{is_used}
-use Rattle.kt_graph.specs.search.Views.{IsFitWithin, candidates_view}
 use Rattle.kt_graph.proofs.lemmas.search.CandidateViewLemmas.{begun_is, filter_told}
 use Rattle.kt_graph.proofs.search.chains.Chains.open.Goals as goal
 

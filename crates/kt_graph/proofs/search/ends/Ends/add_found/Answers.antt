@@ -1,6 +1,5 @@
 use Rattle.std.proofs.Common.{ap, ◌∙◌, length, ◌-◌, arith}
-use Rattle.std.proofs.lemmas.List.{take_rest}
-use Rattle.kt_graph.specs.inner.search.Ends.{numbers_at}
+use Rattle.kt_graph.proofs.Common.{take_rest, numbers_at}
 use Rattle.kt_graph.proofs.lemmas.search.NotingLemmas.{found_more, found_same}
 use Rattle.kt_graph.proofs.search.ends.Ends.add_found.Goals as goal
 

@@ -1,6 +1,5 @@
 use Rattle.std.proofs.Common.{◌≡◌, ◌<◌, ◌∙◌, ℕ, List, length, sym, subst, take, arith, rules}
-use Rattle.std.proofs.lemmas.List.{take_all, take_more}
-use Rattle.kt_graph.specs.inner.search.Ends.{HasAll}
+use Rattle.kt_graph.proofs.Common.{take_all, take_more, HasAll}
 use Rattle.kt_graph.proofs.lemmas.search.NotingLemmas.{none_found}
 use Rattle.kt_graph.proofs.search.ends.Ends.found.Goals as goal
 

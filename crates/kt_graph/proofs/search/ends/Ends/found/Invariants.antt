@@ -1,5 +1,4 @@
-use Rattle.std.proofs.Common.{take}
-use Rattle.kt_graph.specs.inner.search.Ends.{HasAll}
+use Rattle.kt_graph.proofs.Common.{take, HasAll}
 use Rattle.kt_graph.proofs.search.ends.Ends.found.Given as goal
 
 abbrev pub invariant-loop-length : goal.invariant-loop-length

@@ -1,9 +1,5 @@
 use Rattle.std.proofs.Common.{◌<◌, ◌∙◌, ap, length, subst, List, arith}
-use Rattle.std.proofs.lemmas.List.{take_all}
-use Rattle.kt_text.specs.Words.{Text}
-use Rattle.kt_text.specs.Match.{pattern_back}
-use Rattle.kt_rules.specs.declared.entry.Target.{Target}
-use Rattle.kt_graph.specs.inner.search.Ends.{NotesEnd, NotesAll}
+use Rattle.kt_graph.proofs.Common.{take_all, Text, pattern_back, Target, NotesEnd, NotesAll}
 use Rattle.kt_graph.proofs.lemmas.search.NotingLemmas.{none_noted, target_noted}
 use Rattle.kt_graph.proofs.search.ends.Ends.note_targets.Goals as goal
 

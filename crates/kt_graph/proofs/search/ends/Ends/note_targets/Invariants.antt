@@ -1,5 +1,4 @@
-use Rattle.std.proofs.Common.{take}
-use Rattle.kt_graph.specs.inner.search.Ends.{NotesAll}
+use Rattle.kt_graph.proofs.Common.{take, NotesAll}
 use Rattle.kt_graph.proofs.search.ends.Ends.note_targets.Given as goal
 
 abbrev pub invariant-loop-target : goal.invariant-loop-target

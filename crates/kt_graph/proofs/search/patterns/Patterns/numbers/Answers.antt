@@ -1,9 +1,6 @@
 use Rattle.std.proofs.Common.{◌≡◌, List, nat_eq, subst}
-use Rattle.std.specs.List.{dedup}
+use Rattle.kt_graph.proofs.Common.{dedup, Rule, matching_from, candidates_numbered}
 use Rattle.std.proofs.lemmas.List.Filters.{dedup_is}
-use Rattle.kt_rules.specs.Entry.{Rule}
-use Rattle.kt_graph.specs.search.Candidates.{matching_from}
-use Rattle.kt_graph.specs.inner.search.Ends.{candidates_numbered}
 use Rattle.kt_graph.proofs.lemmas.search.EndLemmas.{numbers_in_order}
 use Rattle.kt_graph.proofs.search.patterns.Patterns.numbers.Goals as goal
 

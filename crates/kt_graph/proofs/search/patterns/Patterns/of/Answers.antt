@@ -1,6 +1,4 @@
-use Rattle.std.proofs.Common.{List, subst}
-use Rattle.kt_rules.specs.Entry.{Rule}
-use Rattle.kt_graph.specs.inner.search.Ends.{AreAllNoted}
+use Rattle.kt_graph.proofs.Common.{List, subst, Rule, AreAllNoted}
 use Rattle.kt_graph.proofs.search.patterns.Patterns.of.Goals as goal
 
 pub invariant_of-result : goal.invariant_of-result

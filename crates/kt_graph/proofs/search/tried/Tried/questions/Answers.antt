@@ -1,7 +1,4 @@
-use Rattle.std.proofs.Common.{map, refl, sym, subst}
-use Rattle.std.specs.List.{IsDistinct}
-use Rattle.kt_graph.specs.search.Search.{asked_eq}
-use Rattle.kt_graph.specs.search.Views.{question_view}
+use Rattle.kt_graph.proofs.Common.{map, refl, sym, subst, IsDistinct, asked_eq, question_view}
 use Rattle.kt_graph.specs.contracts.search.question.QuestionPartialEq.TheImpl.{eq-value}
 use Rattle.kt_graph.proofs.lemmas.search.QuestionLemmas.{told_once}
 use Rattle.kt_graph.proofs.search.tried.Tried.questions.Goals as goal

@@ -1,6 +1,5 @@
 use Rattle.std.proofs.Common.{◌∙◌, List, ap}
-use Rattle.kt_text.specs.Words.{Text}
-use Rattle.kt_rules.specs.Names.{is_among}
+use Rattle.kt_rules.proofs.Common.{Text, is_among}
 use Rattle.kt_rules.specs.inner.Marks.{mark_at}
 use Rattle.kt_rules.proofs.book.book_names.BookNames.contains.Goals as goal
 

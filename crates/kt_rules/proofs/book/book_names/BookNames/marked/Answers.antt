@@ -1,7 +1,5 @@
 use Rattle.std.proofs.Common.{◌≡◌, ℕ, false, ◌∙◌, List, Option, Some, None, get_or, option_map, unwrap_or, refl, sym, ap}
-use Rattle.kt_text.specs.Words.{Text}
-use Rattle.kt_rules.specs.Names.{is_among}
-use Rattle.kt_rules.specs.declared.book.book_names.Marks.{Marks}
+use Rattle.kt_rules.proofs.Common.{Text, is_among, Marks}
 use Rattle.kt_rules.specs.inner.Marks.{mark_at}
 use Rattle.kt_rules.proofs.book.book_names.BookNames.marked.Goals as goal
 

@@ -1,12 +1,6 @@
 use Rattle.std.proofs.Common.{◌≡◌, ◌∙◌, ◌∷◌, ◌+◌, ◌≤◌, ◌||◌, [], List, Option, drop, refl, ap, subst}
-use Rattle.std.specs.List.{flat_map}
-use Rattle.std.proofs.lemmas.List.{drop_all}
-use Rattle.kt_text.specs.Words.{Text}
-use Rattle.kt_rules.specs.Entry.{Rule}
+use Rattle.kt_rules.proofs.Common.{flat_map, drop_all, Text, Rule, is_among, rules_in, entry_view}
 use Rattle.kt_rules.specs.Known.{named_by}
-use Rattle.kt_rules.specs.Names.{is_among}
-use Rattle.kt_rules.specs.Slots.{rules_in}
-use Rattle.kt_rules.specs.Targets.{entry_view}
 use Rattle.kt_rules.specs.inner.Marks.{is_marked}
 use Rattle.kt_rules.proofs.MarkLemmas.{IsMarkedFrom, marked_end, marked_start, marked_step}
 use Rattle.kt_rules.proofs.SlotLemmas.{slots_empty, slots_left}

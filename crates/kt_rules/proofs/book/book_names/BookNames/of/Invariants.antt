@@ -1,7 +1,6 @@
 use Rattle.std.proofs.Common.{◌≡◌, drop, length}
-use Rattle.std.specs.List.{flat_map}
+use Rattle.kt_rules.proofs.Common.{flat_map, rules_in}
 use Rattle.kt_rules.specs.Known.{named_by}
-use Rattle.kt_rules.specs.Slots.{rules_in}
 use Rattle.kt_rules.proofs.MarkLemmas.{IsMarkedFrom}
 use Rattle.kt_rules.proofs.book.book_names.BookNames.of.Given as goal
 

@@ -1,11 +1,5 @@
 use Rattle.std.proofs.Common.{◌≡◌, ◌<◌, Some, true, length, refl, sym, subst}
-use Rattle.std.specs.Vec.{with_item}
-use Rattle.std.proofs.lemmas.Option.{slice_get_within}
-use Rattle.std.proofs.lemmas.Result.{on_ok_weaker}
-use Rattle.kt_list.specs.Names.{place_of}
-use Rattle.kt_list.proofs.NameLemmas.{number_found}
-use Rattle.kt_rules.specs.declared.book.book_names.Marks.{Marks}
-use Rattle.kt_rules.specs.Names.{with_name}
+use Rattle.kt_rules.proofs.Common.{with_item, slice_get_within, on_ok_weaker, place_of, number_found, Marks, with_name}
 use Rattle.kt_rules.proofs.MarkLemmas.{number_marked, other_marked}
 use Rattle.kt_rules.proofs.book.book_names.Marks.mark_name.Goals as goal
 

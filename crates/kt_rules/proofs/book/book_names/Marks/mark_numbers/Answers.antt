@@ -1,11 +1,6 @@
 use Rattle.std.proofs.Common.{◌≡◌, ◌∙◌, ◌∷◌, ◌+◌, ◌<◌, [], Some, true, length, drop, set, get_or, refl, sym, ap, subst, arith}
-use Rattle.std.specs.Vec.{with_item}
+use Rattle.kt_rules.proofs.Common.{with_item, drop_more, slice_get-get_or, place_of, Marks, names_at}
 use Rattle.std.proofs.Math.ListN.{length-set}
-use Rattle.std.proofs.lemmas.List.{drop_more}
-use Rattle.std.proofs.lemmas.Option.{slice_get-get_or}
-use Rattle.kt_list.specs.Names.{place_of}
-use Rattle.kt_rules.specs.declared.book.book_names.Marks.{Marks}
-use Rattle.kt_rules.specs.Targets.{names_at}
 use Rattle.kt_rules.proofs.MarkLemmas.{marked_one, number_marked}
 use Rattle.kt_rules.proofs.NoteLemmas.{place_at}
 use Rattle.kt_rules.proofs.book.book_names.Marks.mark_numbers.Goals as goal

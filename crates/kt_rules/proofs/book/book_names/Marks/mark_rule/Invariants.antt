@@ -1,7 +1,6 @@
 use Rattle.std.proofs.Common.{◌≡◌, length, true}
-use Rattle.std.specs.List.{flat_map}
+use Rattle.kt_rules.proofs.Common.{flat_map, entry_view, targets_view}
 use Rattle.kt_rules.specs.Known.{named_with}
-use Rattle.kt_rules.specs.Targets.{entry_view, targets_view}
 use Rattle.kt_rules.specs.inner.Marks.{HasShared}
 use Rattle.kt_rules.proofs.MarkLemmas.{IsMarkedFrom}
 use Rattle.kt_rules.proofs.book.book_names.Marks.mark_rule.Given as goal

@@ -1,8 +1,5 @@
 use Rattle.std.proofs.Common.{◌≡◌, ◌∙◌, ◌||◌, List, ap}
-use Rattle.std.proofs.lemmas.Result.{on_ok_weaker}
-use Rattle.kt_text.specs.Words.{Text}
-use Rattle.kt_rules.specs.Names.{is_among}
-use Rattle.kt_rules.specs.Targets.{names_view, needs_view}
+use Rattle.kt_rules.proofs.Common.{on_ok_weaker, Text, is_among, names_view, needs_view}
 use Rattle.kt_rules.specs.inner.Marks.{is_marked}
 use Rattle.kt_rules.proofs.MarkLemmas.{marked_both}
 use Rattle.kt_rules.proofs.book.book_names.Marks.mark_stemmed.Goals as goal

@@ -1,6 +1,5 @@
 use Rattle.std.proofs.Common.{◌≡◌, ◌∙◌, List, Option, None, length, set, sym, ap, arith}
-use Rattle.kt_text.specs.Words.{Text}
-use Rattle.kt_rules.specs.Entry.{Rule}
+use Rattle.kt_rules.proofs.Common.{Text, Rule}
 use Rattle.kt_rules.proofs.HeldLemmas.{emptied_held, slots_emptied, slots_many}
 use Rattle.kt_rules.proofs.book.rules.Rules.empty.Goals as goal
 

@@ -1,6 +1,5 @@
 use Rattle.std.proofs.Common.{◌∙◌, None, Some, ap, option_map, rules}
-use Rattle.kt_rules.specs.Targets.{entry_view}
-use Rattle.kt_rules.specs.inner.Held.{rule_held}
+use Rattle.kt_rules.proofs.Common.{entry_view, rule_held}
 use Rattle.kt_rules.proofs.HeldLemmas.{slot_told}
 use Rattle.kt_rules.proofs.book.rules.Rules.get.Goals as goal
 

@@ -1,7 +1,5 @@
 use Rattle.std.proofs.Common.{◌≡◌, List, Option, Some, subst}
-use Rattle.kt_text.specs.Words.{Text}
-use Rattle.kt_list.specs.Names.{place_of}
-use Rattle.kt_rules.specs.Entry.{Rule}
+use Rattle.kt_rules.proofs.Common.{Text, place_of, Rule}
 use Rattle.kt_rules.proofs.NoteLemmas.{place_at}
 use Rattle.kt_rules.proofs.book.rules.Rules.has_number.Goals as goal
 

@@ -1,6 +1,5 @@
 use Rattle.std.proofs.Common.{◌≡◌, ◌∙◌, List, Option, length, rules, sym, ap}
-use Rattle.kt_text.specs.Words.{Text}
-use Rattle.kt_rules.specs.Entry.{Rule}
+use Rattle.kt_rules.proofs.Common.{Text, Rule}
 use Rattle.kt_rules.proofs.HeldLemmas.{slots_many}
 use Rattle.kt_rules.proofs.book.rules.Rules.len.Goals as goal
 

@@ -1,9 +1,5 @@
-use Rattle.std.proofs.Common.{List, Option, subst}
-use Rattle.std.specs.List.{All, Contains, flat_map}
-use Rattle.kt_text.specs.Words.{Text}
-use Rattle.kt_rules.specs.Entry.{Rule}
+use Rattle.kt_rules.proofs.Common.{List, Option, subst, All, Contains, flat_map, Text, Rule, rules_in}
 use Rattle.kt_rules.specs.Known.{names_in}
-use Rattle.kt_rules.specs.Slots.{rules_in}
 use Rattle.kt_rules.proofs.TableLemmas.{all_among}
 use Rattle.kt_rules.proofs.book.rules.Rules.names.Goals as goal
 

@@ -1,12 +1,5 @@
 use Rattle.std.proofs.Common.{◌∙◌, ◌++◌, ◌∷◌, [], List, Option, Some, length, option_map, refl, unwrap_or, subst, sym, ap}
-use Rattle.kt_list.proofs.general.Places.{is_some-map}
-use Rattle.kt_text.specs.Words.{Text}
-use Rattle.kt_text.proofs.BegunLemmas.{on_err}
-use Rattle.kt_rules.specs.declared.book.held_rule.HeldRule.{HeldRule}
-use Rattle.kt_rules.specs.declared.entry.Needs.{Needs}
-use Rattle.kt_rules.specs.declared.entry.RecipeLine.{RecipeLine}
-use Rattle.kt_rules.specs.Entry.{Rule}
-use Rattle.kt_rules.specs.inner.Held.{AreHeld, slots_held}
+use Rattle.kt_rules.proofs.Common.{is_some-map, Text, on_err, HeldRule, Needs, RecipeLine, Rule, AreHeld, slots_held}
 use Rattle.kt_rules.proofs.HeldLemmas.{grown_held, grown_slots, lists_none, pushed_held, pushed_rule}
 use Rattle.kt_rules.proofs.book.rules.Rules.push.Goals as goal
 

@@ -1,8 +1,5 @@
-use Rattle.std.proofs.Common.{Option, Some, [], get_or, rules, subst}
-use Rattle.kt_rules.specs.Entry.{Rule}
-use Rattle.kt_rules.specs.Slots.{slot_rule}
+use Rattle.kt_rules.proofs.Common.{Option, Some, [], get_or, rules, subst, Rule, slot_rule, rule_in}
 use Rattle.kt_rules.specs.inner.Alike.{SaySame}
-use Rattle.kt_rules.specs.inner.Held.{rule_in}
 use Rattle.kt_rules.proofs.AlikeLemmas.{same_listed}
 use Rattle.kt_rules.proofs.HeldLemmas.{slot_told}
 use Rattle.kt_rules.proofs.book.rules.Rules.say_same.Goals as goal

@@ -1,5 +1,4 @@
-use Rattle.std.proofs.Common.{refl}
-use Rattle.kt_text.proofs.BegunLemmas.{on_err}
+use Rattle.kt_rules.proofs.Common.{refl, on_err}
 use Rattle.kt_rules.proofs.NoteLemmas.{grew_at_one}
 use Rattle.kt_rules.proofs.book.spots.Spots.note.Goals as goal
 

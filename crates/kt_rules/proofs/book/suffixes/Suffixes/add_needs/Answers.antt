@@ -1,8 +1,5 @@
 use Rattle.std.proofs.Common.{◌∙◌, ap, fold}
-use Rattle.kt_rules.specs.Names.{with_name}
-use Rattle.kt_rules.specs.Suffixes.{all_needs}
-use Rattle.kt_rules.specs.inner.SuffixCuts.{lengths_with}
-use Rattle.kt_rules.specs.Targets.{needs_view}
+use Rattle.kt_rules.proofs.Common.{with_name, all_needs, lengths_with, needs_view}
 use Rattle.kt_rules.proofs.SuffixLemmas.{by_result, needs_added}
 use Rattle.kt_rules.proofs.book.suffixes.Suffixes.add_needs.Goals as goal
 

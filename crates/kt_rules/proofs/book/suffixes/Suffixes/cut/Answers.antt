@@ -1,6 +1,5 @@
 use Rattle.std.proofs.Common.{◌≡◌, ◌∙◌, ap}
-use Rattle.kt_rules.specs.inner.SuffixCuts.{first_cut}
-use Rattle.kt_rules.specs.Suffixes.{suffix_cut}
+use Rattle.kt_rules.proofs.Common.{first_cut, suffix_cut}
 use Rattle.kt_rules.proofs.SuffixLemmas.{all_cuts, cut_within}
 use Rattle.kt_rules.proofs.book.suffixes.Suffixes.cut.Goals as goal
 

@@ -1,8 +1,5 @@
-use Rattle.std.proofs.Common.{◌∙◌, ap, sym, slice_get, find}
-use Rattle.std.specs.Prelude.{nat_eq}
-use Rattle.std.specs.List.{ends_with}
-use Rattle.std.specs.Option.{option_and_then, option_map}
-use Rattle.kt_rules.specs.inner.SuffixCuts.{first_end}
+use Rattle.std.proofs.Common.{◌∙◌, ap, sym, slice_get, find, nat_eq}
+use Rattle.kt_rules.proofs.Common.{ends_with, option_and_then, option_map, first_end}
 use Rattle.kt_rules.proofs.SuffixLemmas.{all_ends}
 use Rattle.kt_rules.proofs.book.suffixes.Suffixes.end_of.Goals as goal
 

@@ -1,7 +1,5 @@
 use Rattle.std.proofs.Common.{◌≡◌, ◌||◌}
-use Rattle.std.specs.Borrow.{Bor}
-use Rattle.kt_text.specs.Words.{Text, words_of}
-use Rattle.kt_text.specs.Functions.{matches_held, matches_some}
+use Rattle.kt_text.proofs.Common.{Bor, Text, words_of, matches_held, matches_some}
 use Rattle.kt_text.proofs.functions.patterns.Patterns.new.Given as goal
 
 abbrev pub invariant-loop-pattern : goal.invariant-loop-pattern

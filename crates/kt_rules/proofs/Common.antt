@@ -1,0 +1,54 @@
+-- The names that most proofs cite, passed on from one place. Declares nothing.
+pub use Rattle.kt_list.proofs.NameLemmas.{number_found}
+pub use Rattle.kt_list.proofs.general.Booleans.{and_first, and_nothing, and_second, or_nothing, or_swap}
+pub use Rattle.kt_list.proofs.general.Numbers.{less_one}
+pub use Rattle.kt_list.proofs.general.Places.{head_is, is_some-map, none_in, tail_is}
+pub use Rattle.kt_rules.specs.Book.{AreApart, GroupsStandAlone, NumbersTellRules, begins_with_dot, beside_group_in, both_colons_in, differ_in_colons, goal_in, has_recipe, is_beside_group, is_double, is_explicit, is_goal, is_group, is_made, is_pattern, made_targets, makes, names_eq, numbers_in, override_message, pattern_rule, patterns_in, phony_of, repeats, rule_needs, suffix_rule_as_pattern, target_names, target_rules, targets_with_recipe, two_recipes_in, unrepeated, xor}
+unfoldable pub use Rattle.kt_rules.specs.Book.{explicit_numbers, explicit_rules, first_goal_by, is_phony, patterns_of, recipes_of, refusal_of, rules_of}
+pub use Rattle.kt_rules.specs.Entry.{rule_with, rules_with, shared_needs}
+unfoldable pub use Rattle.kt_rules.specs.Entry.{read_line, rule_of, stemmed_names, stemmed_of}
+pub use Rattle.kt_rules.specs.Names.{begins_quotable, cuts, end_place, is_quotable}
+unfoldable pub use Rattle.kt_rules.specs.Names.{after_dots, cut_place, is_member, is_refused_name, is_refused_target, is_special, is_wildcard, is_without_effect, name_of, pieces_of, unquoted, without_dots, without_outer_separators, without_repeats, written_words}
+pub use Rattle.kt_rules.specs.Refusals.{Fault, GivesExpected, Refusal, ReportsFault, bad_group, both_colons, fault_at, faults_at, two_recipes}
+pub use Rattle.kt_rules.specs.RuleLine.{line_of}
+unfoldable pub use Rattle.kt_rules.specs.RuleLine.{after_double, colon_cut, first_refusal, group_targets, head_of, is_bad_group, is_bar, line_refusal, mixes_patterns, name_refusal, needs_of, target_refusal, tested_needs}
+pub use Rattle.kt_rules.specs.Slots.{AreAlike, AreBefore, AreIn, GotRecipes, GotSpots, GrewAt, GrewIn, IsIndexOf, IsKept, first_found, first_of, list_of, rule_view, rules_in, slot_rule, spot_at, spot_rule, spots_at, spots_for, target_rule, target_spots, unless}
+unfoldable pub use Rattle.kt_rules.specs.Slots.{explicit_left, found, spots_from}
+pub use Rattle.kt_rules.specs.Suffixes.{all_needs, is_bare, is_cut_at, is_empty, is_suffix_rule, percent, suffix_cut, suffix_patterns, suffixes_after, suffixes_of}
+unfoldable pub use Rattle.kt_rules.specs.Suffixes.{start_suffixes}
+pub use Rattle.kt_rules.specs.Targets.{entry_view, line_needs, name_put, names_at, names_put, names_view, needed_view, needs_view, target_view, targets_view}
+pub use Rattle.kt_rules.specs.declared.book.book_names.Marks.{Marks}
+pub use Rattle.kt_rules.specs.declared.book.kinds.Kinds.{Kinds}
+pub use Rattle.kt_rules.specs.declared.cutting.Cut.TheVariants.{Colon, Separator}
+pub use Rattle.kt_rules.specs.declared.entry.RecipeLine.{RecipeLine}
+pub use Rattle.kt_rules.specs.declared.fault.RuleFault.{RuleFault}
+pub use Rattle.kt_rules.specs.declared.fault.RuleFault.TheVariants.{Memory, Refused}
+pub use Rattle.kt_rules.specs.inner.Held.{AreHeld, AreNumbersOf, GotLists, GotNames, GotRow, HasOneMore, HasRows, HoldsAll, IsKnown, IsLast, IsRow, needs_held, numbered_target, rule_held, rule_in, sees, slots_held}
+pub use Rattle.kt_rules.specs.inner.SuffixCuts.{HaveLengths, KeepLengths, earlier, goes_on, is_bare_at, is_number, with_number}
+unfoldable pub use Rattle.kt_rules.specs.inner.SuffixCuts.{cut_after, end_of_length, first_cut, first_end, lengths_with}
+pub use Rattle.kt_text.proofs.BegunLemmas.{on_err}
+pub use Rattle.kt_text.proofs.MatchLemmas.{list_any-place}
+pub use Rattle.kt_text.proofs.PlaceLemmas.{differ_turned, drop-prefix_len, first_byte_place, occurs_found}
+pub use Rattle.kt_text.specs.Functions.{quotes_percent, with_stem}
+unfoldable pub use Rattle.kt_text.specs.Match.{has_percent, is_between, is_percent, pattern_back, pattern_front, stem_span}
+pub use Rattle.kt_text.specs.Words.{stripped_start}
+unfoldable pub use Rattle.kt_text.specs.Words.{is_separator, words_of}
+pub use Rattle.memchr.specs.Find.{IsFirstByte, OccursAt, is_byte, is_byte3}
+unfoldable pub use Rattle.memchr.specs.Find.{matches_from}
+pub use Rattle.std.proofs.Common.{IfSome, OnErr, Option, Some, arith, get_or, refl, rules, subst, sym}
+pub use Rattle.std.proofs.Math.Seq.{drop-append_seam, get_or-append_seam, set-append_seam, take-append_seam}
+pub use Rattle.std.proofs.lemmas.Bool.{and_from, and_parts, cases_Bool, eq-eqb, eqb-true, false_from_ne_true, false≢true, le-ltb, lt-ltb, ltb-false, ltb-true, ne_eqb, not-true, or_left, or_parts, or_right}
+pub use Rattle.std.proofs.lemmas.Grind.{flat_map-append, fold-append}
+pub use Rattle.std.proofs.lemmas.Iterator.Adapters.{position_from-zero}
+pub use Rattle.std.proofs.lemmas.List.{append-nil, append_assoc, drop-map, drop_all, drop_more, get_or-append_right, get_or-set_other, get_or-set_same, get_or_append_left, get_or_past, length-drop, length-map, length-set, length-take, length-take-le, length_push, map-append, reverse-append, take-map, take_all, take_more, take_rest}
+pub use Rattle.std.proofs.lemmas.List.Elements.{All-append, All-cons, All-drop, All-filter, All-get_or, All-head, All-map, All-nil, All-push, All-set, All-tail, All-take, All-weaker, Contains-get_or, filter-append, filter_map-append}
+pub use Rattle.std.proofs.lemmas.List.Folds.{list_any-append, list_any_at, list_any_none}
+pub use Rattle.std.proofs.lemmas.Option.{IfSome_then, get_or_from_slice_get, same_Some, slice_get-get_or, slice_get_past, slice_get_within, unwrap_or-slice_get}
+pub use Rattle.std.proofs.lemmas.Result.{on_err_weaker, on_ok_weaker}
+pub use Rattle.std.proofs.lemmas.Slice.Eq.{bytes_eq-Decides, starts_is}
+pub use Rattle.std.specs.Borrow.{Bor}
+pub use Rattle.std.specs.Cmp.Lexicographic.{as_long, nat_list_eq_equiv, pointwise, unequal}
+pub use Rattle.std.specs.List.{AllByRecursion, Contains, IsDistinct, after_first, before_first, cons_option, filter_map, onto_first, position_or_len, prefix_len, slice_split, starts_with, suffix_len}
+pub use Rattle.std.specs.Option.{option_and_then, option_to_list}
+pub use Rattle.std.specs.Vec.{with_item}
+pub use Rattle.kt_rules.specs.Prelude.{All, AreBelow, Head, HeldRule, Kind, Line, List, Needs, Rule, Spot, Target, Text, [], bytes_eq, empty_line, ends_with, enumerate_from, flat_map, is_among, is_colon, is_nil, is_nonempty, list_all, list_any, option_list, option_map, option_map_or, option_or, place_of, position_from, range_with_len, rule_by, target_of, tested_line, unwrap_or, with_name}
