@@ -94,7 +94,7 @@ def differences_of_commands(kati):
             given.seek(0)
             status, out, said = run_make(["-n", "-B", "-f", "-", *GOALS], stdin=given)
         asked = argparse.Namespace(kati=kati, makefile="Makefile", builtin=True, depth=None, words=GOALS)
-        found = translating.Translator(asked, room).translate(sources.Listing(TREE))
+        found = translating.Translator(asked, room).translate(sources.Listing(sources.text_with(TREE)))
         os.chdir(TOP)
     if status or found.status:
         yield f"make ends with status {status}, kati with {found.status}: {said}{found.said}"

@@ -55,7 +55,7 @@ def gets_restat(line):
 def lines(translation):
     """The lines for kati's text, by the number of the line behind which they stand."""
     # Backwards is twice as fast.
-    if translation.data.rfind(WITHOUT_INPUTS) < 0:
+    if all(piece.rfind(WITHOUT_INPUTS) < 0 for piece in translation.pieces()):
         return {}
     text = translation.text
     starts = [name for outputs in PHONY_WITHOUT_INPUTS.findall(text) for name in ninja_text.names(outputs)]

@@ -208,33 +208,36 @@ class Build:
             for name in (name for name in os.listdir(self.room) if name.endswith(".new")):
                 files.remove(os.path.join(self.room, name))
 
-    def by_its_names(self, old):
+    def made_before(self):
+        """What the build of before makes."""
+        return ninja_text.Heads([files.content(self.translated) or b""]).outputs()
+
+    def by_its_names(self):
         """The translation, and the listing of the files that exist, for which the makefiles count that it asks for: it
         is made by those of before, and again where its own would give another list."""
         before, lister = files.content(self.list), translating.lister(self.asked, self.output, self.room)
         makefiles = self.translator.makefiles(self.names_before())
         listing = lister.listing(makefiles)
         for _ in range(translating.ROUNDS):
-            found = self.translator.translate(listing, lambda: ninja_text.Heads(old).outputs(), listing.before(before))
+            found = self.translator.translate(listing, self.made_before, before)
             told = self.translator.makefiles(found.asked)
             if told in (None, makefiles):
                 break
-            makefiles, names = told, listing.names
+            makefiles, text = told, listing.text
             listing = lister.listing(makefiles)
-            if listing.names == names:
+            if listing.text == text:
                 break
         return found, listing
 
     def translate_alone(self):
         """The same, where no other run is in the folder."""
-        old = files.content(self.translated) or b""
-        found, listing = self.by_its_names(old)
+        found, listing = self.by_its_names()
         sys.stderr.buffer.write(bytes_of(found.said))
         if found.status:
             self.say_kept(f"kati ended with status {found.status}")
             return found.status
         content = insertions.Content(found, self.asked.deps)
-        is_new = content.data != old
+        is_new = self.is_new(content)
         if is_new and not self.is_right(content):
             return UNFORESEEN
         names = top_file.watched(self.names_now(found, listing), listing, self.output)
@@ -242,13 +245,19 @@ class Build:
         self.write(found, content, is_new, top)
         return 0
 
+    def is_new(self, content):
+        """Whether the text isn't the one that is kept."""
+        if content.data is None:
+            return not files.same(self.translator.written, self.translated)
+        return content.data != files.content(self.translated)
+
     def say_kept(self, words):
         """Tells why the build of before is kept."""
         say(TOOL, words + (f"; {self.output} stays as it is" if os.path.exists(self.output) else ""))
 
     def is_right(self, content):
         """Whether kati says that a text still says what the makefile says. kati's own text needs no asking."""
-        if content.is_katis and not self.asked.builtin:
+        if content.data is None and not self.asked.builtin:
             return True
         status, said = self.translator.check(self.staged(content))
         if status:
@@ -259,7 +268,8 @@ class Build:
 
     def staged(self, content):
         """The new file that has the translation's text: kati's own stands there already."""
-        return self.translator.written if content.is_katis else files.staged(self.translated, content.data, self.room)
+        is_katis = content.data is None
+        return self.translator.written if is_katis else files.staged(self.translated, content.data, self.room)
 
     def write(self, found, content, is_new, top):
         """Replaces the files of which the bytes differ; the one that ninja reads, with the text `top`, is the last."""

@@ -4,7 +4,9 @@ from stat import S_ISREG
 
 from .programs import bytes_of, text_of
 
-PIECE = 2**20
+# So much of a large file is read at once, which stays in the processor's cache; memory for all of it would take longer
+# than its reading.
+PIECE = 2**18
 
 
 def nearest_folder(name):
@@ -45,6 +47,8 @@ def entries(folder):
         with os.scandir(handle) as found:
             # Nearly all are files, which the folder itself tells; all others are put aside.
             names = [one.name for one in found if one.is_file(follow_symlinks=False) or others.append(one)]
+        if not others:
+            return [], names
         folders = [one for one in others if is_folder(one)]
         kept = set(folders)
         return folders, names + [one.name for one in others if one not in kept and not leads_nowhere(one)]
@@ -73,6 +77,22 @@ def content(path):
         return None
     finally:
         os.close(handle)
+
+
+def pieces(path):
+    """A file's bytes, in pieces that end with a line."""
+    with open(path, "rb") as file:
+        yield from iter(lambda: file.read(PIECE) + file.readline(), b"")
+
+
+def same(path, other):
+    """Whether two files have the same bytes; not where one can't be read."""
+    try:
+        with open(path, "rb") as one, open(other, "rb") as two:
+            is_as_long = os.fstat(one.fileno()).st_size == os.fstat(two.fileno()).st_size
+            return is_as_long and all(piece == two.read(PIECE) for piece in iter(lambda: one.read(PIECE), b""))
+    except OSError:
+        return False
 
 
 def read(path):
@@ -131,7 +151,7 @@ def replace(path, text, room):
 
 def settle(new, path):
     """Gives a new file its name where that file has other bytes; else takes the new one away."""
-    if content(new) == content(path):
+    if same(new, path):
         remove(new)
     else:
         put(new, path)

@@ -5,8 +5,7 @@ from .programs import bytes_of
 
 
 class Content:
-    """A translation's text with these lines, as bytes; `is_katis` says that there are none, so that it is kati's
-    own."""
+    """A translation's text with these lines, as bytes; None where there are none, so that it is kati's own."""
 
     def __init__(self, translation, has_headers):
         added, self.doubts = always_run.lines(translation), []
@@ -17,5 +16,4 @@ class Content:
             for number, lines in headers.lines().items():
                 added[number] = [*added.get(number, []), *lines]
             self.doubts = headers.doubts
-        self.is_katis = not added
-        self.data = bytes_of(ninja_text.with_lines(translation.text, added)) if added else translation.data
+        self.data = bytes_of(ninja_text.with_lines(translation.text, added)) if added else None

@@ -67,15 +67,20 @@ def statements(text):
     return found
 
 
-class Heads:
-    """What stands before the colon of each statement of a file that kati wrote, which is given as bytes; found without
-    building the statements, which takes ten times as long. `are_names` says that each is a name as it is."""
+def heads_in(piece):
+    """The same of a piece, behind a line's end."""
+    found = PLAIN_HEAD.findall(piece)
+    return HEAD.findall(piece) if b"$" in b"".join(found) else found
 
-    def __init__(self, data):
-        self.all = PLAIN_HEAD.findall(data)
+
+class Heads:
+    """What stands before the colon of each statement of a file that kati wrote, which is given as bytes, in pieces that
+    end with a line; found without building the statements, which takes ten times as long. `are_names` says that each is
+    a name as it is."""
+
+    def __init__(self, pieces):
+        self.all = [head for piece in pieces for head in heads_in(b"\n" + piece)]
         self.joined = b"\n".join(self.all)
-        if b"$" in self.joined:
-            self.all = HEAD.findall(data)
         self.are_names = b" " not in self.joined and b"$" not in self.joined
 
     def outputs(self):

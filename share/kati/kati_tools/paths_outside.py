@@ -9,6 +9,8 @@ from . import files, includes, outside
 from .programs import bytes_of, text_of
 
 ASSIGNMENT = re.compile(r"[ \t]*(?:override[ \t]+|export[ \t]+)*([^\s:#=?+!$]+)[ \t]*(?::{0,3}|[?+!])=[ \t]*(.*)")
+# A line that is no recipe line, behind a line's end.
+LINE = re.compile(r"\n([^\t\n].*)")
 REFERENCE = re.compile(r"\$[({]([^\s:,$(){}]+)[^(){}]*[)}]")
 PLAIN = re.compile(r"\$[({]([^\s:,$(){}]+)[)}]")
 # A path outside stands behind a blank or another of these marks, and ends at one or before one of the ends. Each of the
@@ -28,6 +30,15 @@ NEVER = ("/dev/", "/proc/", "/sys/")
 MOST_LEVELS = 10
 
 
+def pieces(text):
+    """A text in pieces that end with a line, of which one at a time takes memory."""
+    at = 0
+    while at < len(text):
+        end = text.find("\n", at + files.PIECE) + 1 or len(text)
+        yield text[at:end]
+        at = end
+
+
 class Text:
     """The lines of makefiles that are no recipe: the values of macros, each with the others it was assigned, the lines
     that have neither `=` nor a reference, which are most, and all others."""
@@ -39,10 +50,11 @@ class Text:
 
     def add(self, text):
         """Takes in a makefile."""
-        lines, others = includes.without_continuations(text).split("\n"), []
-        # All others but recipes are put aside.
-        self.plain += [line for line in lines if line[:1] != "\t"
-                       and ("=" not in line and "$" not in line or others.append(line))]
+        others = []
+        for piece in pieces(includes.without_continuations(text)):
+            # All others are put aside.
+            self.plain.append("\n".join([line for line in LINE.findall("\n" + piece)
+                                         if "=" not in line and "$" not in line or others.append(line)]))
         for line in others:
             found = ASSIGNMENT.match(line)
             if found and found.group(1) not in self.given:

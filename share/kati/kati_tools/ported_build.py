@@ -191,7 +191,7 @@ class PortedTranslator(translating.Translator):
         """Makes this kati in the folder of the ported makefiles, as far as there are any."""
         self.list, self.makefile = os.path.join(self.place, "files.txt.new"), None
         if self.ported.stuck is not None:
-            sources.write_list([], self.list)
+            files.write(self.list, b"")
             return
         given = argparse.Namespace(**vars(self.ported.asked))
         given.kati, given.makefile = find_kati(given.kati), self.ported.record.makefile
@@ -209,13 +209,13 @@ class PortedTranslator(translating.Translator):
         self.go_in()
         return self.ported.stuck is None
 
-    def translate(self, listing, made=set, before=()):
+    def translate(self, listing, made=set, before=b""):
         """kati's translation; its fault where the port is stuck."""
         found = None if self.ported.stuck is not None else super().translate(listing, made, before)
         if found is not None and found.status == 2 and self.ports_again():
             found = super().translate(listing, made, before)
         if self.ported.stuck is not None:
-            return translating.Translation(2, b"", self.ported.stuck, [])
+            return translating.Translation(2, None, self.ported.stuck)
         return self.with_includes(found, listing, before) if found.status == 0 else found
 
     def with_includes(self, found, listing, before):

@@ -1,4 +1,5 @@
 """The list of the files that exist, as kati wants it by --files."""
+import functools
 import os
 import re
 
@@ -18,37 +19,44 @@ def without_newlines(names):
     return [name for name in names if "\n" not in name] if "\n" in "".join(names) else list(names)
 
 
-class Listing:
-    """Names of files, those of them that are sources whatever makes them, and the folders and files on which the
-    list depends."""
+def text_with(names):
+    """Names of files as kati reads them, one a line."""
+    return "\n".join([*sorted(without_newlines(names)), ""])
 
-    def __init__(self, names, certain=(), folders=(), watched=()):
-        self.names, self.certain = sorted(without_newlines(names)), certain
+
+class Listing:
+    """The files that exist, as the text in which kati reads their names; those of them that are sources whatever makes
+    them, None where all are; and the folders and files on which the list depends."""
+
+    def __init__(self, text, certain=None, folders=(), watched=()):
+        self.text, self.certain = text, certain
         self.folders, self.watched = without_newlines(folders), without_newlines(watched)
+        # Whether the files were looked for, and aren't of a list that is the user's.
+        self.is_found = certain is not None
+
+    @functools.cached_property
+    def names(self):
+        """The names, which are mostly not needed one by one."""
+        return list(dict.fromkeys(filter(None, self.text.split("\n"))))
 
     def with_folders(self, found):
         """The listing with what stands in folders outside this one. One that isn't there would come into being in
         another."""
         names = [name for folder in found.all for name in found.files(folder)]
         there = [folder if os.path.isdir(folder) else files.nearest_folder(folder) for folder in found.all]
-        return Listing([*self.names, *names], self.certain, [*self.folders, *there], self.watched)
+        return Listing(text_with(names) + self.text, self.certain, [*self.folders, *there], self.watched)
 
     def data(self, dropped=()):
-        """The list as kati reads it, as bytes, without these names."""
-        return bytes_of("\n".join([*self.without(dropped), ""]))
-
-    def before(self, data):
-        """The names of the list of before, given as bytes: mostly the same, and those of this one where there was
-        none."""
-        return self.names if data is None or data == self.data() else text_of(data).split("\n")[:-1]
+        """The text as bytes, without these names."""
+        left = text_with([name for name in self.names if name not in dropped]) if dropped else self.text
+        return bytes_of(left)
 
     def unsure(self, before):
-        """The names that may be there only because the build made them: not those listed before, nor the certain."""
-        return set() if self.names == before else set(self.names).difference(self.certain, before)
-
-    def without(self, dropped):
-        """The names without these."""
-        return [name for name in self.names if name not in dropped] if dropped else self.names
+        """The names that may be there only because the build made them: not those of the list of before, which is given
+        as bytes, nor the certain. There are none where that is the same list, or there was none."""
+        if self.certain is None or before is None or before == self.data():
+            return set()
+        return set(self.names).difference(self.certain, text_of(before).split("\n"))
 
 
 def plain(name):
@@ -80,9 +88,9 @@ def walk(skipped):
 
 
 def walked(skipped):
-    """The files below this folder, the skipped folders aside."""
+    """The files below this folder, the skipped folders aside; as `from_git` gives them."""
     names, folders = walk(skipped)
-    return Listing(names, (), folders)
+    return names, (), folders
 
 
 def git(*words):
@@ -94,7 +102,8 @@ def git(*words):
 
 
 def from_git(skipped):
-    """What git tracks, and what it doesn't ignore; the skipped folders aside."""
+    """What git tracks, and what it doesn't ignore, the skipped folders aside; as the names of a listing, the certain of
+    them, and what it depends on."""
     tracked = [name for name in git("--cached", "--recurse-submodules") if os.path.isfile(name)]
     others = [name for name in git("--others", "--exclude-standard") if os.path.isfile(name)]
     ignored = git("--others", "--ignored", "--exclude-standard", "--directory")
@@ -103,17 +112,16 @@ def from_git(skipped):
     others = [name for name in others
               if (os.path.dirname(name) or ".") in inside and os.path.basename(name) not in OWN]
     rules = [name for name in tracked + others if os.path.basename(name) == ".gitignore"]
-    return Listing(set(tracked + others), tracked, folders, rules)
+    return list({*tracked, *others}), tracked, folders, rules
 
 
 def from_file(path):
-    """The names of a file, one a line."""
+    """The names of a file, one a line. It stays as it is, since for kati neither their order counts, nor how often
+    one is there."""
     text = files.read(path)
     if text is None:
         raise Stop(f"no file {path}")
-    # In the order of the file, which is mostly sorted, or nearly.
-    names = list(dict.fromkeys(filter(None, re.sub(r"\r(?=\n|\Z)", "", text).split("\n"))))
-    return Listing(names, names, (), [path])
+    return Listing(re.sub(r"\r(?=\n|\Z)", "", text), None, (), [path])
 
 
 def here(source, output, room):
@@ -121,10 +129,10 @@ def here(source, output, room):
     `room` aside."""
     if source not in WALKED:
         return from_file(source)
-    found = from_git({room}) if source == "git" else walked({room})
-    if output in found.names:
-        found.names.remove(output)
-    return found
+    names, *rest = from_git({room}) if source == "git" else walked({room})
+    if output in names:
+        names.remove(output)
+    return Listing(text_with(names), *rest)
 
 
 class Lister:
@@ -150,8 +158,3 @@ class Lister:
             folders = outside.folders(marked, set(makefiles), self.macros) if marked else None
             self.marked, self.last = marked, self.here.with_folders(folders) if marked else self.here
         return self.last
-
-
-def write_list(names, path):
-    """Writes the list where kati reads it."""
-    files.write(path, bytes_of("\n".join([*names, ""])))

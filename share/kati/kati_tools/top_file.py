@@ -20,6 +20,8 @@ import time
 from . import files, ninja_text, own_files
 from .programs import bytes_of, text_of
 
+# Of so many names those that are listed aren't looked for again, which takes longer than to take the list apart.
+MANY = 1000
 UNUSUAL = re.compile(r"^\./|/\.|//|/$", re.MULTILINE)
 # One of these stands in names of which one is unusual, with a line's end behind each.
 MARKS = (b"./", b"/.", b"//", b"/\n")
@@ -59,7 +61,8 @@ def plain(names):
 def watched(asked, listing, output):
     """The names that the translation depends on, each once: files that are there, and folders; but for the highest
     folder, which Ninja takes for a name of no letters, and so for one that isn't there."""
-    names = [name if os.path.lexists(name) else files.nearest_folder(name) for name in asked]
+    there = set(listing.names) if listing.is_found and len(asked) > MANY else ()
+    names = [name if name in there or os.path.lexists(name) else files.nearest_folder(name) for name in asked]
     found = plain([*names, *listing.watched, *listing.folders])
     return [name for name in found if name not in (output, "/")]
 
@@ -69,19 +72,6 @@ def made_of(names, heads):
     if heads.are_names and not has_unusual(heads.joined + b"\n"):
         return set(map(text_of, set(map(bytes_of, names)).intersection(heads.all)))
     return normal(heads.outputs()).intersection(names)
-
-
-def made_before(names, before, output):
-    """The same as an earlier file says it for the same statements; None where it doesn't say it of all."""
-    inputs = before.partition(f"\nbuild {ninja_text.escaped(output)}: kati_build")[2].split(" $\n    ")
-    last, *rest = inputs[-1].split("\n")
-    named = {*inputs[1:-1], last}
-    absent = {line[len("build "):-len(": phony")] for line in rest if line.endswith(": phony")}
-    escaped = ninja_text.all_escaped(names)
-    if not named.issuperset(escaped):
-        return None
-    made = set(escaped) - absent
-    return {name for name, one in zip(names, escaped) if one in made} if made else made
 
 
 def is_later(name, other):
@@ -99,13 +89,19 @@ def text(build, names, translation, is_new):
     the run that wrote it came to its end."""
     before = files.read(build.output) or ""
     changed = None if is_new or is_later(build.translated, build.output) else CHANGED.search(before)
-    made = made_before(names, before, build.output) if changed else None
-    if made is None:
-        made = made_of(names, translation.heads)
+    if changed and filled(build, names, set(), changed.group(1)) == before:
+        return before
+    made = made_of(names, translation.heads)
     names = [name for name in names if not (name in made and os.path.isdir(name))]
+    return filled(build, names, made, changed.group(1) if changed else time.time_ns())
+
+
+def filled(build, names, made, changed):
+    """The template with what it hangs on: the names, those of them that the statements make, and the time of the
+    change."""
     present = ninja_text.all_escaped([name for name in names if name not in made])
     return TEMPLATE.format(
-        changed=changed.group(1) if changed else time.time_ns(),
+        changed=changed,
         room=ninja_text.escaped_value(build.room),
         command=ninja_text.escaped_value(" ".join(map(shlex.quote, build.command()))),
         makefile=ninja_text.escaped_value(build.makefile()),

@@ -81,17 +81,21 @@ def word_of_goals(given):
 
 
 class Translation:
-    """What kati said: its status, its Ninja text as bytes and its messages; with the names of the list it had, and
-    those that it asked for, None where that isn't told."""
+    """What kati said: its status, the file that has its Ninja text up to the next translation, and its messages; with
+    the names that its list didn't have, and those that it asked for, None where that isn't told. The text is read where
+    it is asked for: that takes long where it is large."""
 
-    def __init__(self, status, data, said, names, asked=None):
-        self.status, self.data, self.said, self.names = status, data if status == 0 else b"", said, names
-        self.asked = asked
+    def __init__(self, status, path, said, dropped=frozenset(), asked=None):
+        self.status, self.path, self.said, self.dropped, self.asked = status, path, said, dropped, asked
+
+    def pieces(self):
+        """Its Ninja text, as bytes in pieces that end with a line."""
+        return files.pieces(self.path) if self.status == 0 else ()
 
     @functools.cached_property
     def text(self):
         """Its Ninja text."""
-        return text_of(self.data)
+        return text_of(b"".join(self.pieces()))
 
     @functools.cached_property
     def statements(self):
@@ -101,7 +105,7 @@ class Translation:
     @functools.cached_property
     def heads(self):
         """What stands before the colons of its statements."""
-        return ninja_text.Heads(self.data)
+        return ninja_text.Heads(self.pieces())
 
     @functools.cached_property
     def outputs(self):
@@ -128,9 +132,9 @@ class Translator:
         """The words of a run of kati, or of kati-asked."""
         return [program, *self.options, "--files", self.list, *more, "--", *self.words]
 
-    def with_list(self, names):
-        """The translation by this list."""
-        sources.write_list(names, self.list)
+    def with_list(self, listing, dropped=frozenset()):
+        """The translation by the files of a listing but these."""
+        files.write(self.list, listing.data(dropped))
         command = self.command(self.program or self.kati)
         status, said = run_into(command, self.written, self.folder)
         said = text_of(said)
@@ -139,7 +143,7 @@ class Translator:
             status, text, said = run(command, cwd=self.folder)
             files.write(self.written, bytes_of(text))
         asked = self.names_told(status) if self.program and status in ENDED else None
-        return Translation(status, files.content(self.written), said, names, asked)
+        return Translation(status, self.written, said, dropped, asked)
 
     def names_told(self, status):
         """The names that kati-asked wrote behind kati's text, which are cut off there; those of the tool's own files
@@ -157,22 +161,21 @@ class Translator:
         """The file that kati writes by its standard output."""
         return files.new_name(TRANSLATED, os.path.dirname(self.list))
 
-    def translate(self, listing, made=set, before=()):
-        """The translation by the files of a listing, but for what the build makes and `before` doesn't name.
+    def translate(self, listing, made=set, before=b""):
+        """The translation by the files of a listing, but for what the build makes and the list of `before` hasn't.
 
         `made` is called for what the build of before makes, where that matters. A name that stands in the list because
         it was made once, and is made no more, or that doesn't because of that, would tell kati otherwise than the disk:
         so what is made is asked again until it stays."""
         unsure = listing.unsure(before)
-        names = listing.without(unsure and unsure.intersection(made()))
-        found = self.with_list(names)
-        if found.status and names != listing.names:
-            found = self.with_list(listing.names)
+        found = self.with_list(listing, unsure and unsure.intersection(made()))
+        if found.status and found.dropped:
+            found = self.with_list(listing)
         for _ in range(ROUNDS):
-            names = listing.without(unsure and unsure.intersection(found.outputs))
-            if found.status or names == found.names:
+            dropped = unsure and unsure.intersection(found.outputs)
+            if found.status or dropped == found.dropped:
                 break
-            found = self.with_list(names)
+            found = self.with_list(listing, dropped)
         return found
 
     def check(self, path):
