@@ -95,12 +95,12 @@ def differences_of_commands(kati):
             status, out, said = run_make(["-n", "-B", "-f", "-", *GOALS], stdin=given)
         asked = argparse.Namespace(kati=kati, makefile="Makefile", builtin=True, depth=None, words=GOALS)
         found = translating.Translator(asked, room).translate(sources.Listing(sources.text_with(TREE)))
+        by_kati = [text.strip() for one in found.statements for text in comparing.unwrapped(one.command or "''") if text]
         os.chdir(TOP)
     if status or found.status:
         yield f"make ends with status {status}, kati with {found.status}: {said}{found.said}"
         return
     by_make = make_commands.lines_of(out)
-    by_kati = [text.strip() for one in found.statements for text in comparing.unwrapped(one.command or "''") if text]
     yield from (f"make alone: {line}" for line in comparing.alone(by_make, by_kati))
     yield from (f"kati alone: {line}" for line in comparing.alone(by_kati, by_make))
     print(f"{len(by_make)} commands of make's compared")

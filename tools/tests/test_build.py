@@ -214,6 +214,30 @@ class Regenerating(Tree):
         self.ninja()
         self.assertEqual(self.read("out"), "there\n")
 
+    def test_a_list_in_a_file_is_what_its_lines_name(self):
+        self.write(Makefile="all: a.o b.o\n%.o: %.c ; cp $< $@\n", a_c="", b_c="")
+        for text in ("a.c\nb.c\n", "b.c\na.c", "b.c\r\n\r\na.c\r\n", "\na.c\n\n\nb.c\na.c\n\n"):
+            with self.subTest(text):
+                (self.top / "list.txt").write_bytes(text.encode())
+                self.start("--files-from", "list.txt")
+                self.assertTrue((self.top / "a.o").exists() and (self.top / "b.o").exists())
+                self.ninja("-t", "clean")
+
+    def test_an_absent_include_among_many(self):
+        names = [f"mk/m{number}.mk" for number in range(1200)]
+        self.write(Makefile=f"A = absent\n-include {' '.join(names)}\nout: ; echo '$(A)' > out\n")
+        for name in names[:7] + names[8:]:
+            self.put(name, "")
+        self.start()
+        self.assertEqual(self.read("out"), "absent\n")
+        self.assertIn("no work to do", self.ninja())
+        self.put(names[7], "A = there\n")
+        self.ninja()
+        self.assertEqual(self.read("out"), "there\n")
+        (self.top / names[8]).unlink()
+        self.ninja()
+        self.assertNotIn(f"    {names[8]} $\n", self.read("build.ninja"))
+
     def test_an_include_goes_with_its_line(self):
         self.copy_example()
         self.start()

@@ -247,7 +247,7 @@ class Build:
 
     def is_new(self, content):
         """Whether the text isn't the one that is kept."""
-        if content.data is None:
+        if content.is_katis:
             return not files.same(self.translator.written, self.translated)
         return content.data != files.content(self.translated)
 
@@ -257,7 +257,7 @@ class Build:
 
     def is_right(self, content):
         """Whether kati says that a text still says what the makefile says. kati's own text needs no asking."""
-        if content.data is None and not self.asked.builtin:
+        if content.is_katis and not self.asked.builtin:
             return True
         status, said = self.translator.check(self.staged(content))
         if status:
@@ -268,8 +268,7 @@ class Build:
 
     def staged(self, content):
         """The new file that has the translation's text: kati's own stands there already."""
-        is_katis = content.data is None
-        return self.translator.written if is_katis else files.staged(self.translated, content.data, self.room)
+        return self.translator.written if content.is_katis else files.staged(self.translated, content.data, self.room)
 
     def write(self, found, content, is_new, top):
         """Replaces the files of which the bytes differ; the one that ninja reads, with the text `top`, is the last."""

@@ -5,7 +5,8 @@ from .programs import bytes_of
 
 
 class Content:
-    """A translation's text with these lines, as bytes; None where there are none, so that it is kati's own."""
+    """A translation's text with these lines, as bytes. `is_katis` says that there are none, so that it is kati's own,
+    which isn't read here."""
 
     def __init__(self, translation, has_headers):
         added, self.doubts = always_run.lines(translation), []
@@ -16,4 +17,5 @@ class Content:
             for number, lines in headers.lines().items():
                 added[number] = [*added.get(number, []), *lines]
             self.doubts = headers.doubts
+        self.is_katis = not added
         self.data = bytes_of(ninja_text.with_lines(translation.text, added)) if added else None

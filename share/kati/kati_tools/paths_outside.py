@@ -169,9 +169,9 @@ class Folders:
             self.looked[folder] = files.entries(folder)
         return self.looked[folder]
 
-    def files(self, folder):
-        """The files in a folder."""
-        return [f"{folder}/{name}" for name in self.look(folder)[1]]
+    def names(self, folder):
+        """The names of the files in a folder."""
+        return self.look(folder)[1]
 
 
 def text_of_makefiles(marked, seen, macros):

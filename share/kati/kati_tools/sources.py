@@ -19,16 +19,17 @@ def without_newlines(names):
     return [name for name in names if "\n" not in name] if "\n" in "".join(names) else list(names)
 
 
-def text_with(names):
-    """Names of files as kati reads them, one a line."""
-    return "\n".join([*sorted(without_newlines(names)), ""])
+def text_with(names, before=""):
+    """Names of files as kati reads them, one a line, each behind the name of a folder."""
+    kept = sorted(without_newlines(names))
+    return before + f"\n{before}".join(kept) + "\n" if kept else ""
 
 
 class Listing:
     """The files that exist, as the text in which kati reads their names; those of them that are sources whatever makes
     them, None where all are; and the folders and files on which the list depends."""
 
-    def __init__(self, text, certain=None, folders=(), watched=()):
+    def __init__(self, text, certain=(), folders=(), watched=()):
         self.text, self.certain = text, certain
         self.folders, self.watched = without_newlines(folders), without_newlines(watched)
         # Whether the files were looked for, and aren't of a list that is the user's.
@@ -42,9 +43,9 @@ class Listing:
     def with_folders(self, found):
         """The listing with what stands in folders outside this one. One that isn't there would come into being in
         another."""
-        names = [name for folder in found.all for name in found.files(folder)]
+        texts = [text_with(found.names(folder), f"{folder}/") for folder in found.all]
         there = [folder if os.path.isdir(folder) else files.nearest_folder(folder) for folder in found.all]
-        return Listing(text_with(names) + self.text, self.certain, [*self.folders, *there], self.watched)
+        return Listing("".join([*texts, self.text]), self.certain, [*self.folders, *there], self.watched)
 
     def data(self, dropped=()):
         """The text as bytes, without these names."""
@@ -116,12 +117,12 @@ def from_git(skipped):
 
 
 def from_file(path):
-    """The names of a file, one a line. It stays as it is, since for kati neither their order counts, nor how often
-    one is there."""
+    """The names of a file, one a line. Its text stays as it is: for kati neither their order counts, nor how often one
+    is there, nor an empty line."""
     text = files.read(path)
     if text is None:
         raise Stop(f"no file {path}")
-    return Listing(re.sub(r"\r(?=\n|\Z)", "", text), None, (), [path])
+    return Listing(re.sub(r"\r(?=\n|\Z)", "", text) if "\r" in text else text, None, (), [path])
 
 
 def here(source, output, room):

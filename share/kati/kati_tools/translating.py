@@ -81,9 +81,11 @@ def word_of_goals(given):
 
 
 class Translation:
-    """What kati said: its status, the file that has its Ninja text up to the next translation, and its messages; with
-    the names that its list didn't have, and those that it asked for, None where that isn't told. The text is read where
-    it is asked for: that takes long where it is large."""
+    """What kati said: its status, the file that has its Ninja text, and its messages; with the names that were left out
+    of its list, and those that it asked for, None where that isn't told.
+
+    The text takes long to read where it is large, so it is read where it is asked for first. That is to be before the
+    next translation, which is written to the same file."""
 
     def __init__(self, status, path, said, dropped=frozenset(), asked=None):
         self.status, self.path, self.said, self.dropped, self.asked = status, path, said, dropped, asked

@@ -1,0 +1,52 @@
+"""Large files are read in pieces: what is told of them is what their bytes say."""
+import tempfile
+import unittest
+from pathlib import Path
+
+from support import TOP  # noqa: F401
+
+from kati_tools import files, ninja_text
+
+
+class Pieces(unittest.TestCase):
+    """Texts about as long as a piece."""
+
+    LENGTHS = [0, 1, *(count * files.PIECE + more for count in (1, 2) for more in (-1, 0, 1))]
+
+    def setUp(self):
+        room = tempfile.TemporaryDirectory()
+        self.addCleanup(room.cleanup)
+        self.one, self.other = Path(room.name) / "one", Path(room.name) / "other"
+
+    def texts(self):
+        """Texts of these lengths: of short lines, of one line, and of a line that a piece would cut."""
+        for length in self.LENGTHS:
+            yield (b"line\n" * length)[:length]
+            yield b"x" * length
+            yield (b"x" * (length // 2) + b"\n" + b"x" * length)[:length]
+
+    def test_pieces_are_the_text_and_end_with_a_line(self):
+        for text in self.texts():
+            self.one.write_bytes(text)
+            found = list(files.pieces(self.one))
+            self.assertEqual(b"".join(found), text)
+            self.assertTrue(all(piece.endswith(b"\n") for piece in found[:-1]))
+
+    def test_files_are_the_same_where_all_bytes_are(self):
+        for text in self.texts():
+            self.one.write_bytes(text)
+            self.other.write_bytes(text)
+            self.assertTrue(files.same(self.one, self.other))
+            for changed in (text + b"\n", text[:-1] or b"y", text[:-1] + b"y", b"y" + text[1:]):
+                self.other.write_bytes(changed)
+                self.assertFalse(files.same(self.one, self.other))
+
+    def test_a_file_that_is_not_there_is_the_same_as_none(self):
+        self.one.write_bytes(b"")
+        self.assertFalse(files.same(self.one, self.other))
+        self.assertFalse(files.same(self.other, self.one))
+
+    def test_the_names_before_colons_are_found_in_each_piece(self):
+        first, rest = b"build a: r0 x\n", b"rule r1\n command = build no: r\nbuild b c: r1 y\nbuild d$:e: r1\n"
+        self.assertEqual(ninja_text.Heads([first, rest]).outputs(), {"a", "b", "c", "d:e"})
+        self.assertEqual(ninja_text.Heads([first + rest]).outputs(), {"a", "b", "c", "d:e"})
