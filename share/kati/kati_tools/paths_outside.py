@@ -92,10 +92,10 @@ class Text:
         return {self.expanded(line, number) for line in lines for number in range(count)}
 
     def with_paths(self):
-        """The text in which the paths of rules stand."""
+        """The text in which the paths of rules stand, with a line's end before it and behind it."""
         lines = self.of_rules()
         expanded = self.expansions([line for line in lines if "$" in line])
-        text = "\n".join([*self.plain, *(line for line in lines if "$" not in line), *expanded])
+        text = "\n".join(["", *self.plain, *(line for line in lines if "$" not in line), *expanded, ""])
         return RECIPE.sub("", text) if ";" in text else text
 
     def included(self):
@@ -105,8 +105,9 @@ class Text:
 
 
 def even(text):
-    """A text as bytes in which a path outside stands behind a blank, and a blank or a tab behind it."""
-    data = bytes_of(f" {text} ")
+    """A text, with a line's end before it and behind it, as bytes in which a path outside stands behind a blank, and a
+    blank or a tab behind it."""
+    data = bytes_of(text)
     return (EQUALS.sub(b"= ", data) if "=" in text else data).translate(EVEN)
 
 
