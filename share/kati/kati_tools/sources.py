@@ -19,10 +19,10 @@ def without_newlines(names):
     return [name for name in names if "\n" not in name] if "\n" in "".join(names) else list(names)
 
 
-def text_with(names, before=""):
-    """Names of files as kati reads them, one a line, each behind the name of a folder."""
+def text_with(names, prefix=""):
+    """Names of files as kati reads them, one a line, each with this prefix."""
     kept = sorted(without_newlines(names))
-    return before + f"\n{before}".join(kept) + "\n" if kept else ""
+    return prefix + f"\n{prefix}".join(kept) + "\n" if kept else ""
 
 
 class Listing:

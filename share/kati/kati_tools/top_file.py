@@ -89,6 +89,7 @@ def text(build, names, translation, is_new):
     the run that wrote it came to its end."""
     before = files.read(build.output) or ""
     changed = None if is_new or is_later(build.translated, build.output) else CHANGED.search(before)
+    # Mostly the statements make none of the names, and the same text says so, which needs no look at them.
     if changed and filled(build, names, set(), changed.group(1)) == before:
         return before
     made = made_of(names, translation.heads)
@@ -97,8 +98,8 @@ def text(build, names, translation, is_new):
 
 
 def filled(build, names, made, changed):
-    """The template with what it hangs on: the names, those of them that the statements make, and the time of the
-    change."""
+    """The text by the names that the file depends on, those of them that the statements make, and when what kati wrote
+    changed."""
     present = ninja_text.all_escaped([name for name in names if name not in made])
     return TEMPLATE.format(
         changed=changed,
