@@ -1,4 +1,6 @@
 """Files outside the folder: kati's list has those of the folders that makefiles name."""
+import shutil
+
 from support import TOOLS, Ran, Tree, needs
 
 RULE = "a.o:\n%.o: %.c {}\n\tcc -c -o $@ $<\n"
@@ -92,5 +94,43 @@ class Outside(Tree):
         self.lay("all: ../out/b.o\n../out/%.o: ../src/%.c\n\tmkdir -p ../out; cp $< $@\n%.x: ../out/%.o ; cp $< $@\n")
         self.assertEqual(self.run_there("kati-build").status, 0)
         self.assertEqual(self.run_there("ninja").status, 0)
-        self.assertEqual(self.read("prog/build.kati/files.txt").split(),
+        self.assertEqual(sorted(self.read("prog/build.kati/files.txt").split()),
                          ["../src/a.c", "../src/b.c", "Makefile", "a.c"])
+
+    def listed(self, name="build", *words):
+        """The names of a list, after a run."""
+        self.assertEqual(self.run_there("kati-build", "--no-ninja", "-o", f"{name}.ninja", *words).status, 0)
+        return sorted(self.read(f"prog/{name}.kati/files.txt").split())
+
+    def test_what_was_found_before_counts_only_where_all_is_as_it_was(self):
+        for name in ("only/h.h", "more/b.c", "late/b.c"):
+            self.put(name, "")
+        # Of the first value kati asks for no include.
+        makefile = "TOP = ..\nTOP = ../none\n-include $(TOP)/more.mk\n" \
+            + RULE.format("../inc/deep $(TOP)/h.h ../src/b.c")
+        edits = [lambda: self.lay(makefile), lambda: self.lay(makefile.replace("src/b.c", "late/b.c")),
+                 lambda: self.put("inc/deep/deep.h", ""), lambda: self.put("inc/other/other.h", ""),
+                 lambda: self.put("more.mk", "b.o: ../more/b.c\n"), lambda: self.put("more.mk", "b.o: ../src/b.c\n"),
+                 lambda: shutil.rmtree(self.top / "inc/deep"), lambda: self.put("inc/deep", "")]
+        for number, edit in enumerate(edits):
+            edit()
+            for name, words in (("one", []), ("two", ["TOP=../only"]), ("two", ["TOP=.."])):
+                with self.subTest(number, words=words):
+                    again = self.listed(name, *words)
+                    shutil.rmtree(self.top / f"prog/{name}.kati")
+                    self.assertEqual(again, self.listed(name, *words))
+
+    def test_it_is_not_looked_for_again(self):
+        self.lay(RULE.format("../inc/h.h"))
+        inc, src = ["../inc/g.h", "../inc/h.h"], ["../src/a.c", "../src/b.c"]
+        self.assertEqual(self.listed(), [*inc, "Makefile", "a.c"])
+        record = self.top / "prog/build.kati/outside.txt"
+        kept = record.read_text()
+        head, _, found = kept.rpartition("\n")
+        self.assertEqual(found, "../inc")
+        record.write_text(f"{head}\n../src")
+        self.assertEqual(self.listed(), [*src, "Makefile", "a.c"])
+        for damaged in ("", f"{head}\n../src\n", kept[1:], "\n\n\n../src"):
+            record.write_text(damaged)
+            self.assertEqual(self.listed(), [*inc, "Makefile", "a.c"])
+            self.assertEqual(record.read_text(), kept)

@@ -24,6 +24,7 @@ files:
   build.kati/ported/           the makefiles that --port ported, and their values
   build.kati/files.txt         the list of the files that exist, as kati got it
   build.kati/asked.txt         the files that kati asked for, by which the next list is made
+  build.kati/outside.txt       the folders outside this one that rules name, until a makefile changes
   build.kati/lock              what a run holds while it translates: one at a time, the next one waits
   build.kati/                  has ninja's own log too. It is named after FILE: .kati for .ninja
 

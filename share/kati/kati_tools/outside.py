@@ -1,9 +1,15 @@
 """The folders outside this one that rules name: `../inc/h.h`, `$(TOP)/src/%.c`, `/usr/include/x.h`.
 
 kati chooses a pattern rule by the files that exist, so what stands in these folders is in its list too, spelled as
-the makefile spells it. How they are found is a module of its own, which takes time to load."""
-from . import files
+the makefile spells it. How they are found is a module of its own, which takes time to load, and runs where they
+aren't found in a record."""
+import binascii
+import os
 
+from . import files
+from .programs import bytes_of, text_of
+
+RECORD = "outside.txt"
 # A text without any of these names no such folder.
 MARKS = (b"..", b" /", b"\t/", b"=/", b":/", b",/", b"(/")
 
@@ -24,8 +30,47 @@ def marked(makefiles):
     return {name: data for name, data in read.items() if has_marks(data)}
 
 
-def folders(found, seen, macros=()):
-    """The folders outside this one that makefiles name, as they spell them. `found` are those that are `marked`, `seen`
-    the names of all, and `macros` those of the command line."""
-    from .paths_outside import Folders, text_of_makefiles
-    return Folders(text_of_makefiles(found, seen, macros))
+class Folders:
+    """The folders outside this one that makefiles name, as they spell them; each is looked at once. `found` are the
+    makefiles that are `marked`, `seen` has the names of all, and `macros` are those of the command line.
+
+    The file `record` has what was found before, by a sum of all that it hangs on: the makefiles and macros, what may be
+    included by the value of a macro, and which folders are in those that were looked at."""
+
+    def __init__(self, found, seen, macros=(), record=None):
+        self.found, self.seen, self.macros, self.looked = found, seen, macros, {}
+        self.all = self.recorded(record) if record else None
+        if self.all is None:
+            from . import paths_outside
+            text, included = paths_outside.text_of_makefiles(found, seen, macros)
+            self.all = paths_outside.folders(text, self.look)
+            if record:
+                lists = "".join("\n" + "\0".join(names) for names in (included, self.looked, self.all))
+                files.replace(record, self.sum(included, self.looked) + lists, os.path.dirname(record))
+
+    def recorded(self, record):
+        """What the record has, where all is as it was; else None."""
+        lists = [text.split("\0") if text else [] for text in text_of(files.content(record) or b"").split("\n")]
+        is_known = len(lists) == 4 and lists[0] == [self.sum(*lists[1:3])]
+        return lists[3] if is_known else None
+
+    def sum(self, included, looked):
+        """The sum for the names that may be included, and the folders that are looked at."""
+        more = marked(dict.fromkeys(name for name in included if name not in self.seen))
+        below = ["/".join([folder, *sorted(one.name for one in self.look(folder)[0])]) for folder in looked]
+        names = "\0".join([*self.macros, "", *self.found, "", *more, "", *below])
+        found = 0
+        for part in (bytes_of(names), *self.found.values(), *more.values()):
+            found = binascii.crc32(part, binascii.crc32(b"%d\n" % len(part), found))
+        return f"{found:08x}"
+
+    def look(self, folder):
+        """The entries of a folder that are folders, and the names of its files."""
+        folder = folder.rstrip("/") or "/"
+        if folder not in self.looked:
+            self.looked[folder] = files.entries(folder)
+        return self.looked[folder]
+
+    def names(self, folder):
+        """The names of the files in a folder."""
+        return self.look(folder)[1]

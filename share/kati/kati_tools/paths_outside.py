@@ -1,7 +1,6 @@
 """How the folders outside this one are found that makefiles name: without expanding more than macros of one word. A
 folder more does no harm."""
 import functools
-import os
 import re
 from collections import Counter
 
@@ -10,7 +9,7 @@ from .programs import bytes_of, text_of
 
 ASSIGNMENT = re.compile(r"[ \t]*(?:override[ \t]+|export[ \t]+)*([^\s:#=?+!$]+)[ \t]*(?::{0,3}|[?+!])=[ \t]*(.*)")
 # A line that is no recipe line, behind a line's end.
-LINE = re.compile(r"\n([^\t\n].*)")
+LINE = re.compile(rb"\n([^\t\n].*)")
 REFERENCE = re.compile(r"\$[({]([^\s:,$(){}]+)[^(){}]*[)}]")
 PLAIN = re.compile(r"\$[({]([^\s:,$(){}]+)[)}]")
 # A path outside stands behind a blank or another of these marks, and ends at one or before one of the ends. Each of the
@@ -24,18 +23,18 @@ UP, BELOW = rb"(?:/(?:[^ \t]*/)?|(?=[ \t]))", rb"(?:[^ \t]*/)?"
 KINDS = ((b"..", UP), (b"/", BELOW), (b"./", rb"/*(?:\./+)*\.\." + UP))
 # So many folders that are known already are passed over in the form itself, which takes a third of the time.
 MOST_PASSED = 8
-RECIPE = re.compile(";.*")
+RECIPE = re.compile(b";.*")
 # These hold no sources, and change all the time.
 NEVER = ("/dev/", "/proc/", "/sys/")
 MOST_LEVELS = 10
 
 
-def pieces(text):
-    """A text in pieces that end with a line, of which one at a time takes memory."""
+def pieces(data):
+    """Bytes in pieces that end with a line, of which one at a time takes memory."""
     at = 0
-    while at < len(text):
-        end = text.find("\n", at + files.PIECE) + 1 or len(text)
-        yield text[at:end]
+    while at < len(data):
+        end = data.find(b"\n", at + files.PIECE) + 1 or len(data)
+        yield data[at:end]
         at = end
 
 
@@ -48,13 +47,17 @@ class Text:
         self.values = {name: [value] for name, value in self.given.items()}
         self.plain, self.others = [], []
 
-    def add(self, text):
-        """Takes in a makefile."""
+    def add(self, data):
+        """Takes in a makefile, as bytes."""
         others = []
-        for piece in pieces(includes.without_continuations(text)):
-            # All others are put aside.
-            self.plain.append("\n".join([line for line in LINE.findall("\n" + piece)
-                                         if "=" not in line and "$" not in line or others.append(line)]))
+        for piece in pieces(bytes_of(includes.without_continuations(text_of(data))) if b"\\" in data else data):
+            lines = LINE.findall(b"\n" + piece)
+            joined = b"\n".join(lines)
+            if b"=" in joined or b"$" in joined:
+                # All others are put aside.
+                joined = b"\n".join([line for line in lines if b"=" not in line and b"$" not in line
+                                     or others.append(text_of(line))])
+            self.plain.append(joined)
         for line in others:
             found = ASSIGNMENT.match(line)
             if found and found.group(1) not in self.given:
@@ -92,11 +95,11 @@ class Text:
         return {self.expanded(line, number) for line in lines for number in range(count)}
 
     def with_paths(self):
-        """The text in which the paths of rules stand, with a line's end before it and behind it."""
+        """The even text in which the paths of rules stand."""
         lines = self.of_rules()
         expanded = self.expansions([line for line in lines if "$" in line])
-        text = "\n".join(["", *self.plain, *(line for line in lines if "$" not in line), *expanded, ""])
-        return RECIPE.sub("", text) if ";" in text else text
+        others = "\n".join([*(line for line in lines if "$" not in line), *expanded])
+        return even(b"\n".join([b"", *self.plain, EQUALS.sub(b"= ", bytes_of(others)), b""]))
 
     def included(self):
         """The names of includes that macros give."""
@@ -104,11 +107,10 @@ class Text:
         return includes.named_in("\n".join(self.expansions(lines)))
 
 
-def even(text):
-    """A text, with a line's end before it and behind it, as bytes in which a path outside stands behind a blank, and a
-    blank or a tab behind it."""
-    data = bytes_of(text)
-    return (EQUALS.sub(b"= ", data) if "=" in text else data).translate(EVEN)
+def even(data):
+    """A text, with a line's end before it and behind it, as one in which a path outside stands behind a blank, and a
+    blank or a tab behind it, without recipes."""
+    return (RECIPE.sub(b"", data) if b";" in data else data).translate(EVEN)
 
 
 def form(begin, rest, known):
@@ -132,28 +134,22 @@ def folders_in(data):
     return set(map(text_of, found))
 
 
-class Folders:
-    """The folders that the paths of a text mean, or in which their files stand, but for those that hold no sources;
-    each is looked at once."""
+class Paths:
+    """The paths of an even text."""
 
     def __init__(self, text):
-        self.text, self.looked, found = even(text), {}, set()
-        for folder in folders_in(self.text):
-            if not folder.startswith(NEVER):
-                found.update(self.named(folder) if folder.endswith("/") else [folder])
-        plain = {folder.rstrip("/") for folder in found}
-        self.all = sorted(folder for folder in plain if folder and not f"{folder}/".startswith(NEVER))
+        self.text = text
 
-    def named(self, folder):
-        """Of a folder those below it that are named themselves, and itself where something else in it is."""
-        below = [one.name for one in self.look(folder)[0]]
+    def named(self, folder, below):
+        """Of a folder those of the names below it that are named themselves, and itself where something else in it
+        is."""
         if not below and bytes_of(f"{folder}..") not in self.text:
             return [folder]
-        named = [folder + name for name in ("..", *below) if folder + name in self.paths]
+        named = [folder + name for name in ("..", *below) if folder + name in self.all]
         return named if self.counts[folder] == len(named) else [folder, *named]
 
     @functools.cached_property
-    def paths(self):
+    def all(self):
         """The words that may be paths, which takes as long to find as the folders, and mostly isn't needed."""
         words = {word.partition(b"\t")[0] for word in set(self.text.split(b" "))}
         return {text_of(word) for word in words if b"/" in word or b".." in word}
@@ -161,28 +157,30 @@ class Folders:
     @functools.cached_property
     def counts(self):
         """How many of them are in each folder."""
-        return Counter(path[:path.rfind("/") + 1] for path in self.paths)
+        return Counter(path[:path.rfind("/") + 1] for path in self.all)
 
-    def look(self, folder):
-        """The entries of a folder that are folders, and the names of its files."""
-        folder = folder.rstrip("/") or "/"
-        if folder not in self.looked:
-            self.looked[folder] = files.entries(folder)
-        return self.looked[folder]
 
-    def names(self, folder):
-        """The names of the files in a folder."""
-        return self.look(folder)[1]
+def folders(text, look):
+    """The folders that the paths of an even text mean, or in which their files stand, but for those that hold no
+    sources; `look` answers the folders in one, and its files."""
+    paths, found = Paths(text), set()
+    for folder in folders_in(text):
+        if not folder.startswith(NEVER):
+            is_open = folder.endswith("/")
+            found.update(paths.named(folder, [one.name for one in look(folder)[0]]) if is_open else [folder])
+    plain = {folder.rstrip("/") for folder in found}
+    return sorted(folder for folder in plain if folder and not f"{folder}/".startswith(NEVER))
 
 
 def text_of_makefiles(marked, seen, macros):
-    """The text in which the paths of rules stand: of makefiles, given as bytes by their names, and of what they include
-    by the value of a macro, but for what is seen already."""
-    text, seen = Text(macros), set(seen)
+    """The even text in which the paths of rules stand: of makefiles, given as bytes by their names, and of what they
+    include by the value of a macro, but for what is seen already; and all names that these values give."""
+    text, seen, included = Text(macros), set(seen), {}
     while marked:
         for data in marked.values():
-            text.add(text_of(data))
-        left = dict.fromkeys(name for name in text.included() if name not in seen and os.path.isfile(name))
+            text.add(data)
+        included.update(dict.fromkeys(text.included()))
+        left = [name for name in included if name not in seen]
         seen.update(left)
-        marked = outside.marked(left)
-    return text.with_paths()
+        marked = outside.marked(dict.fromkeys(left))
+    return text.with_paths(), included

@@ -143,6 +143,7 @@ class Lister:
     def __init__(self, source, output=None, room=None, makefile=None, macros=()):
         self.here, self.is_walked = here(source, output, room), source in WALKED
         self.makefile, self.macros = makefile, macros
+        self.record = room and os.path.join(room, outside.RECORD)
         self.marked, self.last = {}, self.here
 
     def listing(self, makefiles=None):
@@ -156,6 +157,6 @@ class Lister:
             makefiles = dict.fromkeys(includes.asked([self.makefile], self.here.names))
         marked = outside.marked(makefiles)
         if marked != self.marked:
-            folders = outside.folders(marked, set(makefiles), self.macros) if marked else None
+            folders = outside.Folders(marked, makefiles, self.macros, self.record) if marked else None
             self.marked, self.last = marked, self.here.with_folders(folders) if marked else self.here
         return self.last
