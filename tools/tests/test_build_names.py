@@ -37,7 +37,7 @@ class Names(Tree):
         return f"    {name}\n" in self.read("build.ninja").replace(" $\n", "\n")
 
     def listed(self):
-        return self.read("build.kati/files.txt").split()
+        return sorted(self.read("build.kati/files.txt").split())
 
     def test_one_run_is_enough(self):
         self.write(Makefile="N = a\ninclude $(N).mk\n-include b.mk\nall: $(X) ; echo > all\n", a_mk="A = 1\n", x_c="")

@@ -69,7 +69,7 @@ class Outside(Tree):
     def test_only_what_rules_name_is_listed(self):
         self.lay(UNNAMED)
         self.assertEqual(self.run_there("kati-build", "--no-ninja").status, 0)
-        self.assertEqual(self.read("prog/build.kati/files.txt"), "Makefile\na.c\n")
+        self.assertEqual(sorted(self.read("prog/build.kati/files.txt").splitlines(True)), ["Makefile\n", "a.c\n"])
 
     def test_what_comes_and_goes_there_is_seen(self):
         self.lay("a.o:\n%.o: ../new/%.c\n\tcp ../new/a.c $@\n%.o: %.c ../inc/h.h\n\techo old > $@\n")
