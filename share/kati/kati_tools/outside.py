@@ -30,12 +30,19 @@ def marked(makefiles):
     return {name: data for name, data in read.items() if has_marks(data)}
 
 
+def sum_of(parts):
+    """A sum of bytes, which are given in parts."""
+    found = 0
+    for part in parts:
+        found = binascii.crc32(part, binascii.crc32(b"%d\n" % len(part), found))
+    return f"{found:08x}"
+
+
 class Folders:
     """The folders outside this one that makefiles name, as they spell them; each is looked at once. `found` are the
     makefiles that are `marked`, `seen` has the names of all, and `macros` are those of the command line.
 
-    The file `record` has what was found before, by a sum of all that it hangs on: the makefiles and macros, what may be
-    included by the value of a macro, and which folders are in those that were looked at."""
+    The file `record` has what was found before, by sums of all that it hangs on."""
 
     def __init__(self, found, seen, macros=(), record=None):
         self.found, self.seen, self.macros, self.looked = found, seen, macros, {}
@@ -45,24 +52,27 @@ class Folders:
             text, included = paths_outside.text_of_makefiles(found, seen, macros)
             self.all = paths_outside.folders(text, self.look)
             if record:
-                lists = "".join("\n" + "\0".join(names) for names in (included, self.looked, self.all))
-                files.replace(record, self.sum(included, self.looked) + lists, os.path.dirname(record))
+                lists = [self.sum_of_texts(included), self.sum_of_folders(self.looked)], included, self.looked, self.all
+                files.replace(record, "\n".join(map("\0".join, lists)), os.path.dirname(record))
 
     def recorded(self, record):
         """What the record has, where all is as it was; else None."""
         lists = [text.split("\0") if text else [] for text in text_of(files.content(record) or b"").split("\n")]
-        is_known = len(lists) == 4 and lists[0] == [self.sum(*lists[1:3])]
-        return lists[3] if is_known else None
+        if len(lists) != 4 or lists[0][:1] != [self.sum_of_texts(lists[1])]:
+            return None
+        # By the same texts the same folders are looked at.
+        return lists[3] if lists[0][1:] == [self.sum_of_folders(lists[2])] else None
 
-    def sum(self, included, looked):
-        """The sum for the names that may be included, and the folders that are looked at."""
+    def sum_of_texts(self, included):
+        """A sum of the makefiles and macros; `included` are the names that macros give to includes."""
         more = marked(dict.fromkeys(name for name in included if name not in self.seen))
+        names = "\0".join([*self.macros, "", *self.found, "", *more])
+        return sum_of([bytes_of(names), *self.found.values(), *more.values()])
+
+    def sum_of_folders(self, looked):
+        """A sum of the names of the folders that are in these."""
         below = ["/".join([folder, *sorted(one.name for one in self.look(folder)[0])]) for folder in looked]
-        names = "\0".join([*self.macros, "", *self.found, "", *more, "", *below])
-        found = 0
-        for part in (bytes_of(names), *self.found.values(), *more.values()):
-            found = binascii.crc32(part, binascii.crc32(b"%d\n" % len(part), found))
-        return f"{found:08x}"
+        return sum_of([bytes_of("\0".join(below))])
 
     def look(self, folder):
         """The entries of a folder that are folders, and the names of its files."""
