@@ -114,7 +114,7 @@ def from_git(skipped):
     others = [name for name in others
               if (os.path.dirname(name) or ".") in inside and os.path.basename(name) not in OWN]
     rules = [name for name in tracked + others if os.path.basename(name) == ".gitignore"]
-    return list({*tracked, *others}), tracked, folders, rules
+    return list(dict.fromkeys([*tracked, *others])), tracked, folders, rules
 
 
 def from_file(path):
