@@ -65,6 +65,37 @@ class Building(Tree):
             self.ninja()
             self.assertEqual(self.read("out"), text)
 
+    def test_a_file_that_commands_in_loops_and_macros_name(self):
+        self.put("Makefile", "get = $(shell cat $(1).txt)\nX := $(foreach f,a b,$(shell cat $f.txt))\n"
+                             "all: out\nout: ; echo $X $(call get,c) $(firstword $(shell cat $@.txt)) > $@\n")
+        for name in ("a", "b", "c", "out"):
+            self.put(f"{name}.txt", f"{name}\n")
+        self.build()
+        for name, text in (("a", "1 b c out\n"), ("c", "1 b 1 out\n"), ("out", "1 b 1 1\n")):
+            self.put(f"{name}.txt", "1\n")
+            self.ninja()
+            self.assertEqual(self.read("out"), text)
+        self.assertIn("no work to do", self.ninja())
+
+    def test_a_file_that_a_command_names_and_the_build_makes(self):
+        self.put("Makefile", "all: v.h\nv.h: $(if $(wildcard v.h),$(if $(findstring 1,$(shell cat v.h)),,force))\n"
+                             "v.h: ; echo 1 > $@\n.PHONY: force\nforce:\n")
+        self.build()
+        self.ninja()
+        self.assertIn("no work to do", self.ninja())
+        self.put("v.h", "2\n")
+        self.ninja()
+        self.assertEqual(self.read("v.h"), "1\n")
+
+    def test_the_file_that_a_command_names_where_it_stands(self):
+        self.put("Makefile", "F := a.txt\nN := $(shell cat $(F))\nF := b.txt\nall: ; echo $(N) > out\n")
+        self.put("a.txt", "1\n")
+        self.put("b.txt", "b\n")
+        self.build()
+        self.put("a.txt", "2\n")
+        self.ninja()
+        self.assertEqual(self.read("out"), "2\n")
+
     def test_a_changed_include_is_ported_again(self):
         self.build()
         self.ninja()

@@ -41,8 +41,8 @@ class Freezer:
     def __init__(self, port):
         self.port = port
         # The values that are calls by themselves, by their calls; those calls of which all values in a table can be
-        # found again; and the values that no probe told.
-        self.alone, self.in_tables, self.untold = {}, set(), set()
+        # found again; the values that no probe told; and the calls in each value.
+        self.alone, self.in_tables, self.untold, self.calls_in = {}, set(), set(), {}
 
     def picked(self, call):
         """The innermost reference round a call, itself included, that has one value, the value, and whether a probe
@@ -72,6 +72,7 @@ class Freezer:
                 (start, end), value, is_told = found
                 name = self.named(line, joined(line.text[start:end]), value, is_told)
                 self.alone.update({call: name} if (start, end) == call.chain[0] else {})
+                self.calls_in.setdefault(name, []).append(call)
                 edits[start, end] = f"$({name})"
             elif not self.by_shell(call, edits) and not self.by_table(call, edits):
                 return False
@@ -111,7 +112,7 @@ class Freezer:
                  for found in [frozen_values.WILDCARD.fullmatch(one.source)] if found}
         asked = set()
         for call in set(self.port.probes.patterns) - self.in_tables:
-            found = self.port.probes.asked_of(call)
+            found = set(self.port.probes.asked_of(call))
             if any(one.split() != plain.get(self.alone.get(call)) for one in found):
                 asked |= found
         return asked, any("wildcard" in values[name].makes and name not in plain for name in self.untold)
@@ -144,6 +145,7 @@ class Freezer:
         value.sources = {f"{name}_{one}": f"$(wildcard {pattern})" for one, pattern in patterns.items() if one in table}
         if set(patterns) == set(table):
             self.in_tables.add(call)
+        self.calls_in[name] = [call]
         edits[span] = f"$({name})"
         return True
 
@@ -154,8 +156,18 @@ class Freezer:
         told = iter(self.port.run.values([one for one in arguments if one is not None]))
         for one, argument in zip(values, arguments):
             asked = None if argument is None else next(told)
-            if asked is not None:
-                self.settle(one, asked.strip())
+            commands = self.commands_of(one)
+            if asked is None:
+                one.source = frozen_values.with_sums(one.source, frozen_values.files_of_commands(commands))
+            else:
+                # What a macro was where make asked counts, not what it is at the end.
+                self.settle(one, commands[0] if len(commands) == 1 else asked.strip())
+
+    def commands_of(self, value):
+        """The commands which a value comes from, as far as make was seen to run them."""
+        calls = self.calls_in.get(value.name, [])
+        commands = dict.fromkeys(one.strip() for call in calls for one in self.port.probes.commands_behind(call))
+        return [command for command in commands if "\n" not in command]
 
     def settle(self, value, asked):
         """The same for one value, of which the call's argument expands to `asked`."""
@@ -167,8 +179,7 @@ class Freezer:
             return
         named = frozen_values.files_of_command(asked)
         if named and "\n" not in asked:
-            sums = ", ".join(f"{name} {frozen_values.sum_of(name)}" for name in named)
-            value.source = f"$(shell {asked}) reads {sums}"
+            value.source = frozen_values.with_sums(f"$(shell {asked})", named)
 
 
 def frozen_argument(text):

@@ -4,7 +4,8 @@ Each value of kati's stands below a comment that says where it came from, so tha
 
 - `# $(wildcard src/*.c)`: the files that fit, which the tools find by themselves;
 - `# names: src/*.c main.o`: names of a rule, patterns among them, the same;
-- `# $(shell cat version.txt) reads version.txt 1c291ca3`: what make was told while a file had this sum;
+- `# $(shell cat version.txt) reads version.txt 1c291ca3`: what make was told while a file had this sum, or `none` where
+  it wasn't there; so too of a loop or a macro that runs such commands;
 - `# $(shell uname)`, and all else: what make was told when the file was written."""
 import glob
 import hashlib
@@ -18,7 +19,9 @@ NAME = translating.VALUES
 TITLE = "# Written by kati-port, anew by kati-port --values: what make asks the machine for, and what it was told.\n"
 RUN, NAMES = "tells of the run", "names: "
 HIDING = f"MAKEFILE_LIST := $(filter-out {NAME},$(MAKEFILE_LIST))"
-READS = re.compile(r"# \$\(shell .* reads (.*)")
+READS = re.compile(r"# .* reads (\S+ (?:none|[0-9a-f]{8})(?:, \S+ (?:none|[0-9a-f]{8}))*)$", re.MULTILINE)
+# A word of a command that names a file, though none is there.
+ABSENT = re.compile(r"(?:[\w+@.-]+/)*(?:[\w+@][\w+@.-]*|)\.[A-Za-z][\w-]*")
 ENTRY = re.compile(r"# (.*)\n(\S+) (:?=) ?(.*)\n")
 # A file that a command names by its whole path counts up to so many bytes.
 MOST = 2**20
@@ -52,10 +55,13 @@ def sum_of(name):
 
 def counts(word):
     """Whether a word of a command names a file or a folder that its value may hang on: not this folder itself, which a
-    build changes, nor by a whole path what is large or no plain file, as programs and devices."""
+    build changes, nor by a whole path what is large or no plain file, as programs and devices. A file may be absent
+    now, as one that the build makes."""
     if os.path.isabs(word) and not word.startswith(os.getcwd() + os.sep):
         return os.path.isfile(word) and os.path.getsize(word) <= MOST
-    return os.path.exists(word) and os.path.relpath(word).strip("./") != ""
+    if not os.path.exists(word):
+        return ABSENT.fullmatch(word) is not None and os.path.isdir(os.path.dirname(word) or ".")
+    return os.path.relpath(word).strip("./") != ""
 
 
 def files_of_command(command):
@@ -65,6 +71,17 @@ def files_of_command(command):
     if "git" in words:
         found += [name for name in (".git/HEAD", ".git/packed-refs") if os.path.isfile(name)]
     return found
+
+
+def files_of_commands(commands):
+    """The same for several commands, each file once."""
+    return list(dict.fromkeys(name for command in commands for name in files_of_command(command)))
+
+
+def with_sums(source, names):
+    """A source that says what these files are now."""
+    sums = ", ".join(f"{name} {sum_of(name)}" for name in names)
+    return f"{source} reads {sums}" if names else source
 
 
 def is_this_file(name):
@@ -169,13 +186,17 @@ def renewed(text):
 
 def stale(text):
     """The files that commands of the values name and that aren't what they were."""
-    pairs = [pair.rsplit(" ", 1) for line in READS.findall(text) for pair in line.split(", ")]
-    return [name for name, was in pairs if sum_of(name) != was]
+    return [name for name, was in read_with_sums(text) if sum_of(name) != was]
 
 
 def read_by(text):
     """The files that commands of the values name."""
-    return [pair.rsplit(" ", 1)[0] for line in READS.findall(text) for pair in line.split(", ")]
+    return [name for name, _ in read_with_sums(text)]
+
+
+def read_with_sums(text):
+    """The same, each with the sum that it had."""
+    return [pair.split(" ") for line in READS.findall(text) for pair in line.split(", ")]
 
 
 def folders_of(text):

@@ -15,8 +15,10 @@ CALL = re.compile(r"\$[({]call[ \t]+([^,(){}$ \t]+)[ \t]*,")
 EVAL = re.compile(r"\$[({]eval[ \t]")
 FOREACH = re.compile(r"\$[({]foreach[ \t]+([^,]+),")
 WILDCARD = re.compile(r"\$[({]wildcard[ \t]+")
-# The numbers of probes of patterns begin here.
-FIRST_PATTERN = 1_000_000
+SHELL = re.compile(r"\$[({]shell[ \t]+")
+# The numbers of probes of what a call is asked for begin here, by what finds such calls; with the function that hands
+# the text on, which takes commas as they are, and in a command blanks too.
+ASKED = ((WILDCARD, 1_000_000, "$(strip "), (SHELL, 2_000_000, "$(subst ,,"))
 # A probe tells its number, what the value depends on, and the value.
 PROBE = f"kati_probe = $(info {ANSWER}$1 $3|$2{END})$2\n"
 
@@ -110,7 +112,7 @@ class Probes:
 
     def __init__(self, ported):
         refused = refused_macros(ported)
-        self.calls, self.numbers, self.values, self.patterns = {}, {}, {}, {}
+        self.calls, self.numbers, self.values = {}, {}, {}
         for line in (line for file in ported for line in file.lines):
             found = [] if line.joined.lstrip().startswith("#") else calls_in(line, lambda text: kind_of(text, refused))
             if found:
@@ -118,9 +120,10 @@ class Probes:
             for call in found:
                 for span in call.chain:
                     self.numbers.setdefault((line, *span), len(self.numbers))
-        # What each wildcard is asked for is told as well, by numbers of their own.
-        wildcards = [call for calls in self.calls.values() for call in calls if WILDCARD.match(call.text())]
-        self.patterns = {call: FIRST_PATTERN + number for number, call in enumerate(wildcards)}
+        # What each call of `wildcard` and `shell` is asked for is told as well, by numbers of their own.
+        all_calls = [call for calls in self.calls.values() for call in calls]
+        self.patterns, self.commands = ({call: first + number for number, call in enumerate(
+            one for one in all_calls if form.match(one.text()))} for form, first, _ in ASKED)
 
     def of(self, line):
         """The refused calls of a line."""
@@ -132,8 +135,16 @@ class Probes:
         return [tuple(one.split("|", 1)) for one in found]
 
     def asked_of(self, call):
-        """The patterns that a wildcard was asked for, each once."""
-        return {one.split("|", 1)[1] for one in self.values.get(self.patterns[call], [])}
+        """The patterns that a wildcard, or the commands that a shell, was asked for, each once."""
+        number = self.patterns.get(call) or self.commands.get(call)
+        return dict.fromkeys(one.split("|", 1)[1] for one in self.values.get(number, []))
+
+    def commands_behind(self, call):
+        """The commands that a call runs, be it one of a macro that runs them."""
+        if call in self.commands:
+            return self.asked_of(call)
+        called = [one for one in self.commands if is_in(NUMBERED, one.text())] if CALL.match(call.text()) else []
+        return dict.fromkeys(command for one in called for command in self.asked_of(one))
 
     def asked_by(self, call):
         """The pattern that a wildcard was asked for, by what it depends on; none where that doesn't settle it."""
@@ -166,17 +177,22 @@ class Probes:
                 # first.
                 marks.setdefault(span[1], []).append((0, -span[0], f",{key_of(line, span)})"))
                 marks.setdefault(span[0], []).append((1, -span[1], f"$(call kati_probe,{number},"))
-        for call in (call for call in self.of(line) if call in self.patterns):
-            # `strip` takes commas as they are.
-            start, end = call.chain[0]
-            first = start + WILDCARD.match(call.text()).end()
-            marks.setdefault(first, []).append((1, 0, f"$(call kati_probe,{self.patterns[call]},$(strip "))
-            marks.setdefault(end - 1, []).append((0, 0, f"),{key_of(line, call.chain[0])})"))
+        for call in self.of(line):
+            self.mark_asked(call, marks)
         text, last = "", 0
         for at in sorted(marks):
             text += line.text[last:at] + "".join(mark for _, _, mark in sorted(marks[at]))
             last = at
         return text + line.text[last:]
+
+    def mark_asked(self, call, marks):
+        """Adds a probe of what a call is asked for."""
+        for numbers, (form, _, function) in zip((self.patterns, self.commands), ASKED):
+            if call in numbers:
+                start, end = call.chain[0]
+                first = start + form.match(call.text()).end()
+                marks.setdefault(first, []).append((1, 0, f"$(call kati_probe,{numbers[call]},{function}"))
+                marks.setdefault(end - 1, []).append((0, 0, f"),{key_of(call.line, call.chain[0])})"))
 
     def asked_again(self, line):
         """A line that assigns by `!=`, with a probe round its command; None for another line."""

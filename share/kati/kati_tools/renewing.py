@@ -61,10 +61,10 @@ def renew_table(one, table, count):
 
 def with_sums(source):
     """A source with the sums that its files have now."""
-    found = re.fullmatch(r"(\$\(shell (.*)\)) reads .*", source)
-    if not found:
+    found = re.fullmatch(r"(.*) reads .*", source)
+    if not found or not frozen_values.read_by(f"# {source}"):
         return source
-    names = frozen_values.files_of_command(found.group(2))
-    sums = ", ".join(f"{name} {frozen_values.sum_of(name)}" for name in names)
-    return f"{found.group(1)} reads {sums}" if names else found.group(1)
-
+    command = re.fullmatch(r"\$\(shell (.*)\)", found.group(1))
+    names = frozen_values.read_by(f"# {source}")
+    return frozen_values.with_sums(found.group(1),
+                                   frozen_values.files_of_command(command.group(1)) if command else names)
