@@ -5,6 +5,7 @@ from . import frozen_values, makefile_text, scanning
 from .make_probes import AUTOMATIC, EVAL, NUMBERED, bound_names, is_in, key_of
 
 DOUBLED = re.compile(r"(?<!\$)\$\$[({](shell|wildcard)[ \t]")
+PLAIN = re.compile(r"\$[({](\w+)[)}]")
 SHELL_CALL = re.compile(r"\$[({]shell[ \t]+(.*)[)}]$", re.DOTALL)
 WILDCARD_CALL = re.compile(r"\$[({]wildcard[ \t]+(.*)[)}]$", re.DOTALL)
 
@@ -30,7 +31,7 @@ def wanted_name(line, text):
     """The name that a macro for a part of a line is to have."""
     name = re.sub(r"[-.]+", "_", (line.assignment() or ("",))[0]).strip("_")
     if not re.fullmatch(r"\w+", name):
-        function = scanning.FUNCTION.match(text)
+        function = scanning.FUNCTION.match(text) or PLAIN.fullmatch(text)
         name = function.group(1) if function else "value"
     return f"V_{name}"
 

@@ -12,6 +12,7 @@ NUMBERED = re.compile(r"\$(?:[0-9]|\([0-9]+\)|\{[0-9]+\})")
 AUTOMATIC = re.compile(r"\$(?:[@<^+?*|%]|[({][@<^+?*|%][DF]?[)}])")
 OF_MAKEFILES = ("$(MAKEFILE_LIST)", "${MAKEFILE_LIST}")
 CALL = re.compile(r"\$[({]call[ \t]+([^,(){}$ \t]+)[ \t]*,")
+REFERENCE = re.compile(r"\$[({]([^,(){}$ \t:]+)(?::[^(){}]*)?[)}]")
 EVAL = re.compile(r"\$[({]eval[ \t]")
 FOREACH = re.compile(r"\$[({]foreach[ \t]+([^,]+),")
 WILDCARD = re.compile(r"\$[({]wildcard[ \t]+")
@@ -96,25 +97,28 @@ def refused_macros(ported):
     return found
 
 
-def kind_of(reference, refused):
+def kind_of(reference, refused, unsettled=()):
     """The kind of a reference that kati refuses or that is empty for it; None of another one."""
     if reference in OF_MAKEFILES:
         return "MAKEFILE_LIST"
     function = FUNCTION.match(reference)
     if function:
         return function.group(1)
-    called = CALL.match(reference)
+    called, plain = CALL.match(reference), REFERENCE.fullmatch(reference)
+    if plain and plain.group(1) in unsettled:
+        return unsettled[plain.group(1)]
     return refused.get(called.group(1)) if called else None
 
 
 class Probes:
-    """The calls of makefiles, by their lines, and the values that make told of them."""
+    """The calls of makefiles, by their lines, and the values that make told of them. References to the macros
+    `unsettled`, which have the kinds of the calls in them, count as such calls."""
 
-    def __init__(self, ported):
-        refused = refused_macros(ported)
+    def __init__(self, ported, unsettled=None):
+        refused, self.unsettled = refused_macros(ported), unsettled or {}
         self.calls, self.numbers, self.values = {}, {}, {}
         for line in (line for file in ported for line in file.lines):
-            found = [] if line.joined.lstrip().startswith("#") else calls_in(line, lambda text: kind_of(text, refused))
+            found = [] if line.joined.lstrip().startswith("#") else self.calls_of(line, refused)
             if found:
                 self.calls[line] = found
             for call in found:
@@ -124,6 +128,21 @@ class Probes:
         all_calls = [call for calls in self.calls.values() for call in calls]
         self.patterns, self.commands = ({call: first + number for number, call in enumerate(
             one for one in all_calls if form.match(one.text()))} for form, first, _ in ASKED)
+
+    def calls_of(self, line, refused):
+        """The calls in a line."""
+        return calls_in(line, lambda text: kind_of(text, refused, self.unsettled))
+
+    def still_unsettled(self, ported):
+        """The macros of which a call has several values, as one that asks by another macro which changes meanwhile;
+        with those that were so before."""
+        found = dict(self.unsettled)
+        for name, line in (one for file in ported for one in file.definitions() if "$" not in one[0]):
+            for call in self.of(line):
+                counts = [len(self.told(line, span)) for span in call.chain]
+                if max(counts) > 1 and 1 not in counts and not is_in(NUMBERED, line.text):
+                    found.setdefault(name, call.kind)
+        return found
 
     def of(self, line):
         """The refused calls of a line."""
@@ -140,10 +159,11 @@ class Probes:
         return dict.fromkeys(one.split("|", 1)[1] for one in self.values.get(number, []))
 
     def commands_behind(self, call):
-        """The commands that a call runs, be it one of a macro that runs them."""
+        """The commands that a call runs; of a macro that runs them, rather too many."""
         if call in self.commands:
             return self.asked_of(call)
-        called = [one for one in self.commands if is_in(NUMBERED, one.text())] if CALL.match(call.text()) else []
+        is_plain = REFERENCE.fullmatch(call.text()) is not None
+        called = [one for one in self.commands if is_in(NUMBERED, one.text()) != is_plain and not one.line.is_tab]
         return dict.fromkeys(command for one in called for command in self.asked_of(one))
 
     def asked_by(self, call):

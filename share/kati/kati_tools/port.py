@@ -108,11 +108,21 @@ class Port:
         self.before = self.run.commands()
         if self.before[0]:
             raise Stuck(f"make itself ends with status {self.before[0]}: {last_line(self.before[2])}")
-        self.probes = make_probes.Probes(self.ported.values())
-        self.probes.ask(self.ported.values(), self.run, self.room)
+        self.probes = self.asked_probes()
         texts = [file.before for file in self.ported.values()]
         self.values.taken = "\n".join([*texts, files.read(frozen_values.NAME) or ""])
         self.ask_of_the_run(self.values.taken)
+
+    def asked_probes(self):
+        """The probes, of which make told the values. Where a macro has several, each reference to it gets a probe."""
+        ported, unsettled = list(self.ported.values()), {}
+        while True:
+            probes = make_probes.Probes(ported, unsettled)
+            probes.ask(ported, self.run, self.room)
+            more = probes.still_unsettled(ported)
+            if more == unsettled:
+                return probes
+            unsettled = more
 
     def sort_made(self, new):
         """Of the files that make made before anything: those that the makefiles need, and the dependencies, which
