@@ -333,7 +333,7 @@ class Again(Tree):
             self.assertTrue(value is None or self.read("out") == value)
             version = self.top.parent / "bin/version"
             version.write_text(version.read_text().replace("1", "2") if value else version.read_text())
-        self.assertIn("kati-build: kati-values.mk: 1 values are others\n", ran.said)
+        self.assertIn("kati-build: kati-values.mk: 1 value is another\n", ran.said)
 
     def test_other_tools_port_anew(self):
         self.put("Makefile", "V := $(shell version)\nout: src/a.c ; echo $(V) > out\n")
@@ -427,6 +427,18 @@ class Values(Tree):
         self.assertEqual(self.tool("kati-port", "--values").status, 0)
         self.assertEqual(self.tool("kati-build").status, 0)
         self.assertEqual((self.read("a"), self.read("b")), ("without\n", "with\n"))
+
+    def test_values_by_arguments_are_asked_for_again_once(self):
+        self.put("Makefile", "define prog\n$(1): ; echo $(shell cat $(1).txt) > $$@\nendef\nall: a b\n"
+                             "$(foreach p,a b,$(eval $(call prog,$(p))))\n")
+        for name in ("a", "b"):
+            self.put(f"{name}.txt", f"{name}\n")
+        self.assertEqual(self.tool("kati-port", "--write", "Makefile").status, 0)
+        self.assertEqual(self.tool("kati-build").status, 0)
+        self.put("a.txt", "1\n")
+        self.assertIn("kati-build: kati-values.mk: 1 value is another\n", self.tool("kati-build").all)
+        self.assertEqual((self.read("a"), self.read("b")), ("1\n", "b\n"))
+        self.assertNotIn("kati-values.mk", self.tool("kati-build").all)
 
     def test_a_second_port_keeps_the_values(self):
         text = self.read("Makefile")

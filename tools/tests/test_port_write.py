@@ -22,6 +22,10 @@ CONSTRUCTS = {
     "shell in a loop":
         ({"Makefile": "N := $(foreach n,a b,$(shell echo $(n)$(n)))\nall: ; echo $(N) > out\n"},
          ["V_N = $(foreach n,a b,$(shell echo $(n)$(n)))", "V_N := aa bb"]),
+    "shell in a macro that has several values":
+        ({"Makefile": "F = a\nT = $(shell echo $(F))\nU = x$(T)\nifneq (,$(findstring a,$(T)))\nX = 1\nendif\nF = b\n"
+                      "ifneq (,$(findstring b,$(U)))\nY = 2\nendif\nall: ; echo $(X) $(Y) ${T} $(T:b=c) > out\n"},
+         ["T = $(shell echo $(F))", "ifneq (,$(findstring a,$(V_T)))", "V_T = $(T)", "V_T := a"]),
     "shell in a macro that is called":
         ({"Makefile": "twice = $(shell echo $(1)$(1))\nN := $(call twice,a) $(call twice,b)\nall: ; echo $(N) > out\n"},
          ["V_N := aa", "V_N_2 := bb", "twice = $(shell echo $(1)$(1))"]),
@@ -259,6 +263,12 @@ class Writing(Tree):
         self.assertIn("- echo 1 ", said)
         self.assertIn("+ echo 1\n", said)
         self.assertIn("kati's commands differ: 1 of make's alone, 1 of kati's alone", said)
+
+    def test_how_makefiles_are_made_is_no_difference(self):
+        self.put_all({"Makefile": "C := $(CURDIR)/conf.mk\n-include $(C)\nall: $(C) ; echo $(V) > out\n"
+                                  "$(C): $(CURDIR)/conf.in conf.1 ; @cp $< $@\n%.1: ; @echo > $@\n"
+                                  "$(CURDIR)/conf.in: ; @echo V = 1 > $@\n"})
+        self.assertIn("kati's commands are make's", self.port().out)
 
     def test_commands_that_are_others_each_time(self):
         self.put_all({"Makefile": "D := $(shell date +%N)\nN := $(shell echo 1)\nall: ; echo $(D) > out; echo $(N)\n"

@@ -1,6 +1,7 @@
 """What a port did, a line a kind, and what it is worth: whether make's commands stayed, and whether kati's are
 make's."""
 import contextlib
+import os
 from collections import Counter
 
 from . import command_lists, comparing, scanning
@@ -77,6 +78,23 @@ def commands_of(statements):
     return [text.strip() for one in statements if one.command is not None for text in comparing.unwrapped(one.command)]
 
 
+def seen_from_here(name):
+    """A name as this folder has it, where it is a whole path."""
+    return os.path.relpath(name) if os.path.isabs(name) else name
+
+
+def remaking(statements, read):
+    """The statements that make makefiles which are read, and what those are made from."""
+    by_output = {seen_from_here(name): one for one in statements for name in one.outputs}
+    left, found = [name for name in by_output if name in read], {}
+    while left:
+        one = by_output.get(left.pop())
+        if one is not None and one.line not in found:
+            found[one.line] = one
+            left += map(seen_from_here, one.inputs)
+    return found.values()
+
+
 class Comparison:
     """make's commands before and after, and kati's, which may differ from them in blanks."""
 
@@ -85,7 +103,7 @@ class Comparison:
         makes = [line.replace(port.run.noop, port.shell) for line in self.after[1]]
         katis = commands_of(translation.statements)
         # What makes makefiles make does before, and may say nothing of.
-        remade = commands_of([one for one in translation.statements if set(one.outputs) & port.read])
+        remade = commands_of(remaking(translation.statements, port.read))
         katis = command_lists.alone(katis, command_lists.alone([*self.after[3], *remade], makes))
         found = command_lists.Compared(makes, comparing.besides([], translation.said), katis)
         self.makes, self.katis, self.has_other_blanks = found.makes, found.katis, bool(found.in_blanks)

@@ -30,7 +30,9 @@ def renew_entry(one, pairs, run, makes):
     if one.source == frozen_values.RUN:
         one.text = frozen_values.escaped(run.value(f"$({one.name})") or "")
     elif one.key():
-        return renew_table(one, dict(pairs), len(set(pairs)))
+        doubt = renew_table(one, dict(pairs), len(set(pairs)))
+        one.source = one.source if doubt else with_sums(one.source)
+        return doubt
     elif one.operator == "=":
         return None
     elif frozen_values.WILDCARD.fullmatch(one.source):

@@ -183,4 +183,5 @@ def renew_values(makefile, goals, macros):
         return [f"{frozen_values.NAME}: as before", *doubts]
     write_files({frozen_values.NAME: text})
     count = sum(line not in before.splitlines() for line in text.splitlines() if not line.startswith("# "))
-    return [f"{frozen_values.NAME}: {count} values are others", *doubts]
+    words_for_count = "1 value is another" if count == 1 else f"{count} values are others"
+    return [f"{frozen_values.NAME}: {words_for_count}", *doubts]
