@@ -127,6 +127,24 @@ class Building(Tree):
         self.put("Makefile", MAKEFILE)
         self.build()
 
+    def test_where_make_fails_it_is_not_kati_that_ended(self):
+        self.put("Makefile", "include config.mk\nall: ; echo $(shell echo)\n")
+        said = self.build(status=2)
+        self.assertIn("make itself ends with status 2: ", said)
+        self.assertIn("\nkati-build: make ended with status 2\n", said)
+        self.assertNotIn("configure", said)
+        self.put("configure", "")
+        self.assertIn("\nconfigure is here: run ./configure first, if that isn't done\n", self.build(status=2))
+
+    def test_a_fault_by_what_make_takes_tells_of_the_port(self):
+        ran = self.tool("kati-build")
+        self.assertEqual(ran.status, 2, ran.all)
+        self.assertIn("kati-build: kati ended with status 2\nkati-build: is it a makefile for GNU make? --port builds by",
+                      ran.said)
+        self.assertNotIn("--port", self.tool("kati-build", "--no-ninja").said)
+        self.put("Makefile", "$(error no)\n")
+        self.assertNotIn("--port", self.tool("kati-build").said)
+
     def test_a_stuck_port_leaves_nothing(self):
         self.put("Makefile", MAKEFILE + ".ONESHELL:\n")
         self.build(status=2)

@@ -1,5 +1,6 @@
 """The command kati-build: translates a makefile, keeps the translation up to date, and runs ninja."""
 import os
+import re
 import sys
 
 from . import files, insertions, ninja_text, one_at_a_time, own_files, top_file, translating, words
@@ -7,6 +8,8 @@ from .programs import UNFORESEEN, Stop, bytes_of, ending, find_asked, find_kati,
 
 TOOL = "kati-build"
 KATIS_FIRST_LINE = "# kati\n"
+# Faults by what GNU make takes, which --port knows what to do about.
+PORTED = re.compile(r"\[E(06|16|17|20|22|23)\]$", re.MULTILINE)
 
 ABOUT = """\
 Lists the sources, translates the makefile by kati, writes a Ninja file that has it translated again
@@ -46,8 +49,8 @@ which files are watched:
 
 any GNU makefile:
   --port does what kati-port --write does, with copies of the makefiles in build.kati/ported/, and
-  takes --builtin and --deps as given. It ports again when a makefile changes, or a file that a value comes
-  from; make is needed for that alone. Where kati's commands differ from make's, that is told.
+  takes --builtin and --deps as given. It ports again when a makefile changes, or a file that a value
+  comes from; make is needed for that alone. Where kati's commands differ from make's, that is told.
   What $(wildcard ..) gave is found again at each translation, here and in a kati-values.mk that
   kati-port --write wrote; what $(shell ..) gave is asked for again when a file or folder that the
   command names has changed. --values asks for all of them again, also for what can't be seen to have
@@ -235,7 +238,10 @@ class Build:
         found, listing = self.by_its_names()
         sys.stderr.buffer.write(bytes_of(found.said))
         if found.status:
-            self.say_kept(f"kati ended with status {found.status}")
+            self.say_kept(f"{found.whose} ended with status {found.status}")
+            if not (self.asked.port or self.asked.no_ninja) and PORTED.search(found.said):
+                say(TOOL, "is it a makefile for GNU make? --port builds by it as it is, and kati-port --write has kati "
+                          "take it")
             return found.status
         content = insertions.Content(found, self.asked.deps)
         is_new = self.is_new(content)

@@ -16,6 +16,8 @@ from .programs import Stop
 FAULT = re.compile(r"^(.*?)(?::(\d+))?: \*\*\* (.*) \[(E\d\d)\]$", re.MULTILINE)
 DEPENDENCIES = re.compile(r"\.(d|dep|deps|P|depend)$|(^|/)\.?(deps?|depends?|dependencies)(\.mk)?(/|$)")
 WRITES_DEPENDENCIES = re.compile(r"(?<![\w-])-MM?D\b")
+# What make says where a file isn't there that a configure would write.
+LACKS = re.compile(r"No rule to make target|No such file|No targets")
 # What tells of the run, and is asked for where a makefile names it.
 RUN = ("CURDIR", "MAKECMDGOALS", "MAKELEVEL", "MAKE_COMMAND", "MAKE_HOST", "HOME", "PATH", "PWD", "USER", "LOGNAME",
        "TMPDIR")
@@ -41,9 +43,23 @@ class Fault:
 class Stuck(Exception):
     """Ends a port: nothing is known that mends what kati says."""
 
+    # The program that has the fault.
+    whose = "kati"
+
     def __init__(self, words, fault=None):
         super().__init__(words)
         self.fault = fault
+
+
+class MakeFails(Stuck):
+    """Ends a port: make itself has a fault, perhaps for want of what is to be run before."""
+
+    whose = "make"
+
+    def __init__(self, status, said):
+        hint = translating.what_to_run() if LACKS.search(said) else None
+        super().__init__(f"make itself ends with status {status}: {last_line(said)}"
+                         + (f"\n{hint}, if that isn't done" if hint else ""))
 
 
 class Port:
@@ -98,7 +114,7 @@ class Port:
         before = self.copy.files()
         status, _, said = self.run.make_includes()
         if status:
-            raise Stuck(f"make itself ends with status {status}: {last_line(said)}")
+            raise MakeFails(status, said)
         told = self.run.value("$(MAKEFILE_LIST)")
         named = {os.path.normpath(os.path.relpath(name)) for name in (told or "").split()}
         self.read = named - {os.path.relpath(self.run.extra)}
@@ -107,7 +123,7 @@ class Port:
         self.sort_made(sorted(self.copy.files() - before))
         self.before = self.run.commands()
         if self.before[0]:
-            raise Stuck(f"make itself ends with status {self.before[0]}: {last_line(self.before[2])}")
+            raise MakeFails(self.before[0], self.before[2])
         self.probes = self.asked_probes()
         texts = [file.before for file in self.ported.values()]
         self.values.taken = "\n".join([*texts, files.read(frozen_values.NAME) or ""])

@@ -71,7 +71,7 @@ class Ported:
 
     def __init__(self, asked, room):
         self.asked, self.room, self.record = asked, room, Record(asked, room)
-        self.stuck, self.folder, self.is_new = None, None, False
+        self.stuck, self.whose, self.folder, self.is_new = None, None, None, False
 
     def bring_up(self):
         """Ports again where that is needed; else finds again what wildcards fit."""
@@ -99,7 +99,7 @@ class Ported:
                 try:
                     translation = made.rewrite()
                 except port.Stuck as stuck:
-                    self.stuck = copy.real_text(f"{stuck}\n")
+                    self.stuck, self.whose = copy.real_text(f"{stuck}\n"), stuck.whose
                     return
                 report = [copy.real_text(line) for line in told(made, translation)]
                 texts = {name: copy.real_text(text) for name, text in texts_of(made).items()}
@@ -215,7 +215,7 @@ class PortedTranslator(translating.Translator):
         if found is not None and found.status == 2 and self.ports_again():
             found = super().translate(listing, made, before)
         if self.ported.stuck is not None:
-            return translating.Translation(2, None, self.ported.stuck)
+            return translating.Translation(2, None, self.ported.stuck, whose=self.ported.whose)
         return self.with_includes(found, listing, before) if found.status == 0 else found
 
     def with_includes(self, found, listing, before):

@@ -12,8 +12,8 @@ ABOUT = """\
 With --write, rewrites a makefile and its includes until kati takes them; make does with them what
 it did before.
 
-Without it, tells everything in makefiles, and in the files that they include by a plain name, that kati refuses
-or that would silently mean something else: FILE:LINE, the form, the number of the fault
+Without it, tells everything in makefiles, and in the files that they include by a plain name, that
+kati refuses or that would silently mean something else: FILE:LINE, the form, the number of the fault
 (docs/LANGUAGE.md) and one line of advice. Then come a line that counts them, and the first fault of
 kati itself.
 

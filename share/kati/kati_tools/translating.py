@@ -46,6 +46,11 @@ def tell_of_other(tool, makefile):
                 break
 
 
+def what_to_run():
+    """What is to be run before make, where that is seen; else None."""
+    return next((f"{name} is here: {hint}" for name, hint in MAKERS[:2] if os.path.isfile(name)), None)
+
+
 def refuse_passing(makefile):
     """Stops at a makefile that can be read but once, as standard input: the tools read it several times."""
     is_there = makefile is not None and os.path.exists(makefile)
@@ -81,14 +86,15 @@ def word_of_goals(given):
 
 
 class Translation:
-    """What kati said: its status, the file that has its Ninja text, and its messages; with the names that were left out
-    of its list, and those that it asked for, None where that isn't told.
+    """What kati said, or make in its place: its status, the file that has its Ninja text, and its messages; with the
+    names that were left out of its list, and those that it asked for, None where that isn't told.
 
     The text takes long to read where it is large, so it is read where it is asked for first. That is to be before the
     next translation, which is written to the same file."""
 
-    def __init__(self, status, path, said, dropped=frozenset(), asked=None):
+    def __init__(self, status, path, said, dropped=frozenset(), asked=None, whose="kati"):
         self.status, self.path, self.said, self.dropped, self.asked = status, path, said, dropped, asked
+        self.whose = whose
 
     def pieces(self):
         """Its Ninja text, as bytes in pieces that end with a line."""
