@@ -59,7 +59,7 @@ CONSTRUCTS = {
         ({"Makefile": "S = s/*.c\nall: $(S)\n\techo $^ > out\n", "s/a.c": "", "s/b.c": ""},
          ["S = $(V_S)", "V_S = s/*.c"]),
     "MAKEFILE_LIST": ({"Makefile": "D := $(dir $(abspath $(lastword $(MAKEFILE_LIST))))\nall: ; echo $(D) > out\n"},
-                      ["MAKEFILE_LIST := $(filter-out kati-values.mk,$(MAKEFILE_LIST))"]),
+                      ["MAKEFILE_LIST := $(filter-out %kati-values.mk,$(MAKEFILE_LIST))"]),
     "MAKEFILE_LIST alone": ({"Makefile": "D := $(lastword $(MAKEFILE_LIST))\nall: ; echo $(D) > out\n"},
                             ["V_D := Makefile\n"]),
     "what tells of the run": ({"Makefile": "all: ; echo $(CURDIR) '$(MAKECMDGOALS)' $(HOME) > out\n"},
@@ -338,6 +338,21 @@ class Writing(Tree):
                       "other.mk": "include a.mk\nall: ; echo other $(A)\n"})
         self.port()
         self.assertEqual(self.run_in("make", "-n", "-f", "other.mk").out, "echo other 1\n")
+
+    def test_a_makefile_that_make_reads_in_another_folder(self):
+        for named in ("$(CURDIR)/Makefile", "../$(lastword $(MAKEFILE_LIST))"):
+            self.put_all({"Makefile": f"N := $(shell echo 1)\nF := {named}\nall: ; cd sub && $(MAKE) \\\n -f $(F) out\n"
+                                      "out: ; echo $(N) > out\n", "sub/x": ""})
+            wanted = self.built_by_make()
+            self.assertIn("kati's commands are make's", self.port().out)
+            text = self.read("Makefile")
+            self.assertEqual(self.built_by_make(), wanted)
+            self.assertEqual(self.port().out.split("\n", 1)[0], "Makefile: kati takes it as it is")
+            self.assertEqual(self.read("Makefile"), text)
+            self.assertEqual(self.tool("kati-port", "--values").out, "kati-values.mk: as before\n")
+            self.assertEqual(self.tool("kati-build", "--builtin").status, 0)
+            self.assertEqual(tree_of(self.top), wanted)
+            self.assertEqual(self.tool("kati-port", "Makefile").out.count("MAKEFILE_LIST"), 0)
 
     def test_the_rule_of_default(self):
         # Under -B make would make its makefile by such a rule.

@@ -18,7 +18,11 @@ from .programs import bytes_of
 NAME = translating.VALUES
 TITLE = "# Written by kati-port, anew by kati-port --values: what make asks the machine for, and what it was told.\n"
 RUN, NAMES = "tells of the run", "names: "
-HIDING = f"MAKEFILE_LIST := $(filter-out {NAME},$(MAKEFILE_LIST))"
+HIDING = f"MAKEFILE_LIST := $(filter-out %{NAME},$(MAKEFILE_LIST))"
+INCLUDE = f"include {NAME}"
+# The same for a makefile that make may read in another folder than its own.
+INCLUDE_ELSEWHERE = (ported_text.MAKES_ALONE, f"include $(dir $(lastword $(MAKEFILE_LIST))){NAME}", "else", INCLUDE,
+                     "endif")
 READS = re.compile(r"# .* reads (\S+ (?:none|[0-9a-f]{8})(?:, \S+ (?:none|[0-9a-f]{8}))*)$", re.MULTILINE)
 # A word of a command that names a file, though none is there.
 ABSENT = re.compile(r"(?:[\w+@.-]+/)*(?:[\w+@][\w+@.-]*|)\.[A-Za-z][\w-]*")
@@ -159,13 +163,13 @@ class Values:
         named = [one for one in self.all if f"$({one.name})" in text]
         return [ported_text.MAKES_ALONE, *(f"{one.name} = {one.makes}" for one in named), "endif"] if named else []
 
-    def text(self, run, hides_itself):
+    def text(self, run, hiding):
         """The text of the file; `run` has what tells of the run. Where makefiles ask for the list of makefiles, this
-        one isn't in it."""
+        one isn't in it, by the line `hiding`."""
         kept = self.kept.entries if self.kept else []
         lines = [ported_text.MAKES_ALONE, *(self.kept.makes_lines if self.kept else [])]
         lines += [f"{one.name} = {one.makes}" for one in self.all]
-        lines += [HIDING] if hides_itself and HIDING not in lines else []
+        lines += [hiding] if hiding and hiding not in lines else []
         lines += ["else", *(line for one in [*kept, *self.all] for line in one.lines())]
         told = {name: value for name, value in run.items() if name not in {one.name for one in kept}}
         lines += [line for name, value in told.items() for line in (f"# {RUN}", assigned(name, ":=", escaped(value)))]

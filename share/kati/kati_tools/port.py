@@ -18,6 +18,8 @@ DEPENDENCIES = re.compile(r"\.(d|dep|deps|P|depend)$|(^|/)\.?(deps?|depends?|dep
 WRITES_DEPENDENCIES = re.compile(r"(?<![\w-])-MM?D\b")
 # What make says where a file isn't there that a configure would write.
 LACKS = re.compile(r"No rule to make target|No such file|No targets")
+# An inner make that is given a makefile.
+INNER_MAKE = re.compile(r"\$[({]MAKE[)}].*[ \t](-f|--file|--makefile)\b", re.DOTALL)
 # What tells of the run, and is asked for where a makefile names it.
 RUN = ("CURDIR", "MAKECMDGOALS", "MAKELEVEL", "MAKE_COMMAND", "MAKE_HOST", "HOME", "PATH", "PWD", "USER", "LOGNAME",
        "TMPDIR")
@@ -161,7 +163,7 @@ class Port:
     def freeze_lists_of_makefiles(self):
         """Freezes what is made of the list of makefiles, which is empty for kati without a fault."""
         for line in self.lines():
-            calls = self.probes.of(line)
+            calls = [] if frozen_values.NAME in line.text else self.probes.of(line)
             if any(call.kind == "MAKEFILE_LIST" and self.probes.told(line, call.chain[0]) for call in calls):
                 self.freezer.line(line)
 
@@ -180,18 +182,35 @@ class Port:
     def save(self):
         """Writes the files as they are now."""
         main = self.ported[self.makefile]
-        asks_itself = any("MAKEFILE_LIST" in file.before for file in self.ported.values())
         main.tail = self.tail()
         has_values = bool(self.values.all or any(self.of_the_run.values()))
-        include = f"include {frozen_values.NAME}"
-        is_new = has_values and include not in main.before.split("\n", 1)[0]
-        main.head = [*([include] if is_new else []), *self.search.head()]
+        is_new = has_values and not main.before.startswith((frozen_values.INCLUDE, *self.head_elsewhere()))
+        include = self.head_elsewhere() if self.is_read_elsewhere() else [frozen_values.INCLUDE]
+        main.head = [*(include if is_new else []), *self.search.head()]
         if has_values:
-            files.replace(frozen_values.NAME, self.values.text(self.of_the_run, asks_itself), self.room)
+            files.replace(frozen_values.NAME, self.values.text(self.of_the_run, self.line_that_hides()), self.room)
         for file in self.ported.values():
             if file is not main and has_values and self.is_shared(file.name):
                 file.head = self.values.head(file.text())
             files.replace(file.name, file.text(), self.room)
+
+    @staticmethod
+    def head_elsewhere():
+        """How a makefile that make may read in another folder includes the values."""
+        return ["\n".join(frozen_values.INCLUDE_ELSEWHERE)]
+
+    @functools.lru_cache(None)
+    def is_read_elsewhere(self):
+        """Whether make may read the makefile in another folder, as one that looks for its own folder, or names itself
+        to an inner make."""
+        texts = [line.joined for line in self.lines() if frozen_values.NAME not in line.text]
+        return any("MAKEFILE_LIST" in text or INNER_MAKE.search(text) for text in texts)
+
+    def line_that_hides(self):
+        """The line that keeps the file of values out of the list of makefiles, where they ask for that; else None."""
+        if not any("MAKEFILE_LIST" in line.text for line in self.lines() if frozen_values.NAME not in line.text):
+            return None
+        return frozen_values.HIDING
 
     @functools.lru_cache(None)
     def is_shared(self, name):
