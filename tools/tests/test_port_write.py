@@ -267,7 +267,8 @@ class Writing(Tree):
     def test_how_makefiles_are_made_is_no_difference(self):
         self.put_all({"Makefile": "C := $(CURDIR)/conf.mk\n-include $(C)\nall: $(C) ; echo $(V) > out\n"
                                   "$(C): $(CURDIR)/conf.in conf.1 ; @cp $< $@\n%.1: ; @echo > $@\n"
-                                  "$(CURDIR)/conf.in: ; @echo V = 1 > $@\n"})
+                                  "$(CURDIR)/conf.in: ; @echo V = 1 > $@\n\t@mkdir -p .\nall: part\n"
+                                  "part: ; @mkdir -p .\n"})
         self.assertIn("kati's commands are make's", self.port().out)
 
     def test_commands_that_are_others_each_time(self):

@@ -104,7 +104,9 @@ class Comparison:
         katis = commands_of(translation.statements)
         # What makes makefiles make does before, and may say nothing of.
         remade = commands_of(remaking(translation.statements, port.read))
-        katis = command_lists.alone(katis, command_lists.alone([*self.after[3], *remade], makes))
+        more = command_lists.alone(katis, makes)
+        others = command_lists.alone(more, [*self.after[3], *remade])
+        katis = command_lists.alone(katis, command_lists.alone(more, others))
         found = command_lists.Compared(makes, comparing.besides([], translation.said), katis)
         self.makes, self.katis, self.has_other_blanks = found.makes, found.katis, bool(found.in_blanks)
         forms = (Counter(map(command_lists.without_quoted_blanks, lines)) for lines in (self.makes, self.katis))
