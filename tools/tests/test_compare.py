@@ -233,6 +233,15 @@ class Building(Tree):
         self.write(Makefile="all: ; echo\n")
         self.assertIn("no file came into being", self.compared(0))
 
+    def test_a_folder_that_was_built_is_built_again(self):
+        self.put("Makefile", "all: a b\na: x ; cat x > a; echo > a.d\nb: a ; cp a b\n")
+        self.put("x", "")
+        self.assertEqual(self.run_in("make").status, 0)
+        (self.top / "a.d").unlink()
+        before = self.made()
+        self.assertEqual(self.compared(0), "same: 2 commands\nsame: 3 files came into being\n")
+        self.assertEqual(self.made(), before)
+
     def test_the_folder_stays_as_it_is(self):
         self.copy_example()
         shutil.copy(self.top / "main.c", self.top / "prog")

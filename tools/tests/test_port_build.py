@@ -139,7 +139,7 @@ class Building(Tree):
     def test_a_fault_by_what_make_takes_tells_of_the_port(self):
         ran = self.tool("kati-build")
         self.assertEqual(ran.status, 2, ran.all)
-        self.assertIn("kati-build: kati ended with status 2\nkati-build: is it a makefile for GNU make? --port ", ran.said)
+        self.assertIn("kati-build: kati ended with status 2\nkati-build: is it a makefile for GNU make? ", ran.said)
         self.assertNotIn("--port", self.tool("kati-build", "--no-ninja").said)
         self.put("Makefile", "$(error no)\n")
         self.assertNotIn("--port", self.tool("kati-build").said)

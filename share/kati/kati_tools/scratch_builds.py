@@ -12,6 +12,8 @@ from .translating import default_makefile
 # What a compiler writes of the day of the build is the same in both.
 DAY = {"SOURCE_DATE_EPOCH": "0"}
 SHOWN = 20
+# A time before that of any file, in seconds.
+OLD = 86400
 
 
 def content(path):
@@ -33,11 +35,24 @@ def snapshot(copy):
     return found
 
 
-class Built:
-    """A build's status and the end of what it said, and the files that came into being or changed."""
+def aged(copy, translation):
+    """Makes what the build makes of other files older than all of them, where it is there already, as in a folder that
+    was built before: so make makes it too, as ninja does. Answers the names."""
+    made = {name for one in translation.statements if one.command is not None and one.inputs for name in one.outputs}
+    paths = {name: os.path.join(copy.folder, name) for name in made}
+    there = {name for name, path in paths.items() if os.path.isfile(path) and not os.path.islink(path)}
+    for name in there:
+        os.utime(paths[name], (OLD, OLD))
+    return {os.path.normpath(name) for name in there}
 
-    def __init__(self, name, words, copy):
-        before = snapshot(copy)
+
+class Built:
+    """A build's status and the end of what it said, and the files that came into being or changed, or were made
+    anew."""
+
+    def __init__(self, name, words, copy, translation):
+        old = aged(copy, translation)
+        before = {name: one for name, one in snapshot(copy).items() if name not in old}
         ran = subprocess.run([name, *words], executable=need(name), cwd=copy.folder, env=environment(**DAY),
                              stdin=subprocess.DEVNULL, stdout=subprocess.PIPE, stderr=subprocess.STDOUT)
         self.status = ran.returncode
@@ -54,8 +69,8 @@ def both(makefile, words, translation, room):
     files.replace(translated, translation.text, room)
     escaped = ninja_text.escaped_value
     files.replace(top, f"builddir = {escaped(room)}\nsubninja {ninja_text.escaped(translated)}\n", room)
-    by_make = Built("make", [f"-j{os.cpu_count()}", *named, *words], WholeCopy(makefile, place))
-    return by_make, Built("ninja", ["-f", top], WholeCopy(makefile, place))
+    by_make = Built("make", [f"-j{os.cpu_count()}", *named, *words], WholeCopy(makefile, place), translation)
+    return by_make, Built("ninja", ["-f", top], WholeCopy(makefile, place), translation)
 
 
 def told(by_make, by_ninja):
