@@ -341,8 +341,9 @@ class Writing(Tree):
         self.assertEqual(self.run_in("make", "-n", "-f", "other.mk").out, "echo other 1\n")
 
     def test_a_makefile_that_make_reads_in_another_folder(self):
-        for named in ("$(CURDIR)/Makefile", "../$(lastword $(MAKEFILE_LIST))"):
-            self.put_all({"Makefile": f"N := $(shell echo 1)\nF := {named}\nall: ; cd sub && $(MAKE) \\\n -f $(F) out\n"
+        for named, how in (("$(CURDIR)/Makefile", "-f $(F)"), ("../$(lastword $(MAKEFILE_LIST))", "-f $(F)"),
+                           ("--file=$(CURDIR)/Makefile", "$(F)")):
+            self.put_all({"Makefile": f"N := $(shell echo 1)\nF := {named}\nall: ; cd sub && $(MAKE) \\\n {how} out\n"
                                       "out: ; echo $(N) > out\n", "sub/x": ""})
             wanted = self.built_by_make()
             self.assertIn("kati's commands are make's", self.port().out)

@@ -18,8 +18,10 @@ DEPENDENCIES = re.compile(r"\.(d|dep|deps|P|depend)$|(^|/)\.?(deps?|depends?|dep
 WRITES_DEPENDENCIES = re.compile(r"(?<![\w-])-MM?D\b")
 # What make says where a file isn't there that a configure would write.
 LACKS = re.compile(r"No rule to make target|No such file|No targets")
-# An inner make that is given a makefile.
-INNER_MAKE = re.compile(r"\$[({]MAKE[)}].*[ \t](-f|--file|--makefile)\b", re.DOTALL)
+# An inner make; one that is given a makefile; and the option that does so with a makefile's name, as a macro has it.
+INNER_MAKE = re.compile(r"\$[({]MAKE[)}]")
+INNER_BY_FILE = re.compile(r"\$[({]MAKE[)}].*[ \t](-f|--file|--makefile)\b", re.DOTALL)
+NAMES_MAKEFILE = re.compile(r"(?<![\w-])(-f|--file|--makefile)[ \t=]*[^\s;|&]*([Mm]ake|MAKE)")
 # What tells of the run, and is asked for where a makefile names it.
 RUN = ("CURDIR", "MAKECMDGOALS", "MAKELEVEL", "MAKE_COMMAND", "MAKE_HOST", "HOME", "PATH", "PWD", "USER", "LOGNAME",
        "TMPDIR")
@@ -204,7 +206,8 @@ class Port:
         """Whether make may read the makefile in another folder, as one that looks for its own folder, or names itself
         to an inner make."""
         texts = [line.joined for line in self.lines() if frozen_values.NAME not in line.text]
-        return any("MAKEFILE_LIST" in text or INNER_MAKE.search(text) for text in texts)
+        is_inner = any(map(INNER_MAKE.search, texts)) and any(map(NAMES_MAKEFILE.search, texts))
+        return is_inner or any("MAKEFILE_LIST" in text or INNER_BY_FILE.search(text) for text in texts)
 
     def line_that_hides(self):
         """The line that keeps the file of values out of the list of makefiles, where they ask for that; else None."""
