@@ -1,9 +1,9 @@
 -- The statements read from a sketch are those of the plan.
-use Rattle.std.proofs.Common.{◌≡◌, ◌<◌, ℕ, ◌+◌, Bool, true, false, not, List, [], ◌∷◌, ◌++◌, length, drop, get_or, Option, Some, None, Result, Ok, Err, refl, sym, ap, ◌∙◌, append-nil, arith, zero, suc, ◌&&◌, ◌||◌, IfOk, is_some, min, slice_get}
-use Rattle.kati.proofs.Common.{list_any, append_assoc, drop_more, length-append, Text, Rule, without_repeats, Outcome, Gave, Stopped, Fails, Gives, done, then_do, Table, Stop, Node, order_only_of, Statement, is_empty, command_for, has_implicit, has_phony, implicit_of, joined_inputs, made_by, outs_of, plan_groups, statement_of, with_always_built}
+use Rattle.std.proofs.Common.{◌≡◌, ℕ, ◌+◌, Bool, true, false, not, List, [], ◌∷◌, ◌++◌, length, Option, Some, None, refl, sym, ap, ◌∙◌, arith, zero, suc, ◌&&◌, ◌||◌, is_some, min, slice_get}
+use Rattle.kati.proofs.Common.{list_any, length-append, Text, Rule, without_repeats, Outcome, Gave, Stopped, Fails, done, then_do, Table, Stop, Node, order_only_of, Statement, is_empty, command_for, has_implicit, has_phony, implicit_of, joined_inputs, made_by, outs_of, plan_groups, statement_of, with_always_built}
 use Rattle.kt_eval.specs.declared.stop.Stop.TheVariants as stops
 use Rattle.kt_ninja.specs.declared.plan.Made.{Made}
-use Rattle.kati.specs.inner.Drawn.{AlwaysFirst, Drawn, always_drawn, draw_groups, drawn_of, statement_drawn, statements_drawn}
+use Rattle.kati.specs.inner.Drawn.{AlwaysFirst, Drawn, always_drawn, drawn_of, statement_drawn, statements_drawn}
 use Rattle.kati.proofs.SingleLemmas.{own_inputs, own_order_only}
 
 abbrev stated : List Text → Made → List Text → List Text → List Text → Statement
@@ -66,104 +66,62 @@ any_always (group ∷ groups) (one ∷ drawn) same =
     ap (λ (b : Bool). b || list_any has_implicit (statements_drawn groups drawn)) (implicit_if one.always)
     ∙ ap (λ (b : Bool). one.always || b) (any_always groups drawn (omega (arith, same)))
 
-always_first : (groups : List (List Node)) (drawn : List Drawn) → length groups ≡ length drawn → AlwaysFirst groups drawn
+pub always_first : (groups : List (List Node)) (drawn : List Drawn) → length groups ≡ length drawn → AlwaysFirst groups drawn
 unfolding with_always_built
 always_first groups drawn same = ap (λ (b : Bool). always_drawn b (statements_drawn groups drawn)) (sym (any_always groups drawn same))
 
 -- ---- group by group
 
-abbrev told_done : List (List Node) → List Drawn → List Text → Outcome (List Text) (List Statement)
-told_done all drawn = done (statements_drawn all drawn)
-
 abbrev drawn_left : Outcome (List Text) (List Drawn) → List Drawn
 drawn_left (Gave left drawn) = drawn
 drawn_left (Stopped left fault) = []
 
-module _ (rules : List Rule) (table : Table) (limit : ℕ) where
-  pub draws : (groups done_with : List (List Node)) (before : List Drawn) (said : List Text) → length done_with ≡ length before
-      → plan_groups rules table limit groups (statements_drawn done_with before) said
-      ≡ then_do (draw_groups rules table limit groups before said) (λ drawn. done (statements_drawn (done_with ++ groups) drawn))
-  unfolding plan_groups draw_groups
-  draws [] done_with before said same = ap (λ (l : List (List Node)). Gave said (statements_drawn l before)) (sym (append-nil done_with))
-  draws (group ∷ groups) done_with before said same =
-      by (λ command heard. draws groups (done_with ++ group ∷ []) (before ++ drawn_of rules group command ∷ []) heard
-      (length-append done_with (group ∷ []) ∙ ap (λ n. n + 1) same ∙ sym (length-append before (drawn_of rules group command ∷ []))))
-      (command_for table limit group said)
-    where
-      by : ((command : Option Text) (heard : List Text) → plan_groups rules table limit groups (statements_drawn (done_with ++ group ∷ []) (before ++ drawn_of rules group command ∷ [])) heard
-          ≡ then_do (draw_groups rules table limit groups (before ++ drawn_of rules group command ∷ []) heard) (told_done ((done_with ++ group ∷ []) ++ groups)))
-          → (o : Outcome (List Text) (Option Text))
-          → then_do o (λ command. plan_groups rules table limit groups (statements_drawn done_with before ++ statement_of rules group command ∷ []))
-          ≡ then_do (then_do o (λ command. draw_groups rules table limit groups (before ++ drawn_of rules group command ∷ []))) (told_done (done_with ++ group ∷ groups))
-      by copy (Gave heard command) =
-          ap (λ (l : List Statement). plan_groups rules table limit groups l heard)
-          (sym (told_more done_with before group (drawn_of rules group command) same
-          ∙ ap (λ (s : Statement). statements_drawn done_with before ++ s ∷ []) (told_is rules group command)))
-          ∙ copy command heard
-          ∙ ap (λ (l : List (List Node)). then_do (draw_groups rules table limit groups (before ++ drawn_of rules group command ∷ []) heard) (told_done l)) (append_assoc done_with (group ∷ []) groups)
-      by copy (Stopped heard fault) = refl
-
-  size_drawn : (groups : List (List Node)) (before drawn : List Drawn) (said heard : List Text) → draw_groups rules table limit groups before said ≡ Gave heard drawn
-      → length before + length groups ≡ length drawn
-  unfolding draw_groups
-  size_drawn [] before drawn said heard e = omega (arith, ap (λ (o : Outcome (List Text) (List Drawn)). length (drawn_left o)) e)
-  size_drawn (group ∷ groups) before drawn said heard e =
-      by (λ command left. size_drawn groups (before ++ drawn_of rules group command ∷ []) drawn left heard) (command_for table limit group said) e
-    where
-      by : ((command : Option Text) (left : List Text) → draw_groups rules table limit groups (before ++ drawn_of rules group command ∷ []) left ≡ Gave heard drawn
-          → length (before ++ drawn_of rules group command ∷ []) + length groups ≡ length drawn)
-          → (o : Outcome (List Text) (Option Text))
-          → then_do o (λ command. draw_groups rules table limit groups (before ++ drawn_of rules group command ∷ [])) ≡ Gave heard drawn
-          → length before + length (group ∷ groups) ≡ length drawn
-      by copy (Gave left command) f = omega (arith, length-append before (drawn_of rules group command ∷ []), copy command left f)
-      by copy (Stopped left fault) f = absurd (cc f)
-
-  -- a sketch gives the statements of its groups
-  pub sketch_gives : (groups : List (List Node)) (said heard : List Text) (result : Result (List Drawn) Stop)
-      → Gives (λ (drawn : List Drawn). drawn) result heard (draw_groups rules table limit groups [] said)
-      → Gives (λ (drawn : List Drawn). statements_drawn groups drawn) result heard (plan_groups rules table limit groups [] said)
-  sketch_gives groups said heard (Ok drawn) h =
-      draws groups [] [] said refl ∙ ap (λ (o : Outcome (List Text) (List Drawn)). then_do o (λ all. done (statements_drawn groups all))) h
-  sketch_gives groups said heard (Err (stops.Fault fault)) h =
-      draws groups [] [] said refl ∙ ap (λ (o : Outcome (List Text) (List Drawn)). then_do o (λ all. done (statements_drawn groups all))) h
-  sketch_gives groups said heard (Err (stops.Device name)) h = tt
-  sketch_gives groups said heard (Err stops.Memory) h = tt
-
-  pub sketch_always : (groups : List (List Node)) (said heard : List Text) (result : Result (List Drawn) Stop)
-      → Gives (λ (drawn : List Drawn). drawn) result heard (draw_groups rules table limit groups [] said) → IfOk result (AlwaysFirst groups)
-  sketch_always groups said heard (Ok drawn) h = always_first groups drawn (omega (arith, size_drawn groups [] drawn said heard h))
-  sketch_always groups said heard (Err stop) h = tt
-
--- ---- groups by their places
-
-draws_then : {A B : Type 0} (x : Outcome (List Text) A) (put : A → List Drawn) (next : List Drawn → List Text → Outcome (List Text) B)
-    → then_do x (λ a. next (put a)) ≡ then_do (then_do x (λ a. done (put a))) next
-draws_then (Gave said a) put next = refl
-draws_then (Stopped said fault) put next = refl
-
-module _ (rules : List Rule) (table : Table) (limit : ℕ) (groups : List (List Node)) (place : ℕ) (within : place < length groups) (sketch : List Drawn) (said : List Text) where
-  -- the outcome after the group at a place is added
+module _ (rules : List Rule) (table : Table) (limit : ℕ) (groups : List (List Node)) (sketch : List Drawn) (group : List Node) (said : List Text) where
+  -- the outcome after the next group is stored
   abbrev pub next_drawn : Outcome (List Text) (List Drawn)
-  next_drawn =
-      then_do (command_for table limit (get_or groups place []) said)
-      (λ command. done (sketch ++ drawn_of rules (get_or groups place []) command ∷ []))
+  next_drawn = then_do (command_for table limit group said) (λ command. done (sketch ++ drawn_of rules group command ∷ []))
 
-  abbrev from_next : List Drawn → List Text → Outcome (List Text) (List Drawn)
-  from_next drawn heard = draw_groups rules table limit (drop (place + 1) groups) drawn heard
+  pub size_next : (drawn : List Drawn) (heard : List Text) → next_drawn ≡ Gave heard drawn → length drawn ≡ length sketch + 1
+  size_next drawn heard is = by (command_for table limit group said) is
+    where
+      by : (o : Outcome (List Text) (Option Text)) → then_do o (λ command. done (sketch ++ drawn_of rules group command ∷ [])) ≡ Gave heard drawn
+          → length drawn ≡ length sketch + 1
+      by (Gave left command) e =
+          omega (arith, length-append sketch (drawn_of rules group command ∷ []), ap (λ (o : Outcome (List Text) (List Drawn)). length (drawn_left o)) e)
+      by (Stopped left fault) e = absurd (cc e)
 
-  on_next : draw_groups rules table limit (drop place groups) sketch said ≡ then_do next_drawn from_next
-  unfolding draw_groups
-  on_next =
-      ap (λ (gs : List (List Node)). draw_groups rules table limit gs sketch said) (drop_more groups place [] within)
-      ∙ draws_then (command_for table limit (get_or groups place []) said)
-      (λ command. sketch ++ drawn_of rules (get_or groups place []) command ∷ []) from_next
+  module _ (left : List (List Node)) (same : length groups ≡ length sketch) where
+    abbrev from_next : List Drawn → List Text → Outcome (List Text) (List Statement)
+    from_next drawn heard = plan_groups rules table limit left (statements_drawn (groups ++ group ∷ []) drawn) heard
 
-  pub draw_next : (drawn : List Drawn) (heard : List Text) → next_drawn ≡ Gave heard drawn
-      → draw_groups rules table limit (drop (place + 1) groups) drawn heard ≡ draw_groups rules table limit (drop place groups) sketch said
-  draw_next drawn heard is = sym (on_next ∙ ap (λ (o : Outcome (List Text) (List Drawn)). then_do o from_next) is)
+    on_next : plan_groups rules table limit (group ∷ left) (statements_drawn groups sketch) said ≡ then_do next_drawn from_next
+    unfolding plan_groups
+    on_next = by (command_for table limit group said)
+      where
+        by : (o : Outcome (List Text) (Option Text))
+            → then_do o (λ command. plan_groups rules table limit left (statements_drawn groups sketch ++ statement_of rules group command ∷ []))
+            ≡ then_do (then_do o (λ command. done (sketch ++ drawn_of rules group command ∷ []))) from_next
+        by (Gave heard command) =
+            ap (λ (l : List Statement). plan_groups rules table limit left l heard)
+            (sym (told_more groups sketch group (drawn_of rules group command) same
+            ∙ ap (λ (s : Statement). statements_drawn groups sketch ++ s ∷ []) (told_is rules group command)))
+        by (Stopped heard fault) = refl
 
-  pub draw_stops : (stop : Stop) (heard : List Text) → Fails stop heard next_drawn
-      → Fails stop heard (draw_groups rules table limit (drop place groups) sketch said)
-  draw_stops (stops.Fault fault) heard is = on_next ∙ ap (λ (o : Outcome (List Text) (List Drawn)). then_do o from_next) is
-  draw_stops (stops.Device name) heard is = tt
-  draw_stops stops.Memory heard is = tt
+    pub plan_next : (groups' : List (List Node)) (drawn : List Drawn) (heard : List Text) → groups' ≡ groups ++ group ∷ [] → next_drawn ≡ Gave heard drawn
+        → plan_groups rules table limit left (statements_drawn groups' drawn) heard
+        ≡ plan_groups rules table limit (group ∷ left) (statements_drawn groups sketch) said
+    plan_next groups' drawn heard grown is =
+        ap (λ (gs : List (List Node)). plan_groups rules table limit left (statements_drawn gs drawn) heard) grown
+        ∙ sym (on_next ∙ ap (λ (o : Outcome (List Text) (List Drawn)). then_do o from_next) is)
+
+    pub plan_stops : (stop : Stop) (heard : List Text) → Fails stop heard next_drawn
+        → Fails stop heard (plan_groups rules table limit (group ∷ left) (statements_drawn groups sketch) said)
+    plan_stops (stops.Fault fault) heard is = on_next ∙ ap (λ (o : Outcome (List Text) (List Drawn)). then_do o from_next) is
+    plan_stops (stops.Device name) heard is = tt
+    plan_stops stops.Memory heard is = tt
+
+-- no group is left
+pub plan_ends : (rules : List Rule) (table : Table) (limit : ℕ) (left : List (List Node)) (statements : List Statement) (said : List Text) → left ≡ []
+    → plan_groups rules table limit left statements said ≡ Gave said statements
+unfolding plan_groups
+plan_ends rules table limit left statements said none = ap (λ (gs : List (List Node)). plan_groups rules table limit gs statements said) none

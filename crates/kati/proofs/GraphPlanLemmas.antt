@@ -1,6 +1,6 @@
 -- Statements and names of a plan that is read from the graph, by their places.
-use Rattle.std.proofs.Common.{◌≡◌, ℕ, ◌+◌, Bool, true, false, List, [], ◌∷◌, ◌++◌, length, Option, Some, None, refl, sym, ap, ◌∙◌, arith, suc, min, slice_get}
-use Rattle.kati.proofs.Common.{append_assoc, Node}
+use Rattle.std.proofs.Common.{◌≡◌, ℕ, ◌+◌, Bool, true, false, List, length, Option, Some, None, refl, sym, ap, ◌∙◌, arith, suc, min, slice_get}
+use Rattle.kati.proofs.Common.{Node}
 use Rattle.kati.specs.inner.Drawn.{Drawn, always_drawn, statement_drawn, statements_drawn}
 use Rattle.kati.proofs.DrawnLemmas.{drawn_found, told_at, told_size}
 
@@ -21,13 +21,6 @@ module _ (groups : List (List Node)) (sketch : List Drawn) (i : ℕ) where
   pub drawn_gone : None ≡ slice_get sketch i → None ≡ slice_get (statements_drawn groups sketch) i
   drawn_gone is =
       none_found (slice_get groups i) ∙ ap (λ (o : Option Drawn). drawn_found (slice_get groups i) o) is ∙ sym (told_at groups sketch i)
-
--- groups one after another
-pub group_more : (groups groups' : List (List Node)) (group : List Node) (left left' all : List (List Node)) → groups' ≡ groups ++ group ∷ []
-    → left ≡ group ∷ left' → groups ++ left ≡ all → groups' ++ left' ≡ all
-group_more groups groups' group left left' all grown next so =
-    ap (λ (gs : List (List Node)). gs ++ left') grown ∙ append_assoc groups (group ∷ []) left'
-    ∙ ap (λ (l : List (List Node)). groups ++ l) (sym next) ∙ so
 
 -- ---- with the statement `always_built` before them
 

@@ -1,6 +1,5 @@
 pub mod Common
 pub mod DrawnLemmas
-pub mod RangeLemmas
 pub mod SketchLemmas
 pub mod GraphPlanLemmas
 pub mod PlanLemmas

@@ -1,16 +1,7 @@
 -- Groups whose members share their inputs.
-use Rattle.std.proofs.Common.{◌≡◌, ℕ, zero, suc, Bool, true, false, not, ◌||◌, List, [], ◌∷◌, ◌++◌, take, filter, flat_map, fold, get_or, refl, sym, ◌∙◌, ap, append-nil, nat_eq}
-use Rattle.kati.proofs.Common.{Contains, pointwise, false≢true, or_right, bytes_eq-Decides, flat_map-cons, fold-append, in_first, in_rest, Text, is_among, with_name, without_repeats, Node, inputs_of, order_only_of, ShareInputs, joined_inputs, joined_order_only}
+use Rattle.std.proofs.Common.{◌≡◌, true, not, ◌||◌, List, [], ◌∷◌, take, filter, flat_map, fold, refl, sym, ◌∙◌, ap, append-nil, nat_eq}
+use Rattle.kati.proofs.Common.{Contains, pointwise, or_right, bytes_eq-Decides, flat_map-cons, fold-append, in_first, in_rest, Text, is_among, with_name, without_repeats, Node, inputs_of, order_only_of, ShareInputs, joined_inputs, joined_order_only}
 use Rattle.kt_rules.proofs.BookLemmas.{among_fold}
-use Rattle.kati.specs.inner.Shared.{AreShared, MayShare}
-
-pub shared_at : (groups : List (List Node)) (shared : List Bool) (place : ℕ) → AreShared groups shared
-    → MayShare (get_or groups place []) (get_or shared place false)
-shared_at [] [] place are = λ so. absurd (false≢true so)
-shared_at [] (shares ∷ shared) place are = absurd are
-shared_at (group ∷ groups) [] place are = absurd are
-shared_at (group ∷ groups) (shares ∷ shared) zero are = are.0
-shared_at (group ∷ groups) (shares ∷ shared) (suc place) are = shared_at groups shared place are.1
 
 -- names that are there are not added
 all_there : (set more : List Text) → ((name : Text) → is_among more name ≡ true → is_among set name ≡ true)
@@ -59,17 +50,3 @@ order_only_told (node ∷ others) share =
     (inputs_told (node ∷ others) share)
     ∙ ap (filter (λ name. not (is_among (joined_inputs (node ∷ others)) name)))
     (first_tells order_only_of node others (λ other on. share.order_only other node (in_rest node other others on) (in_first node others)))
-
--- one more group
-shared_pushed : (groups : List (List Node)) (shared : List Bool) (group : List Node) (shares : Bool) → AreShared groups shared
-    → MayShare group shares → AreShared (groups ++ group ∷ []) (shared ++ shares ∷ [])
-shared_pushed [] [] group shares are may = (may, tt)
-shared_pushed [] (other ∷ shared) group shares are may = absurd are
-shared_pushed (first ∷ groups) [] group shares are may = absurd are
-shared_pushed (first ∷ groups) (other ∷ shared) group shares are may = (are.0, shared_pushed groups shared group shares are.1 may)
-
-pub shared_more : (groups groups' : List (List Node)) (shared shared' : List Bool) (group : List Node) (shares : Bool)
-    → groups' ≡ groups ++ group ∷ [] → shared' ≡ shared ++ shares ∷ [] → AreShared groups shared → MayShare group shares
-    → AreShared groups' shared'
-shared_more groups groups' shared shared' group shares grown noted are may =
-    rw (grown, noted) (shared_pushed groups shared group shares are may)

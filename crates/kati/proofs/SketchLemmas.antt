@@ -1,82 +1,110 @@
 -- A sketch as the code holds it.
-use Rattle.std.proofs.Common.{◌≡◌, ℕ, ◌-◌, ◌≤◌, Bool, true, List, [], ◌∷◌, ◌++◌, length, map, take, drop, Some, None, refl, sym, ap, ◌∙◌, zero, suc, ◌||◌, option_map, slice_get}
-use Rattle.kati.proofs.Common.{list_all, list_any, slice_range, and_from, and_parts, slice_get-map, Text, Mark, is_command_byte, is_made, made_by}
+use Rattle.std.proofs.Common.{◌≡◌, ℕ, Bool, true, false, List, [], ◌∷◌, ◌++◌, length, take, Option, Some, None, Result, Ok, Err, OnOk, OnErr, refl, sym, ap, ◌∙◌, arith, zero, suc, ◌||◌, option_map, get_or}
+use Rattle.kati.proofs.Common.{list_all, list_any, option_to_list, and_from, and_parts, Text, is_made, made_by}
+use Rattle.std.proofs.Math.Seq.{take-append_seam}
+use Rattle.std.specs.Result.{is_err}
+use Rattle.kt_list.specs.Rows.{with_item}
+use Rattle.kt_list.proofs.RowLemmas.{item_last}
 use Rattle.kt_recipe.specs.Views.{command_in}
-use Rattle.kati.specs.inner.Drawn.{AreMarksWithin, Drawn, drawn_view, joined_view}
-use Rattle.kt_list.proofs.general.Ranges.{last_range, same_range}
+use Rattle.kati.specs.inner.Drawn.{BoxedJoined, Drawn, all_drawn, first_joined, is_written, joined_view, no_drawn}
 
-abbrev drawn_by : Mark → Text → Drawn
-drawn_by mark part = record { always = mark.always; joined = option_map (λ b. joined_view b.value) mark.joined; command = command_in part }
+abbrev pub drawn_by : Text → List BoxedJoined → Bool → Drawn
+drawn_by command row one = record { always = one; joined = first_joined row; command = command_in command }
 
-same_drawn : (text more : Text) (mark : Mark) → mark.start ≤ mark.end → mark.end ≤ length text → drawn_view (text ++ more) mark ≡ drawn_view text mark
-same_drawn text more mark rises within = ap (drawn_by mark) (same_range text more mark.start mark.end rises within)
-
-pub all_same : (text more : Text) (marks : List Mark) → AreMarksWithin (length text) marks → map (drawn_view (text ++ more)) marks ≡ map (drawn_view text) marks
-all_same text more [] within = refl
-all_same text more (mark ∷ marks) within =
-    ap (λ (d : Drawn). d ∷ map (drawn_view (text ++ more)) marks) (same_drawn text more mark within.0 within.1)
-    ∙ ap (λ (l : List Drawn). drawn_view text mark ∷ l) (all_same text more marks within.2)
-
--- one more mark
-pub one_drawn : (text more : Text) (marks : List Mark) (mark : Mark) → AreMarksWithin (length text) marks → mark.start ≡ length text → mark.end ≡ length (text ++ more)
-    → map (drawn_view (text ++ more)) (marks ++ mark ∷ [])
-    ≡ map (drawn_view text) marks ++ record { always = mark.always; joined = option_map (λ b. joined_view b.value) mark.joined; command = command_in more } ∷ []
-one_drawn text more [] mark within from upto = ap (λ (part : Text). drawn_by mark part ∷ []) (last_range text more mark.start mark.end from upto)
-one_drawn text more (first ∷ marks) mark within from upto =
-    ap (λ (d : Drawn). d ∷ map (drawn_view (text ++ more)) (marks ++ mark ∷ [])) (same_drawn text more first within.0 within.1)
-    ∙ ap (λ (l : List Drawn). drawn_view text first ∷ l) (one_drawn text more marks mark within.2 from upto)
-
-pub any_drawn : (text : Text) (marks : List Mark) → list_any (λ mark. mark.always) marks ≡ list_any (λ one. one.always) (map (drawn_view text) marks)
-any_drawn text [] = refl
-any_drawn text (mark ∷ marks) = ap (λ b. mark.always || b) (any_drawn text marks)
+pub first_of_one : (joined : Option BoxedJoined) → first_joined (option_to_list joined) ≡ option_map (λ b. joined_view b.value) joined
+first_of_one None = refl
+first_of_one (Some joined) = refl
 
 -- ---- what a push leaves
 
-module _ (text more text' : Text) (marks marks' : List Mark) (mark : Mark) (within : AreMarksWithin (length text) marks) (joins : text' ≡ text ++ more)
-    (adds : marks' ≡ marks ++ mark ∷ []) (from : mark.start ≡ length text) (upto : mark.end ≡ length text') where
-  pub drawn_more : (before : List Drawn) → map (drawn_view text) marks ≡ before
-      → map (drawn_view text') marks' ≡ before ++ record { always = mark.always; joined = option_map (λ b. joined_view b.value) mark.joined; command = command_in more } ∷ []
-  drawn_more before is =
-      ap (λ (t : Text). map (drawn_view t) marks') joins ∙ ap (map (drawn_view (text ++ more))) adds
-      ∙ one_drawn text more marks mark within from (upto ∙ ap length joins)
-      ∙ ap (λ (ds : List Drawn). ds ++ drawn_by mark more ∷ []) is
+-- the first ones stay
+pub cut_back : {A : Type 0} (n : ℕ) (xs ys : List A) (more : A) → n ≡ length xs → ys ≡ xs ++ more ∷ [] → take n ys ≡ xs
+cut_back n xs ys more is grown = ap (λ m. take m ys) is ∙ ap (take (length xs)) grown ∙ take-append_seam xs (more ∷ [])
 
--- ---- a look at a place
+pub if_ok : {T E : Type 0} (result : Result T E) (P : Type 0) → is_err result ≡ false → OnOk result P → P
+if_ok (Ok done) P is holds = holds
+if_ok (Err refused) P is holds = absurd (cc is)
 
-pub drawn_there : (text : Text) (marks : List Mark) (i : ℕ) (mark : Mark) (all : List Drawn) → slice_get marks i ≡ Some mark → map (drawn_view text) marks ≡ all
-    → Some (drawn_view text mark) ≡ slice_get all i
-drawn_there text marks i mark all is same =
-    ap (option_map (drawn_view text)) (sym is) ∙ sym (slice_get-map (drawn_view text) marks i) ∙ ap (λ (ds : List Drawn). slice_get ds i) same
+module _ {A R E : Type 0} (rows opened put : List (List A)) (one : A) (opens : opened ≡ rows ++ [] ∷ []) where
+  pub row_put : (joined : Option A) (result : Result R E) → joined ≡ Some one → OnOk result (put ≡ with_item opened one)
+      → OnOk result (put ≡ rows ++ option_to_list joined ∷ [])
+  row_put joined (Ok done) is puts =
+      puts ∙ ap (λ (list : List (List A)). with_item list one) opens ∙ item_last rows [] one
+      ∙ ap (λ (o : Option A). rows ++ option_to_list o ∷ []) (sym is)
+  row_put joined (Err refused) is puts = tt
 
-pub drawn_nowhere : (text : Text) (marks : List Mark) (i : ℕ) (all : List Drawn) → slice_get marks i ≡ None → map (drawn_view text) marks ≡ all
-    → None ≡ slice_get all i
-drawn_nowhere text marks i all is same =
-    ap (option_map (drawn_view text)) (sym is) ∙ sym (slice_get-map (drawn_view text) marks i) ∙ ap (λ (ds : List Drawn). slice_get ds i) same
+  pub row_kept : (result : Result R E) → OnOk result (put ≡ with_item opened one) → OnErr result (put ≡ opened) → take (length rows) put ≡ rows
+  row_kept (Ok done) puts leaves =
+      cut_back (length rows) rows put (one ∷ []) refl (puts ∙ ap (λ (list : List (List A)). with_item list one) opens ∙ item_last rows [] one)
+  row_kept (Err refused) puts leaves = cut_back (length rows) rows put [] refl (leaves ∙ opens)
+
+pub all_more : (commands : List Text) (joined : List (List BoxedJoined)) (always : List Bool) (command : Text) (row : List BoxedJoined) (one : Bool)
+    → length commands ≡ length always → length joined ≡ length always
+    → all_drawn (commands ++ command ∷ []) (joined ++ row ∷ []) (always ++ one ∷ []) ≡ all_drawn commands joined always ++ drawn_by command row one ∷ []
+all_more [] [] [] command row one same also = refl
+all_more [] (other ∷ joined) [] command row one same also = absurd (omega (arith, also))
+all_more [] joined (first ∷ always) command row one same also = absurd (omega (arith, same))
+all_more (other ∷ commands) joined [] command row one same also = absurd (omega (arith, same))
+all_more (other ∷ commands) [] (first ∷ always) command row one same also = absurd (omega (arith, also))
+all_more (other ∷ commands) (before ∷ joined) (first ∷ always) command row one same also =
+    ap (λ (l : List Drawn). drawn_by other before first ∷ l) (all_more commands joined always command row one (omega (arith, same)) (omega (arith, also)))
+
+pub pushed : (commands commands' : List Text) (joined joined' : List (List BoxedJoined)) (always always' : List Bool) (command : Text)
+    (row : Option BoxedJoined) (one : Bool) (all : List Drawn) → length commands ≡ length always → length joined ≡ length always
+    → all_drawn commands joined always ≡ all → commands' ≡ commands ++ command ∷ [] → joined' ≡ joined ++ option_to_list row ∷ []
+    → always' ≡ always ++ one ∷ [] → all_drawn commands' joined' always'
+    ≡ all ++ record { always = one; joined = option_map (λ b. joined_view b.value) row; command = command_in command } ∷ []
+pushed commands commands' joined joined' always always' command row one all same also is more_commands more_joined more_always =
+    rw (more_commands, more_joined, more_always)
+    (all_more commands joined always command (option_to_list row) one same also
+    ∙ ap (λ (l : List Drawn). l ++ drawn_by command (option_to_list row) one ∷ []) is
+    ∙ ap (λ j. all ++ record { always = one; joined = j; command = command_in command } ∷ []) (first_of_one row))
+
+-- how many there are
+pub all_size : (commands : List Text) (joined : List (List BoxedJoined)) (always : List Bool)
+    → length commands ≡ length always → length joined ≡ length always → length always ≡ length (all_drawn commands joined always)
+all_size [] joined [] same also = refl
+all_size [] joined (one ∷ always) same also = absurd (omega (arith, same))
+all_size (command ∷ commands) joined [] same also = absurd (omega (arith, same))
+all_size (command ∷ commands) [] (one ∷ always) same also = absurd (omega (arith, also))
+all_size (command ∷ commands) (row ∷ joined) (one ∷ always) same also =
+    ap suc (all_size commands joined always (omega (arith, same)) (omega (arith, also)))
+
+pub any_drawn : (commands : List Text) (joined : List (List BoxedJoined)) (always : List Bool)
+    → length commands ≡ length always → length joined ≡ length always
+    → list_any (λ one. one) always ≡ list_any (λ drawn. drawn.always) (all_drawn commands joined always)
+any_drawn [] joined [] same also = refl
+any_drawn [] joined (one ∷ always) same also = absurd (omega (arith, same))
+any_drawn (command ∷ commands) joined [] same also = absurd (omega (arith, same))
+any_drawn (command ∷ commands) [] (one ∷ always) same also = absurd (omega (arith, also))
+any_drawn (command ∷ commands) (row ∷ joined) (one ∷ always) same also =
+    ap (λ b. one || b) (any_drawn commands joined always (omega (arith, same)) (omega (arith, also)))
+
+-- what is stored for the group at a place
+pub one_at : (commands : List Text) (joined : List (List BoxedJoined)) (always : List Bool) (i : ℕ)
+    → length commands ≡ length always → length joined ≡ length always
+    → drawn_by (get_or commands i []) (get_or joined i []) (get_or always i false) ≡ get_or (all_drawn commands joined always) i no_drawn
+one_at [] [] [] i same also = refl
+one_at [] (row ∷ joined) [] i same also = absurd (omega (arith, also))
+one_at [] joined (one ∷ always) i same also = absurd (omega (arith, same))
+one_at (command ∷ commands) joined [] i same also = absurd (omega (arith, same))
+one_at (command ∷ commands) [] (one ∷ always) i same also = absurd (omega (arith, also))
+one_at (command ∷ commands) (row ∷ joined) (one ∷ always) zero same also = refl
+one_at (command ∷ commands) (row ∷ joined) (one ∷ always) (suc i) same also =
+    one_at commands joined always i (omega (arith, same)) (omega (arith, also))
+
+module _ (commands : List Text) (joined : List (List BoxedJoined)) (always : List Bool) (i : ℕ) (all : List Drawn)
+    (same : length commands ≡ length always) (also : length joined ≡ length always) (is : all_drawn commands joined always ≡ all) where
+  pub one_is : drawn_by (get_or commands i []) (get_or joined i []) (get_or always i false) ≡ get_or all i no_drawn
+  one_is = one_at commands joined always i same also ∙ ap (λ (l : List Drawn). get_or l i no_drawn) is
 
 -- ---- what can be written
 
-taken_pass : {A : Type 0} (p : A → Bool) (n : ℕ) (xs : List A) → list_all p xs ≡ true → list_all p (take n xs) ≡ true
-taken_pass p zero xs all = refl
-taken_pass p (suc n) [] all = refl
-taken_pass p (suc n) (x ∷ xs) all =
-    let parts = and_parts (p x) (list_all p xs) all in
-    and_from (p x) (list_all p (take n xs)) parts.0 (taken_pass p n xs parts.1)
-
-left_pass : {A : Type 0} (p : A → Bool) (n : ℕ) (xs : List A) → list_all p xs ≡ true → list_all p (drop n xs) ≡ true
-left_pass p zero xs all = all
-left_pass p (suc n) [] all = refl
-left_pass p (suc n) (x ∷ xs) all = left_pass p n xs (and_parts (p x) (list_all p xs) all).1
-
-part_made : (part : Text) → list_all is_command_byte part ≡ true → is_made (made_by (command_in part)) ≡ true
-part_made [] all = refl
-part_made (byte ∷ part) all = all
-
--- the commands can be written, if the text of all can
-pub commands_made : (text : Text) (marks : List Mark) → list_all is_command_byte text ≡ true
-    → list_all (λ (one : Drawn). is_made (made_by one.command)) (map (drawn_view text) marks) ≡ true
-commands_made text [] all = refl
-commands_made text (mark ∷ marks) all =
-    and_from (is_made (made_by (command_in (slice_range text mark.start mark.end)))) _
-    (part_made (slice_range text mark.start mark.end)
-    (taken_pass is_command_byte (mark.end - mark.start) (drop mark.start text) (left_pass is_command_byte mark.start text all)))
-    (commands_made text marks all)
+pub commands_made : (commands : List Text) (joined : List (List BoxedJoined)) (always : List Bool) → list_all is_written commands ≡ true
+    → list_all (λ (drawn : Drawn). is_made (made_by drawn.command)) (all_drawn commands joined always) ≡ true
+commands_made [] joined always all = refl
+commands_made (command ∷ commands) [] always all = refl
+commands_made (command ∷ commands) (row ∷ joined) [] all = refl
+commands_made (command ∷ commands) (row ∷ joined) (one ∷ always) all =
+    let parts = and_parts (is_written command) (list_all is_written commands) all in
+    and_from (is_written command) _ parts.0 (commands_made commands joined always parts.1)

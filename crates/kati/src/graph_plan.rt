@@ -5,7 +5,7 @@ ghost use Rattle.kati.specs.inner.Drawn.{inputs_drawn, order_only_drawn, stateme
 ghost use Rattle.kati.specs.inner.Shown.{names_view, part_view, plan_view};
 
 use crate::name_list::NameList;
-use crate::sketch::{Drawing, Sketch};
+use crate::sketch::Sketch;
 use kt_graph::Node;
 use kt_list::Rows;
 use kt_ninja::{Listed, PlanView};
@@ -30,7 +30,8 @@ enum PlanPart<'a, 'g> {
     Missing,
     // That of `ALWAYS_BUILD`.
     Always,
-    Group(&'a [Node<'g>], Drawing<'a>),
+    // That of the group at a place.
+    Group(&'a [Node<'g>], &'a Sketch, usize),
 }
 
 impl<'g> GraphPlan<'g> {
@@ -41,10 +42,13 @@ impl<'g> GraphPlan<'g> {
             ≡ slice_get (statements_drawn self.now.groups self.now.sketch) place }
     {
         match self.groups.row(place) {
-            Some(nodes) => match self.sketch.get(place) {
-                Some(drawing) => PlanPart::Group(nodes, drawing),
-                None => PlanPart::Missing,
-            },
+            Some(nodes) => {
+                if place < self.sketch.len() {
+                    PlanPart::Group(nodes, &self.sketch, place)
+                } else {
+                    PlanPart::Missing
+                }
+            }
             None => PlanPart::Missing,
         }
     }
@@ -72,7 +76,7 @@ impl<'a, 'g> PlanPart<'a, 'g> {
         match self {
             PlanPart::Missing => NameList::Empty,
             PlanPart::Always => NameList::AlwaysBuild,
-            PlanPart::Group(nodes, _) => NameList::Members(*nodes),
+            PlanPart::Group(nodes, _, _) => NameList::Members(*nodes),
         }
     }
 
@@ -82,7 +86,7 @@ impl<'a, 'g> PlanPart<'a, 'g> {
     {
         match self {
             PlanPart::Missing | PlanPart::Always => NameList::Empty,
-            PlanPart::Group(nodes, drawing) => match drawing.joined {
+            PlanPart::Group(nodes, sketch, place) => match sketch.joined(*place) {
                 Some(joined) => NameList::Names(joined.inputs.as_slice()),
                 None => first_inputs(*nodes),
             },
@@ -95,8 +99,8 @@ impl<'a, 'g> PlanPart<'a, 'g> {
     {
         match self {
             PlanPart::Missing | PlanPart::Always => NameList::Empty,
-            PlanPart::Group(_, drawing) => {
-                if drawing.always {
+            PlanPart::Group(_, sketch, place) => {
+                if sketch.always(*place) {
                     NameList::AlwaysBuild
                 } else {
                     NameList::Empty
@@ -111,7 +115,7 @@ impl<'a, 'g> PlanPart<'a, 'g> {
     {
         match self {
             PlanPart::Missing | PlanPart::Always => NameList::Empty,
-            PlanPart::Group(nodes, drawing) => match drawing.joined {
+            PlanPart::Group(nodes, sketch, place) => match sketch.joined(*place) {
                 Some(joined) => NameList::Names(joined.order_only.as_slice()),
                 None => first_order_only(*nodes),
             },
@@ -123,11 +127,12 @@ impl<'a, 'g> PlanPart<'a, 'g> {
     {
         match self {
             PlanPart::Missing | PlanPart::Always => None,
-            PlanPart::Group(_, drawing) => {
-                if drawing.command.is_empty() {
+            PlanPart::Group(_, sketch, place) => {
+                let command = sketch.command(*place);
+                if command.is_empty() {
                     None
                 } else {
-                    Some(drawing.command)
+                    Some(command)
                 }
             }
         }

@@ -1,5 +1,5 @@
 //! The plan of a graph.
-ghost use Rattle.std.specs.Prelude.{◌≡◌, ◌<◌, ◌++◌, ◌∷◌, [], List, get_or, length, IfOk, MatchOption, None, Some};
+ghost use Rattle.std.specs.Prelude.{◌≡◌, ◌++◌, ◌∷◌, [], List, IfOk, MatchOption, None, OnOk, Some};
 ghost use Rattle.std.specs.Prelude.{false, if◌then◌else◌, true};
 ghost use Rattle.std.specs.List.{list_all};
 ghost use Rattle.kt_text.specs.Words.{Text};
@@ -11,15 +11,15 @@ ghost use Rattle.kt_ninja.specs.Writable.{HasWritableTexts, IsWritable, is_made,
 ghost use Rattle.kt_eval.specs.Outcome.{AsksNothing, Gives, done, then_do};
 ghost use Rattle.kati.specs.Planning.{command_for, least_output, made_by, plan_groups, plan_of, planned, text_fault};
 ghost use Rattle.kati.specs.Planning.{unwritable_in, written};
-ghost use Rattle.kati.specs.inner.Drawn.{AlwaysFirst, draw_groups, drawn_of, statements_drawn};
-ghost use Rattle.kati.specs.inner.Shared.{AreShared, MayShare};
+ghost use Rattle.kati.specs.inner.Drawn.{AlwaysFirst, drawn_of, statements_drawn};
+ghost use Rattle.kati.specs.inner.Shared.{MayShare};
 ghost use Rattle.kati.specs.inner.Shown.{plan_view};
 ghost use Rattle.kati.specs.inner.Stops.{IsFaultOf};
 ghost use Rattle.kati.specs.inner.Views.{is_text_trouble};
 
 use crate::graph_plan::GraphPlan;
 use crate::sketch::Sketch;
-use crate::statements::sketch_group;
+use crate::statements::{is_always_made, joined_if_several};
 use crate::words::stop_on;
 use kt_eval::{Makefile, Stop};
 use kt_graph::{Graph, Groups, Node};
@@ -29,45 +29,132 @@ use kt_recipe::Commands;
 use kt_rules::{Book, FaultKind, Name};
 use std::alloc::{AllocError, Global};
 
-/// A statement for each group, in order, after that of `ALWAYS_BUILD` if one needs it.
-#[tactic(auto, unfolding(crate::specs::Planning::planned))]
-pub(crate) fn graph_plan<'g>(
+/// Plans what the goals of a makefile need.
+#[derive(Drop)]
+pub(crate) struct Planner<'m> {
     alloc: Global,
-    makefile: &Makefile,
-    limit: u64,
-    graph: &'g Graph<'_>,
-    goals: Vec<Name>,
-    messages: &mut Vec<Sequence<u8>>,
-) -> Result<GraphPlan<'g>, Stop>
-    requires { (known : List Text) × IsSoundGraph makefile.now.book known goals.items graph.now }
-    ensures gives { Gives plan_view result messages.new.items
-        (planned makefile.now.book makefile.now.macros limit goals.items graph.now messages.old.items) }
-    ensures asks_nothing { AsksNothing result }
-    ensures writable { IfOk result (λ plan. IsWritable (plan_view plan)) }
-{
-    let (groups, shared) = all_groups(alloc, graph)?;
-    let sketch = sketched(alloc, makefile, limit, &groups, shared.as_slice(), messages)?;
-    let can_be_written = has_writable_texts(graph, &sketch);
-    written(alloc, plan_of(groups, sketch, goals), can_be_written)
+    book: &'m Book,
+    commands: Commands<'m>,
+    // The command of a group, which serves for one after another.
+    command: Vec<u8>,
 }
 
-// The groups, one after another, and of each whether its members are told to share their inputs.
-fn all_groups<'g>(
-    alloc: Global,
-    graph: &'g Graph<'_>,
-) -> Result<(Rows<Node<'g>>, Vec<bool>), AllocError>
-    ensures { IfOk result (λ found. (found.0 ≡ groups_of graph.now) × AreShared found.0 found.1.items) }
-{
-    let mut left = graph.groups()?;
-    let mut groups = Rows::new(alloc);
-    let mut shared = Vec::new(alloc);
-    let mut group = Vec::new(alloc);
-    let mut shares = false;
-    while next_group(&mut left, &mut group, &mut shares)? {
-        groups.append_row(&mut group)?;
-        shared.push(shares)?;
+impl<'m> Planner<'m> {
+    pub(crate) fn new(
+        alloc: Global,
+        makefile: &'m Makefile,
+        limit: u64,
+    ) -> Result<Planner<'m>, AllocError>
+        ensures book { IfOk result (λ planner. planner.book.now ≡ makefile.now.book) }
+        ensures table { IfOk result (λ planner. planner.commands.table ≡ makefile.now.macros) }
+        ensures limit { IfOk result (λ planner. planner.commands.limit ≡ limit) }
+    {
+        let commands = Commands::new(alloc, &makefile.macros, limit)?;
+        Ok(Planner {
+            alloc,
+            book: &makefile.book,
+            commands,
+            command: Vec::new(alloc),
+        })
     }
-    Ok((groups, shared))
+
+    /// A statement for each group, in order, after that of `ALWAYS_BUILD` if one needs it.
+    #[tactic(auto, unfolding(crate::specs::Planning::planned))]
+    pub(crate) fn plan<'g>(
+        &mut self,
+        graph: &'g Graph<'_>,
+        goals: Vec<Name>,
+        messages: &mut Vec<Sequence<u8>>,
+    ) -> Result<GraphPlan<'g>, Stop>
+        requires { (known : List Text) × IsSoundGraph self.old.book.now known goals.items graph.now }
+        ensures gives { Gives plan_view result messages.new.items (planned self.old.book.now self.old.commands.table
+            self.old.commands.limit goals.items graph.now messages.old.items) }
+        ensures asks_nothing { AsksNothing result }
+        ensures writable { IfOk result (λ plan. IsWritable (plan_view plan)) }
+    {
+        let (groups, sketch) = self.drawn(graph, messages)?;
+        let can_be_written = has_writable_texts(graph, &sketch);
+        written(self.alloc, plan_of(groups, sketch, goals), can_be_written)
+    }
+
+    // The groups, and what is stored for each besides its nodes.
+    fn drawn<'g>(
+        &mut self,
+        graph: &'g Graph<'_>,
+        messages: &mut Vec<Sequence<u8>>,
+    ) -> Result<(Rows<Node<'g>>, Sketch), Stop>
+        ensures gives { Gives (λ drawn. statements_drawn drawn.0 drawn.1) result messages.new.items
+            (plan_groups self.old.book.now self.old.commands.table self.old.commands.limit (groups_of graph.now) []
+            messages.old.items) }
+        ensures always { IfOk result (λ drawn. AlwaysFirst drawn.0 drawn.1) }
+        ensures asks_nothing { AsksNothing result }
+    {
+        let mut left = graph.groups()?;
+        let mut groups = Rows::new(self.alloc);
+        let mut sketch = Sketch::new(self.alloc);
+        let mut group = Vec::new(self.alloc);
+        let mut shares = false;
+        while next_group(&mut left, &mut group, &mut shares)? {
+            self.add(group.as_slice(), shares, &mut sketch, messages)?;
+            groups.append_row(&mut group)?;
+        }
+        Ok((groups, sketch))
+    }
+
+    // Adds what is stored for a group at the end.
+    fn add(
+        &mut self,
+        group: &[Node],
+        shares: bool,
+        sketch: &mut Sketch,
+        messages: &mut Vec<Sequence<u8>>,
+    ) -> Result<(), Stop>
+        requires { MayShare group.now shares }
+        ensures gives { Gives (λ _. sketch.new) result messages.new.items
+            (then_do (command_for self.old.commands.table self.old.commands.limit group.now messages.old.items)
+            (λ command. done (sketch.old ++ drawn_of self.old.book.now group.now command ∷ []))) }
+        ensures asks_nothing { AsksNothing result }
+        ensures book { self.new.book.now ≡ self.old.book.now }
+        ensures same { self.new.commands ≡ self.old.commands }
+    {
+        self.put_command(group, messages)?;
+        self.sketch_group(group, shares, sketch)?;
+        Ok(())
+    }
+
+    // Sets the text to the command of the least member, which comes first.
+    fn put_command(&mut self, group: &[Node], messages: &mut Vec<Sequence<u8>>) -> Result<(), Stop>
+        ensures gives { Gives (λ _. command_in self.new.command.items) result messages.new.items
+            (command_for self.old.commands.table self.old.commands.limit group.now messages.old.items) }
+        ensures asks_nothing { AsksNothing result }
+        ensures book { self.new.book.now ≡ self.old.book.now }
+        ensures same { self.new.commands ≡ self.old.commands }
+    {
+        match group {
+            [least, ..] => self.commands.write(least, &mut self.command, messages),
+            [] => {
+                self.command.clear();
+                Ok(())
+            }
+        }
+    }
+
+    // Adds what is stored for a group that has the command of the text, which is empty if it has none. Members that
+    // share their inputs are told, so that these are joined by looking at one member.
+    fn sketch_group(
+        &self,
+        group: &[Node],
+        shares: bool,
+        sketch: &mut Sketch,
+    ) -> Result<(), AllocError>
+        requires { MayShare group.now shares }
+        ensures { OnOk result (sketch.new ≡ sketch.old
+            ++ drawn_of self.now.book.now group.now (command_in self.now.command.items) ∷ []) }
+    {
+        let joined = joined_if_several(self.alloc, group, shares)?;
+        let command = self.command.as_slice();
+        sketch.push(is_always_made(self.book, group, command), joined, command)
+    }
 }
 
 // The next group, if one remains, and whether its members are told to share their inputs.
@@ -81,148 +168,6 @@ fn next_group<'g>(
 {
     *shares = left.next_shares_inputs();
     left.next_into(group)
-}
-
-// What is stored for each group besides its nodes.
-fn sketched(
-    alloc: Global,
-    makefile: &Makefile,
-    limit: u64,
-    groups: &Rows<Node<'_>>,
-    shared: &[bool],
-    messages: &mut Vec<Sequence<u8>>,
-) -> Result<Sketch, Stop>
-    requires { AreShared groups.now shared.now }
-    ensures gives { Gives (λ sketch. statements_drawn groups.now sketch) result
-        messages.new.items (plan_groups makefile.now.book makefile.now.macros limit
-        groups.now [] messages.old.items) }
-    ensures always { IfOk result (λ sketch. AlwaysFirst groups.now sketch) }
-    ensures asks_nothing { AsksNothing result }
-{
-    let mut commands = Commands::new(alloc, &makefile.macros, limit)?;
-    sketch_groups(
-        alloc,
-        &makefile.book,
-        &mut commands,
-        groups,
-        shared,
-        messages,
-    )
-}
-
-#[tactic(auto, unfolding(crate::specs::inner::Drawn::draw_groups))]
-fn sketch_groups(
-    alloc: Global,
-    book: &Book,
-    commands: &mut Commands<'_>,
-    groups: &Rows<Node<'_>>,
-    shared: &[bool],
-    messages: &mut Vec<Sequence<u8>>,
-) -> Result<Sketch, Stop>
-    requires { AreShared groups.now shared.now }
-    ensures gives { Gives (λ sketch. sketch) result messages.new.items
-        (draw_groups book.now commands.old.table commands.old.limit groups.now []
-        messages.old.items) }
-    ensures asks_nothing { AsksNothing result }
-    ensures same { commands.new ≡ commands.old }
-{
-    let mut sketch = Sketch::new(alloc);
-    let mut command = Vec::new(alloc);
-    for place in 0..groups.len() {
-        add_at(
-            alloc,
-            book,
-            commands,
-            groups,
-            shared,
-            place,
-            &mut command,
-            &mut sketch,
-            messages,
-        )?;
-    }
-    Ok(sketch)
-}
-
-// Adds the group at a place.
-fn add_at(
-    alloc: Global,
-    book: &Book,
-    commands: &mut Commands<'_>,
-    groups: &Rows<Node<'_>>,
-    shared: &[bool],
-    place: usize,
-    command: &mut Vec<u8>,
-    sketch: &mut Sketch,
-    messages: &mut Vec<Sequence<u8>>,
-) -> Result<(), Stop>
-    requires within { place < length groups.now }
-    requires shared { AreShared groups.now shared.now }
-    ensures gives { Gives (λ _. sketch.new) result messages.new.items
-        (then_do (command_for commands.old.table commands.old.limit (get_or groups.now place []) messages.old.items)
-        (λ command. done (sketch.old ++ drawn_of book.now (get_or groups.now place []) command ∷ []))) }
-    ensures asks_nothing { AsksNothing result }
-    ensures same { commands.new ≡ commands.old }
-{
-    match groups.row(place) {
-        Some(group) => {
-            let shares = is_shared(shared, place);
-            add(
-                alloc, book, commands, group, shares, command, sketch, messages,
-            )
-        }
-        None => Ok(()),
-    }
-}
-
-fn is_shared(shared: &[bool], place: usize) -> bool
-    ensures { result ≡ get_or shared.now place false }
-{
-    shared.get(place).copied().unwrap_or(false)
-}
-
-// Adds a group. The text for the command is reused for one group after another.
-fn add(
-    alloc: Global,
-    book: &Book,
-    commands: &mut Commands<'_>,
-    group: &[Node],
-    shares: bool,
-    command: &mut Vec<u8>,
-    sketch: &mut Sketch,
-    messages: &mut Vec<Sequence<u8>>,
-) -> Result<(), Stop>
-    requires { MayShare group.now shares }
-    ensures gives { Gives (λ _. sketch.new) result messages.new.items
-        (then_do (command_for commands.old.table commands.old.limit group.now messages.old.items)
-        (λ command. done (sketch.old ++ drawn_of book.now group.now command ∷ []))) }
-    ensures asks_nothing { AsksNothing result }
-    ensures same { commands.new ≡ commands.old }
-{
-    put_command(commands, group, command, messages)?;
-    sketch_group(alloc, book, group, shares, command.as_slice(), sketch)?;
-    Ok(())
-}
-
-// Sets the text to the command of the least member, which comes first.
-fn put_command(
-    commands: &mut Commands<'_>,
-    group: &[Node],
-    command: &mut Vec<u8>,
-    messages: &mut Vec<Sequence<u8>>,
-) -> Result<(), Stop>
-    ensures gives { Gives (λ _. command_in command.new.items) result messages.new.items
-        (command_for commands.old.table commands.old.limit group.now messages.old.items) }
-    ensures asks_nothing { AsksNothing result }
-    ensures same { commands.new ≡ commands.old }
-{
-    match group {
-        [least, ..] => commands.write(least, command, messages),
-        [] => {
-            command.clear();
-            Ok(())
-        }
-    }
 }
 
 // Whether each name of the graph and each command can be written. A name that many need is looked at once.

@@ -1,12 +1,13 @@
 //! What is stored for the groups of a plan besides their nodes.
-ghost use Rattle.std.specs.Prelude.{◌≡◌, ◌≤◌, ◌++◌, ◌∷◌, [], OnOk, length, option_map, slice_get, true};
+ghost use Rattle.std.specs.Prelude.{◌≡◌, ◌++◌, ◌∷◌, [], OnOk, false, get_or, length, option_map, take, true};
 ghost use Rattle.std.specs.List.{list_all, list_any};
+ghost use Rattle.std.specs.Option.{option_to_list};
 ghost use Rattle.kt_ninja.specs.Writable.{is_made};
 ghost use Rattle.kt_recipe.specs.Views.{command_in};
 ghost use Rattle.kati.specs.Planning.{made_by};
-ghost use Rattle.kati.specs.inner.Drawn.{drawing_view, drawn_view, joined_view};
+ghost use Rattle.kati.specs.inner.Drawn.{first_joined, joined_view, no_drawn};
 
-use kt_list::{Names, narrow};
+use kt_list::{Names, Rows};
 use kt_ninja::command_can_hold;
 use kt_rules::Name;
 use std::alloc::{AllocError, Global};
@@ -20,43 +21,29 @@ pub(crate) struct Joined {
     pub order_only: Vec<Name>,
 }
 
-// What is stored for a group. Its command is between two places of the text of all commands.
-#[derive(Drop)]
-struct Mark {
-    start: u32,
-    end: u32,
-    always: bool,
-    joined: Option<Box<Joined>>,
-}
-
-/// The same, with the command as a text of its own.
-#[derive(Clone, Copy)]
-pub(crate) struct Drawing<'a> {
-    /// Whether the group is always made.
-    pub always: bool,
-    /// The joined prerequisites of the members, if there are several.
-    pub joined: Option<&'a Joined>,
-    /// The command, which is empty if there is none.
-    pub command: &'a [u8],
-}
-
-/// What is stored for each group, in order. The commands of all groups are in one text, which has at most 4,294,967,295
-/// bytes: more are refused as if memory were.
+/// What is stored for each group, in order: its command, and 9 bytes.
+///
+/// All commands together have at most 4,294,967,295 bytes: more are refused as if memory were.
 #[derive(Drop)]
 pub(crate) struct Sketch {
-    text: Vec<u8>,
-    marks: Vec<Mark>,
+    // Each is empty if the group has none.
+    commands: Rows<u8>,
+    // A row of one for a group with several members, and else an empty one.
+    joined: Rows<Box<Joined>>,
+    always: Vec<bool>,
+    // Whether each command can be written.
+    writable: bool,
 }
 
 impl Model for Sketch {
-    ghost use Rattle.std.specs.Prelude.{List, length, map};
-    ghost use Rattle.kati.specs.inner.Drawn.{AreMarksWithin, Drawn, drawn_view};
+    ghost use Rattle.std.specs.Prelude.{List};
+    ghost use Rattle.kati.specs.inner.Drawn.{AreOfGroups, Drawn, all_drawn};
 
     ghost Value = { List Drawn };
 
-    ghost view = { λ sketch. map (drawn_view sketch.text.items) sketch.marks.items };
+    ghost view = { λ sketch. all_drawn sketch.commands sketch.joined sketch.always.items };
 
-    ghost invariant = { λ sketch. AreMarksWithin (length sketch.text.items) sketch.marks.items };
+    ghost invariant = { λ sketch. AreOfGroups sketch.commands sketch.joined sketch.always.items sketch.writable };
 }
 
 impl Sketch {
@@ -64,8 +51,10 @@ impl Sketch {
         ensures { result ≡ [] }
     {
         Sketch {
-            text: Vec::new(alloc),
-            marks: Vec::new(alloc),
+            commands: Rows::new(alloc),
+            joined: Rows::new(alloc),
+            always: Vec::new(alloc),
+            writable: true,
         }
     }
 
@@ -73,21 +62,21 @@ impl Sketch {
     pub(crate) fn len(&self) -> usize
         ensures { result ≡ length self.now }
     {
-        self.marks.len()
+        self.always.len()
     }
 
     /// Whether one of them is always made.
     pub(crate) fn has_always(&self) -> bool
         ensures { result ≡ list_any (λ drawn. drawn.always) self.now }
     {
-        any_always(self.marks.as_slice())
+        any_always(self.always.as_slice())
     }
 
-    /// Whether each command can be written, which the text of all commands tells at once.
+    /// Whether each command can be written. Nothing is promised where it isn't known that all can.
     pub(crate) fn has_writable_commands(&self) -> bool
         ensures { result ≡ true → list_all (λ drawn. is_made (made_by drawn.command)) self.now ≡ true }
     {
-        command_can_hold(self.text.as_slice())
+        self.writable
     }
 
     /// Adds a group at the end.
@@ -103,53 +92,83 @@ impl Sketch {
           command = command_in command.now;
         } ∷ []) }
     {
-        let start = narrow(self.text.len())?;
-        self.text.extend_from_slice(command)?;
-        let end = narrow(self.text.len())?;
-        self.marks.push(Mark {
-            start,
-            end,
-            always,
-            joined,
-        })?;
+        let groups = self.always.len();
+        self.always.reserve(1)?;
+        self.commands.push_row(command)?;
+        if push_joined(&mut self.joined, joined).is_err() {
+            self.commands.truncate(groups);
+            self.joined.truncate(groups);
+            return Err(AllocError);
+        }
+        self.always.push_reserved(always);
+        self.writable = self.writable && command_can_hold(command);
         Ok(())
     }
 
-    /// What is stored for the group at a place.
+    /// Whether the group at a place is always made.
     #[inline(always)]
-    pub(crate) fn get(&self, place: usize) -> Option<Drawing<'_>>
-        ensures { option_map drawing_view result ≡ slice_get self.now place }
+    pub(crate) fn always(&self, place: usize) -> bool
+        ensures { result ≡ (get_or self.now place no_drawn).always }
     {
-        match self.marks.as_slice().get(place) {
-            Some(mark) => Some(drawing_of(self.text.as_slice(), mark)),
-            None => None,
-        }
+        flag_at(self.always.as_slice(), place)
+    }
+
+    /// The joined prerequisites of the members of the group at a place, if there are several.
+    #[inline(always)]
+    pub(crate) fn joined(&self, place: usize) -> Option<&Joined>
+        ensures { option_map (λ b. joined_view b.now) result ≡ (get_or self.now place no_drawn).joined }
+    {
+        first_of(row_at(&self.joined, place))
+    }
+
+    /// The command of the group at a place, which is empty if there is none.
+    #[inline(always)]
+    pub(crate) fn command(&self, place: usize) -> &[u8]
+        ensures { command_in result.now ≡ (get_or self.now place no_drawn).command }
+    {
+        row_at(&self.commands, place)
     }
 }
 
-fn any_always(marks: &[Mark]) -> bool
-    ensures { result ≡ list_any (λ mark. mark.always) marks.now }
+fn any_always(always: &[bool]) -> bool
+    ensures { result ≡ list_any (λ one. one) always.now }
 {
-    marks.iter().any(|mark| mark.always)
+    always.iter().any(|one| *one)
 }
 
-fn drawing_of<'a>(text: &'a [u8], mark: &'a Mark) -> Drawing<'a>
-    requires rises { mark.now.start ≤ mark.now.end }
-    requires within { mark.now.end ≤ length text.now }
-    ensures { drawing_view result ≡ drawn_view text.now mark.now }
+fn flag_at(flags: &[bool], place: usize) -> bool
+    ensures { result ≡ get_or flags.now place false }
 {
-    Drawing {
-        always: mark.always,
-        joined: joined_in(&mark.joined),
-        command: &text[mark.start as usize..mark.end as usize],
+    flags.get(place).copied().unwrap_or(false)
+}
+
+#[inline(always)]
+fn row_at<T>(rows: &Rows<T>, place: usize) -> &[T]
+    ensures { result.now ≡ get_or rows.now place [] }
+{
+    match rows.row(place) {
+        Some(row) => row,
+        None => &[],
     }
 }
 
-fn joined_in(joined: &Option<Box<Joined>>) -> Option<&Joined>
-    ensures { option_map (λ b. joined_view b.now) result ≡ option_map (λ b. joined_view b.value) joined.now }
+// Adds a row of one or none. If memory runs out, the row may be there.
+fn push_joined(rows: &mut Rows<Box<Joined>>, joined: Option<Box<Joined>>) -> Result<(), AllocError>
+    ensures added { OnOk result (rows.new ≡ rows.old ++ option_to_list joined ∷ []) }
+    ensures kept { take (length rows.old) rows.new ≡ rows.old }
+{
+    rows.open_row()?;
+    match joined {
+        Some(joined) => rows.push(joined),
+        None => Ok(()),
+    }
+}
+
+fn first_of(joined: &[Box<Joined>]) -> Option<&Joined>
+    ensures { option_map (λ b. joined_view b.now) result ≡ first_joined joined.now }
 {
     match joined {
-        Some(joined) => Some(joined.as_ref()),
-        None => None,
+        [first, ..] => Some(first.as_ref()),
+        [] => None,
     }
 }

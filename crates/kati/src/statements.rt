@@ -1,39 +1,22 @@
-//! Stores the groups of a plan.
+//! What the statement of a group says besides its command.
 ghost use Rattle.std.specs.Prelude.{◌≡◌, ◌&&◌, ◌++◌, ◌∷◌, [], filter, flat_map, fold, is_some, not, option_map};
 ghost use Rattle.std.specs.Prelude.{IfOk, OnOk};
 ghost use Rattle.kt_rules.specs.Names.{is_among, with_name, without_repeats};
 ghost use Rattle.kt_graph.specs.nodes.Node.{inputs_of, order_only_of};
 ghost use Rattle.kt_recipe.specs.Views.{command_in};
 ghost use Rattle.kati.specs.Planning.{has_phony, joined_inputs, joined_order_only};
-ghost use Rattle.kati.specs.inner.Drawn.{drawn_of, joined_of, joined_view};
+ghost use Rattle.kati.specs.inner.Drawn.{joined_of, joined_view};
 ghost use Rattle.kati.specs.inner.Shared.{MayShare};
 
-use crate::sketch::{Joined, Sketch};
+use crate::sketch::Joined;
 use kt_graph::{Inputs, Node};
 use kt_list::Names;
 use kt_rules::{Book, Name};
 use std::alloc::{AllocError, Global};
 use std::boxed::Box;
 
-/// Adds what is stored for a group at the end. Its command is empty if it has none. Members that share their inputs are
-/// told, so that these are joined by looking at one member.
-pub(crate) fn sketch_group(
-    alloc: Global,
-    book: &Book,
-    group: &[Node],
-    shares: bool,
-    command: &[u8],
-    sketch: &mut Sketch,
-) -> Result<(), AllocError>
-    requires { MayShare group.now shares }
-    ensures { OnOk result (sketch.new ≡ sketch.old ++ drawn_of book.now group.now (command_in command.now) ∷ []) }
-{
-    let joined = joined_if_several(alloc, group, shares)?;
-    sketch.push(is_always_made(book, group, command), joined, command)
-}
-
-// Whether a group is always made: it has a command and a phony member.
-fn is_always_made(book: &Book, group: &[Node], command: &[u8]) -> bool
+/// Whether a group is always made: it has a command and a phony member.
+pub(crate) fn is_always_made(book: &Book, group: &[Node], command: &[u8]) -> bool
     ensures { result ≡ (is_some (command_in command.now) && has_phony book.now group.now) }
 {
     match command {
@@ -42,8 +25,8 @@ fn is_always_made(book: &Book, group: &[Node], command: &[u8]) -> bool
     }
 }
 
-// The joined prerequisites of the members. A single member's own are used as they are.
-fn joined_if_several(
+/// The joined prerequisites of the members. A single member's own are used as they are.
+pub(crate) fn joined_if_several(
     alloc: Global,
     group: &[Node],
     shares: bool,

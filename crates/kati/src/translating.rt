@@ -23,7 +23,7 @@ use crate::graph_plan::GraphPlan;
 use crate::listing::listed;
 use crate::makefile::makefile_read;
 use crate::outcome::Outcome;
-use crate::planning::graph_plan;
+use crate::planning::Planner;
 use kati_args::Args;
 use kt_eval::{Fault, Files, Makefile, Stop};
 use kt_graph::{Graph, GraphFault, Known, graph};
@@ -154,7 +154,8 @@ fn planned_goals<'p>(
     ensures sound { IfOk result (λ plan. IsSoundPlan (plan_view plan)) }
 {
     let graph = sound_graph(alloc, found, goals.as_slice())?;
-    graph_plan(alloc, &found.makefile, args.limit, graph, goals, messages)
+    let mut planner = Planner::new(alloc, &found.makefile, args.limit)?;
+    planner.plan(graph, goals, messages)
 }
 
 // The graph of these goals, unless something is wrong with it.

@@ -1,19 +1,15 @@
 -- A plan that is read from the graph (kati's own).
-use Rattle.std.specs.Prelude.{◌≡◌, ℕ, ◌&&◌, Bool, List, [], ◌∷◌, ◌++◌, Option, Some, None, option_map, is_some, ◌≤◌}
+use Rattle.std.specs.Prelude.{◌≡◌, ◌&&◌, Bool, List, [], ◌∷◌, Option, Some, None, is_some, false, length, true}
 use Rattle.std.specs.Prelude.{if◌then◌else◌}
-use Rattle.kati.specs.Prelude.{list_any, slice_range, Text, Rule, Table, Node, inputs_of, order_only_of, Statement}
-use Rattle.kt_eval.specs.Outcome.{StepOver, ◌>>=◌, done}
+use Rattle.std.specs.List.{list_all}
+use Rattle.std.specs.declared.alloc.Global.{Global}
+use Rattle.std.specs.declared.boxed.Box.{Box}
+use Rattle.kt_ninja.specs.Writable.{is_made}
+use Rattle.kati.specs.Prelude.{list_any, Text, Rule, Node, inputs_of, order_only_of, Statement}
 use Rattle.kt_recipe.specs.Views.{command_in}
 use Rattle.kati.specs.declared.sketch.Joined.{Joined as HeldJoined}
-use Rattle.kati.specs.declared.sketch.Mark.{Mark}
-use Rattle.kati.specs.declared.sketch.Drawing.{Drawing}
-use Rattle.kati.specs.Planning.{always_built, command_for, has_phony, implicit_of, joined_inputs, joined_order_only}
+use Rattle.kati.specs.Planning.{always_built, has_phony, implicit_of, joined_inputs, joined_order_only}
 use Rattle.kati.specs.Planning.{made_by, outs_of, with_always_built}
-
--- the places of marks rise, and are in a list of this length
-abbrev pub AreRanges : {A : Type 0} → (A → ℕ) → (A → ℕ) → ℕ → List A → Type 0
-AreRanges start end size [] = Unit {0}
-AreRanges start end size (mark ∷ marks) = (start mark ≤ end mark) × (end mark ≤ size) × AreRanges start end size marks
 
 -- the joined prerequisites of the members of a group
 pub record Joined : Type 0 where
@@ -77,33 +73,36 @@ abbrev pub AlwaysFirst : List (List Node) → List Drawn → Type 0
 AlwaysFirst groups drawn = always_drawn (list_any (λ one. one.always) drawn) (statements_drawn groups drawn)
     ≡ with_always_built (statements_drawn groups drawn)
 
--- what is stored for each group, after the given ones
-unfoldable pub draw_groups : List Rule → Table → ℕ → List (List Node) → List Drawn → StepOver (List Text) (List Drawn)
-draw_groups rules table limit [] before = done before
-draw_groups rules table limit (group ∷ groups) before = do
-  command ← command_for table limit group
-  draw_groups rules table limit groups (before ++ drawn_of rules group command ∷ [])
-
 -- ---- as the code stores it
 
 abbrev pub joined_view : HeldJoined → Joined
 joined_view joined = record { inputs = joined.inputs; order_only = joined.order_only.items }
 
--- the command of a mark is between its places in the text of all commands
-abbrev pub drawn_view : Text → Mark → Drawn
-drawn_view text mark = record {
-  always = mark.always;
-  joined = option_map (λ b. joined_view b.value) mark.joined;
-  command = command_in (slice_range text mark.start mark.end);
-}
+abbrev pub BoxedJoined : Type 0
+BoxedJoined = Box HeldJoined Global
 
--- the places of marks are in a text of this length
-abbrev pub AreMarksWithin : ℕ → List Mark → Type 0
-AreMarksWithin size marks = AreRanges (λ (mark : Mark). mark.start) (λ (mark : Mark). mark.end) size marks
+-- those of a row of none or one
+abbrev pub first_joined : List BoxedJoined → Option Joined
+first_joined [] = None
+first_joined (first ∷ others) = Some (joined_view first.value)
 
-abbrev pub drawing_view : Drawing → Drawn
-drawing_view drawing = record {
-  always = drawing.always;
-  joined = option_map (λ b. joined_view b.now) drawing.joined;
-  command = command_in drawing.command.now;
-}
+-- each group by its command, its row of joined prerequisites, and whether it is always made
+abbrev pub all_drawn : List Text → List (List BoxedJoined) → List Bool → List Drawn
+all_drawn [] joined always = []
+all_drawn (command ∷ commands) [] always = []
+all_drawn (command ∷ commands) (row ∷ joined) [] = []
+all_drawn (command ∷ commands) (row ∷ joined) (one ∷ always) =
+    record { always = one; joined = first_joined row; command = command_in command } ∷ all_drawn commands joined always
+
+abbrev pub is_written : Text → Bool
+is_written command = is_made (made_by (command_in command))
+
+-- as many of each, and commands that can be written if all are said to be
+abbrev pub AreOfGroups : List Text → List (List BoxedJoined) → List Bool → Bool → Type 0
+AreOfGroups commands joined always writable =
+    (length commands ≡ length always) × (length joined ≡ length always)
+    × (writable ≡ true → list_all is_written commands ≡ true)
+
+-- what is taken to be stored where there is no group
+abbrev pub no_drawn : Drawn
+no_drawn = record { always = false; joined = None; command = None }

@@ -1,10 +1,7 @@
 -- Groups whose members are told to share their inputs (kati's own).
 use Rattle.std.specs.Prelude.{◌≡◌, Bool, List, true}
-use Rattle.kati.specs.Prelude.{AllZip, Node, ShareInputs}
+use Rattle.kati.specs.Prelude.{Node, ShareInputs}
 
 -- members that are told to share their inputs do
 abbrev pub MayShare : List Node → Bool → Type 0
 MayShare group shares = shares ≡ true → ShareInputs group
-
-abbrev pub AreShared : List (List Node) → List Bool → Type 0
-AreShared groups shared = AllZip MayShare groups shared

@@ -1,5 +1,5 @@
 -- The plan in the code's own types (kati's own).
-use Rattle.std.specs.Prelude.{List, [], ◌∷◌, Option, Some, None}
+use Rattle.std.specs.Prelude.{List, [], ◌∷◌, Option, Some, None, get_or}
 use Rattle.kati.specs.Prelude.{Text, Statement, Plan}
 use Rattle.kati.specs.declared.name_list.NameList.{NameList}
 use Rattle.kati.specs.declared.name_list.NameList.TheVariants as lists
@@ -7,7 +7,7 @@ use Rattle.kati.specs.declared.graph_plan.GraphPlan.{GraphPlan}
 use Rattle.kati.specs.declared.graph_plan.PlanPart.{PlanPart}
 use Rattle.kati.specs.declared.graph_plan.PlanPart.TheVariants as parts
 use Rattle.kati.specs.Planning.{always_build, always_built, outs_of}
-use Rattle.kati.specs.inner.Drawn.{always_drawn, drawing_view, statement_drawn, statements_drawn}
+use Rattle.kati.specs.inner.Drawn.{always_drawn, no_drawn, statement_drawn, statements_drawn}
 
 -- the plan
 abbrev pub plan_view : GraphPlan → Plan
@@ -29,4 +29,4 @@ names_view (lists.Names names) = names.now
 abbrev pub part_view : PlanPart → Option Statement
 part_view parts.Missing = None
 part_view parts.Always = Some always_built
-part_view (parts.Group nodes drawing) = Some (statement_drawn nodes.now (drawing_view drawing))
+part_view (parts.Group nodes sketch place) = Some (statement_drawn nodes.now (get_or sketch.now place no_drawn))

@@ -20,19 +20,23 @@ returns-in_err-graph-clause-asks_nothing c =
 
 pub returns-clause-means : goal.returns-clause-means
 returns-clause-means c = λ asked.
+    let made = c.in_ok-planner.ensures in
+    let gives = rw (made.book, made.table, made.limit) at c.plan.ensures.gives in
     seen_means plan_view c.args.args.now.limit (found_view c.args.found.now c.args.goals.items) (traced c.args.messages.now.items asked) _
-    c.graph_plan.new.messages.items c.graph_plan.result (search rules) c.graph_plan.ensures.gives
+    c.plan.new.messages.items c.plan.result (search rules) gives
 
-pub graph_plan-requires : goal.graph_plan-requires
-graph_plan-requires c = (known_names c.args.found.now.makefile.book c.args.found.now.list.items, search rules)
+pub plan-requires : goal.plan-requires
+plan-requires c = (known_names c.args.found.now.makefile.book c.args.found.now.list.items, search rules)
 
 pub returns-clause-writable : goal.returns-clause-writable
-returns-clause-writable c = c.graph_plan.ensures.writable
+returns-clause-writable c = c.plan.ensures.writable
 
 pub returns-clause-sound : goal.returns-clause-sound
 returns-clause-sound c =
+    let made = c.in_ok-planner.ensures in
+    let gives = rw (made.book, made.table, made.limit) at c.plan.ensures.gives in
     let want = found_view c.args.found.now c.args.goals.items in
     let sound : IsSoundGraph want.read.book want.known want.goals c.in_ok-graph.graph.now = search rules in
-    sound_if_ok plan_view c.args.args.now.limit want (traced c.args.messages.now.items []) (traced c.graph_plan.new.messages.items []) c.graph_plan.result
-    (seen_means plan_view c.args.args.now.limit want (traced c.args.messages.now.items []) _ c.graph_plan.new.messages.items c.graph_plan.result sound c.graph_plan.ensures.gives)
-    c.graph_plan.ensures.writable
+    sound_if_ok plan_view c.args.args.now.limit want (traced c.args.messages.now.items []) (traced c.plan.new.messages.items []) c.plan.result
+    (seen_means plan_view c.args.args.now.limit want (traced c.args.messages.now.items []) _ c.plan.new.messages.items c.plan.result sound gives)
+    c.plan.ensures.writable

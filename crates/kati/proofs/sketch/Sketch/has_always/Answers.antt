@@ -5,5 +5,7 @@ use Rattle.kati.proofs.sketch.Sketch.has_always.Goals as goal
 
 pub returns : goal.returns
 returns c =
-    rw c.as_slice.ensures.value at c.any_always.ensures ∙ any_drawn c.self.inside.text.items c.self.inside.marks.items
-    ∙ ap (list_any (λ one. one.always)) c.self.view_is
+    let sketch = c.self.inside in
+    rw c.as_slice.ensures.value at c.any_always.ensures
+    ∙ any_drawn sketch.commands sketch.joined sketch.always.items c.self.invariant.0 c.self.invariant.1
+    ∙ ap (list_any (λ drawn. drawn.always)) c.self.view_is
