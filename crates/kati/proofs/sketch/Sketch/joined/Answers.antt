@@ -1,5 +1,5 @@
 use Rattle.std.proofs.Common.{◌∙◌, ap}
-use Rattle.kati.specs.inner.Drawn.{BoxedJoined, Drawn, first_joined}
+use Rattle.kati.specs.inner.Drawn.{Drawn, first_joined}
 use Rattle.kati.proofs.SketchLemmas.{one_is}
 use Rattle.kati.proofs.sketch.Sketch.joined.Goals as goal
 
