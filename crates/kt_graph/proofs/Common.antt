@@ -30,7 +30,7 @@ pub use Rattle.kt_graph.specs.inner.nodes.Stored.{AreAlike, AreRowsOf, AreStored
 pub use Rattle.kt_graph.specs.inner.search.Ends.{AreAllNoted, AreNoted, HasAll, IsFixedEnd, IsNoted, KeepsNoted, NotesAll, NotesEnd, candidate_numbered, candidates_numbered, numbers_at}
 pub use Rattle.kt_graph.specs.nodes.Node.{bare_part, chosen_rule, double_node, explicit_node, implicit_node, kind_without, needs_after, node_by, node_with, other_rules, part_of, plain_node, searched, used_rule}
 unfoldable pub use Rattle.kt_graph.specs.nodes.Node.{inputs_of, joined_needs, node_of, order_only_of, suffix_stem}
-pub use Rattle.kt_graph.specs.nodes.Views.{instance_at, instance_view, name_at, names_at, node_at, node_view, nodes_view, part_view}
+pub use Rattle.kt_graph.specs.nodes.Views.{NodeTable, instance_at, instance_view, name_at, names_at, node_at, node_numbered, node_view, nodes_view, part_view}
 pub use Rattle.kt_graph.specs.search.Candidates.{are_short, by_size, candidate_by, candidate_with, drops_any, has_slash, left_out, matched_part, needed_name, nonempty, shorter, shortest, size_of, spelled_out, unless_long, without_any}
 unfoldable pub use Rattle.kt_graph.specs.search.Candidates.{candidate_of, candidates_for, fit_of, matching_from, needed_names, stem_of}
 pub use Rattle.kt_graph.specs.search.Search.{Asking, Choosing, IsFoundByTrees, Searching, asked_among, asked_by, asked_eq, asked_for, asked_inside, chain_limit, chosen_of, is_begun, is_inferred, is_met, is_used, open_candidates, unknown_needs}

@@ -12,6 +12,7 @@ mod inferring;
 mod inputs;
 mod needing;
 pub(crate) mod node;
+mod node_table;
 pub(crate) mod numbering;
 mod part;
 mod reached;

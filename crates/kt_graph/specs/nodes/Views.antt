@@ -4,7 +4,13 @@ use Rattle.kt_graph.specs.Prelude.{option_and_then, Text, RecipeLine, Instance, 
 use Rattle.kt_graph.specs.declared.nodes.node.Instance.{Instance as Held}
 use Rattle.kt_graph.specs.declared.nodes.node.Instance.TheVariants as held
 use Rattle.kt_graph.specs.inner.nodes.Stems.{stem_in}
-use Rattle.kt_graph.specs.inner.nodes.Stored.{StoredNode, StoredPart}
+use Rattle.kt_graph.specs.inner.nodes.Stored.{StoredNode, StoredPart, stored_at}
+
+-- the names that goals need, the makings, and the nodes of the names
+pub record NodeTable : Type 0 where
+  pub names : List Text
+  pub instances : List Held
+  pub nodes : List StoredNode
 
 -- the name with a number
 abbrev pub name_at : List Text → ℕ → Text
@@ -53,9 +59,13 @@ node_view names instances number node = record {
   made_with = instance_at instances node.made_with;
 }
 
-abbrev pub node_at : List Text → List Held → List StoredNode → ℕ → Option Node
-node_at names instances nodes number = option_map (node_view names instances number) (slice_get nodes number)
+abbrev pub node_at : NodeTable → ℕ → Option Node
+node_at table number = option_map (node_view table.names table.instances number) (slice_get table.nodes number)
+
+-- the same where there is one
+abbrev pub node_numbered : NodeTable → ℕ → Node
+node_numbered table number = node_view table.names table.instances number (stored_at table.nodes number)
 
 -- the nodes with these numbers, in order
-abbrev pub nodes_view : List Text → List Held → List StoredNode → List ℕ → List Node
-nodes_view names instances nodes order = filter_map (node_at names instances nodes) order
+abbrev pub nodes_view : NodeTable → List ℕ → List Node
+nodes_view table order = filter_map (node_at table) order

@@ -12,10 +12,9 @@ ghost use Rattle.kt_graph.specs.faults.Faults.{IsFileTrouble};
 ghost use Rattle.kt_graph.specs.faults.Paths.{canon_of, is_reserved};
 ghost use Rattle.kt_graph.specs.nodes.Groups.{groups_of};
 ghost use Rattle.kt_graph.specs.inner.faults.Files.{is_repeated, made_names};
-ghost use Rattle.kt_graph.specs.inner.nodes.Numbering.{HasNumbers};
 ghost use Rattle.kt_graph.specs.Reach.{ComesFirst, IsCyclic, IsFirst, IsGraph};
 ghost use Rattle.kt_graph.specs.inner.nodes.GraphBuilder.{IsDone};
-ghost use Rattle.kt_graph.specs.inner.nodes.Graph.{AreNodesHeld, makes_among};
+ghost use Rattle.kt_graph.specs.inner.nodes.Graph.{makes_among};
 ghost use Rattle.kt_graph.specs.nodes.Views.{node_at, nodes_view};
 ghost use Rattle.kt_graph.specs.faults.Views.{trouble_view};
 
@@ -27,10 +26,9 @@ use crate::known::Known;
 use crate::nodes::byte_order::byte_order;
 use crate::nodes::graph_builder::GraphBuilder;
 use crate::nodes::grouping::Groups;
-use crate::nodes::node::{Instance, Node, name_of};
-use crate::nodes::numbering::NameNumbers;
+use crate::nodes::node::{Node, name_of};
+use crate::nodes::node_table::NodeTable;
 use crate::nodes::stored::StoredNodes;
-use indexmap::IndexSet;
 use kt_rules::{Book, Name};
 use std::alloc::{AllocError, Global};
 use std::marker::Model;
@@ -41,9 +39,7 @@ use std::marker::Model;
 #[derive(Drop)]
 pub struct Graph<'a> {
     alloc: Global,
-    names: NameNumbers<'a>,
-    nodes: StoredNodes<'a>,
-    instances: IndexSet<Instance>,
+    table: NodeTable<'a>,
     // The numbers of all names, in byte order of the names.
     order: Vec<u32>,
 }
@@ -56,11 +52,11 @@ impl<'a> Model for Graph<'a> {
 
     ghost use Rattle.kt_graph.specs.nodes.Views.{nodes_view};
 
-    ghost view = { λ graph. nodes_view graph.names graph.instances.keys graph.nodes graph.order.items };
+    ghost view = { λ graph. nodes_view graph.table graph.order.items };
 
     ghost use Rattle.kt_graph.specs.inner.nodes.Graph.{IsWhole};
 
-    ghost invariant = { λ graph. IsWhole graph.names graph.instances.keys graph.nodes graph.order.items };
+    ghost invariant = { λ graph. IsWhole graph.table graph.order.items };
 }
 
 impl<'a> Graph<'a> {
@@ -69,9 +65,7 @@ impl<'a> Graph<'a> {
         ensures { result ≡ self.now }
     {
         Nodes {
-            names: &self.names,
-            instances: self.instances.as_slice(),
-            nodes: &self.nodes,
+            table: &self.table,
             numbers: self.order.as_slice(),
         }
     }
@@ -80,9 +74,8 @@ impl<'a> Graph<'a> {
     pub fn node(&self, name: &[u8]) -> Option<Node<'_>>
         ensures { result ≡ find (λ node. bytes_eq name.now node.name) self.now }
     {
-        let instances = self.instances.as_slice();
-        match self.names.number_of(name) {
-            Some(number) => node_at(&self.names, instances, &self.nodes, number),
+        match self.table.names().number_of(name) {
+            Some(number) => node_at(&self.table, number),
             None => None,
         }
     }
@@ -91,13 +84,7 @@ impl<'a> Graph<'a> {
     pub fn groups(&self) -> Result<Groups<'_>, AllocError>
         ensures { IfOk result (λ groups. groups ≡ groups_of self.now) }
     {
-        Groups::of(
-            self.alloc,
-            &self.names,
-            self.instances.as_slice(),
-            &self.nodes,
-            self.order.as_slice(),
-        )
+        Groups::of(self.alloc, &self.table, self.order.as_slice())
     }
 
     /// The graph, whatever is wrong with it.
@@ -118,30 +105,23 @@ impl<'a> Graph<'a> {
             instances,
             ..
         } = builder;
-        Graph::whole(alloc, numbers, nodes, instances)
+        let table = NodeTable::new(numbers, instances, nodes);
+        Graph::whole(alloc, table)
     }
 
     // The graph of names and their nodes.
-    fn whole(
-        alloc: Global,
-        names: NameNumbers<'a>,
-        nodes: StoredNodes<'a>,
-        instances: IndexSet<Instance>,
-    ) -> Result<Graph<'a>, AllocError>
-        requires numbers { All (HasNumbers (length names) (length instances.keys)) nodes }
-        requires all { length nodes ≡ length names }
+    fn whole(alloc: Global, table: NodeTable<'a>) -> Result<Graph<'a>, AllocError>
+        requires { length table.nodes ≡ length table.names }
         ensures { IfOk result (λ graph. (rules : List Rule) (known goals : List Text)
-            → IsDone rules known goals names.entry instances.keys nodes.entry → IsGraph rules known goals graph) }
+            → IsDone rules known goals table.entry.names table.entry.instances table.entry.nodes
+            → IsGraph rules known goals graph) }
     {
-        let order = byte_order(alloc, &names)?;
-        // These tell that no two names are equal, and no two makings.
-        let _count = names.len();
-        let _instances = instances.as_slice();
+        let order = byte_order(alloc, table.names())?;
+        // This tells that the numbers of nodes are those of names and makings.
+        let _nodes = table.nodes();
         Ok(Graph {
             alloc,
-            names,
-            nodes,
-            instances,
+            table,
             order,
         })
     }
@@ -187,14 +167,14 @@ impl<'a> Graph<'a> {
             → MatchOption found ((name : Text) → ¬ IsCyclic rules known goals name)
             (λ name. IsFirst (IsCyclic rules known goals) name.now)) }
     {
-        let edges = Edges::of(self.alloc, &self.nodes, self.instances.len())?;
+        let edges = Edges::of(self.alloc, self.table.nodes(), self.table.instances().len())?;
         match first_circular(
             self.alloc,
             &edges,
             &StoredNodes::new(self.alloc),
             self.order.as_slice(),
         )? {
-            Some(number) => Ok(Some(name_of(&self.names, number))),
+            Some(number) => Ok(Some(name_of(self.table.names(), number))),
             None => Ok(None),
         }
     }
@@ -223,8 +203,9 @@ impl<'a> Graph<'a> {
         ensures unreserved { result ≡ true → list_any (λ node. is_reserved node.name) self.now ≡ false }
         ensures canonical { result ≡ true → All (λ name. canon_of name ≡ name) (made_names self.now) }
     {
-        for number in 0..self.names.len() {
-            if !is_plain(name_of(&self.names, number)) {
+        let names = self.table.names();
+        for number in 0..names.len() {
+            if !is_plain(name_of(names, number)) {
                 return false;
             }
         }
@@ -248,9 +229,7 @@ impl<'a> Graph<'a> {
 /// The nodes of a graph, in byte order of their names.
 #[derive(Drop)]
 pub struct Nodes<'g> {
-    names: &'g NameNumbers<'g>,
-    instances: &'g [Instance],
-    nodes: &'g StoredNodes<'g>,
+    table: &'g NodeTable<'g>,
     numbers: &'g [u32],
 }
 
@@ -262,11 +241,7 @@ impl<'g> Model for Nodes<'g> {
 
     ghost use Rattle.kt_graph.specs.nodes.Views.{nodes_view};
 
-    ghost view = { λ nodes. nodes_view nodes.names.now nodes.instances.now nodes.nodes.now nodes.numbers.now };
-
-    ghost use Rattle.kt_graph.specs.inner.nodes.Graph.{AreNodesHeld};
-
-    ghost invariant = { λ nodes. AreNodesHeld nodes.names.now nodes.instances.now nodes.nodes.now };
+    ghost view = { λ nodes. nodes_view nodes.table.now nodes.numbers.now };
 }
 
 impl<'g> Iterator for Nodes<'g> {
@@ -277,28 +252,21 @@ impl<'g> Iterator for Nodes<'g> {
     ghost remaining = { item_count (λ nodes. nodes) };
 
     fn next(&mut self) -> Option<Node<'g>> {
-        let (node, numbers) = first_node(self.names, self.instances, self.nodes, self.numbers)?;
+        let (node, numbers) = first_node(self.table, self.numbers)?;
         self.numbers = numbers;
         Some(node)
     }
 }
 
 // The first node of numbers, and the numbers after it.
-fn first_node<'g>(
-    names: &'g NameNumbers<'g>,
-    instances: &'g [Instance],
-    nodes: &'g StoredNodes<'g>,
-    numbers: &'g [u32],
-) -> Option<(Node<'g>, &'g [u32])>
-    requires { AreNodesHeld names.now instances.now nodes.now }
-    ensures { MatchOption result (nodes_view names.now instances.now nodes.now numbers.now ≡ [])
-        (λ cut. nodes_view names.now instances.now nodes.now numbers.now ≡ cut.0
-        ∷ nodes_view names.now instances.now nodes.now cut.1.now) }
+fn first_node<'g>(table: &'g NodeTable<'g>, numbers: &'g [u32]) -> Option<(Node<'g>, &'g [u32])>
+    ensures { MatchOption result (nodes_view table.now numbers.now ≡ [])
+        (λ cut. nodes_view table.now numbers.now ≡ cut.0 ∷ nodes_view table.now cut.1.now) }
 {
     let mut left = numbers;
     while let [number, after @ ..] = left {
         left = after;
-        if let Some(node) = node_at(names, instances, nodes, *number as usize) {
+        if let Some(node) = node_at(table, *number as usize) {
             return Some((node, after));
         }
     }
@@ -306,17 +274,11 @@ fn first_node<'g>(
 }
 
 // The node with a number.
-fn node_at<'g>(
-    names: &'g NameNumbers<'g>,
-    instances: &'g [Instance],
-    nodes: &'g StoredNodes<'g>,
-    number: usize,
-) -> Option<Node<'g>>
-    requires { AreNodesHeld names.now instances.now nodes.now }
-    ensures { result ≡ node_at names.now instances.now nodes.now number }
+fn node_at<'g>(table: &'g NodeTable<'g>, number: usize) -> Option<Node<'g>>
+    ensures { result ≡ node_at table.now number }
 {
-    if number < nodes.len() {
-        Some(Node::new(names, instances, nodes, number))
+    if number < table.nodes().len() {
+        Some(Node::new(table, number))
     } else {
         None
     }

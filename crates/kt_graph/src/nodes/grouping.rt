@@ -6,11 +6,11 @@ ghost use Rattle.kt_graph.specs.inner.nodes.Grouping.{AreAllAlike, HasMembers, i
 ghost use Rattle.kt_graph.specs.inner.nodes.Grouping.{leads_by, making_at, members_of, with_member};
 ghost use Rattle.kt_graph.specs.nodes.Groups.{FirstSharesInputs, groups_of};
 ghost use Rattle.kt_graph.specs.nodes.Views.{nodes_view};
-ghost use Rattle.kt_graph.specs.inner.nodes.Graph.{AreNodesHeld, IsWhole};
+ghost use Rattle.kt_graph.specs.inner.nodes.Graph.{IsWhole};
 
 use crate::faults::rows::{add, bare, row_at};
-use crate::nodes::node::{Instance, Node, NodeKind};
-use crate::nodes::numbering::NameNumbers;
+use crate::nodes::node::{Node, NodeKind};
+use crate::nodes::node_table::NodeTable;
 use crate::nodes::stored::StoredNodes;
 use std::alloc::{AllocError, Global};
 use std::marker::Model;
@@ -21,9 +21,7 @@ use std::marker::Model;
 /// A group is identified by its first member, so a group of one takes no memory.
 #[derive(Drop)]
 pub struct Groups<'g> {
-    names: &'g NameNumbers<'g>,
-    instances: &'g [Instance],
-    nodes: &'g StoredNodes<'g>,
+    table: &'g NodeTable<'g>,
     // The numbers that remain.
     numbers: &'g [u32],
     // The numbers of the nodes of each making.
@@ -39,32 +37,22 @@ impl<'g> Model for Groups<'g> {
     ghost use Rattle.kt_graph.specs.inner.faults.Edges.{rows_held};
     ghost use Rattle.kt_graph.specs.inner.nodes.Grouping.{groups_left};
 
-    ghost view = { λ groups. groups_left groups.names.now groups.instances.now groups.nodes.now
-        (rows_held groups.members.items) groups.numbers.now };
-
-    ghost use Rattle.kt_graph.specs.inner.nodes.Graph.{AreNodesHeld};
-
-    ghost invariant = { λ groups. AreNodesHeld groups.names.now groups.instances.now groups.nodes.now };
+    ghost view = { λ groups. groups_left groups.table.now (rows_held groups.members.items) groups.numbers.now };
 }
 
 impl<'g> Groups<'g> {
     /// The groups of the nodes of an order.
     pub(crate) fn of(
         alloc: Global,
-        names: &'g NameNumbers<'g>,
-        instances: &'g [Instance],
-        nodes: &'g StoredNodes<'g>,
+        table: &'g NodeTable<'g>,
         order: &'g [u32],
     ) -> Result<Groups<'g>, AllocError>
-        requires { IsWhole names.now instances.now nodes.now order.now }
-        ensures { IfOk result (λ groups. groups
-            ≡ groups_of (nodes_view names.now instances.now nodes.now order.now)) }
+        requires { IsWhole table.now order.now }
+        ensures { IfOk result (λ groups. groups ≡ groups_of (nodes_view table.now order.now)) }
     {
-        let members = members_of(alloc, nodes, order, instances.len())?;
+        let members = members_of(alloc, table.nodes(), order, table.instances().len())?;
         Ok(Groups {
-            names,
-            instances,
-            nodes,
+            table,
             numbers: order,
             members,
         })
@@ -75,12 +63,11 @@ impl<'g> Groups<'g> {
     pub fn next_shares_inputs(&self) -> bool
         ensures { result ≡ true → FirstSharesInputs self.now }
     {
+        let nodes = self.table.nodes();
         let numbers = self.numbers;
-        let place = leader(self.nodes, self.members.as_slice(), numbers);
+        let place = leader(nodes, self.members.as_slice(), numbers);
         match numbers.get(place) {
-            Some(number) => {
-                are_members_alike(self.nodes, self.members.as_slice(), *number as usize)
-            }
+            Some(number) => are_members_alike(nodes, self.members.as_slice(), *number as usize),
             None => false,
         }
     }
@@ -89,19 +76,13 @@ impl<'g> Groups<'g> {
     pub fn next_into(&mut self, group: &mut Vec<Node<'g>>) -> Result<bool, AllocError>
         ensures { IfOk result (λ some. self.old ≡ (if some then group.new.items ∷ self.new else [])) }
     {
+        let nodes = self.table.nodes();
         let numbers = self.numbers;
-        let place = leader(self.nodes, self.members.as_slice(), numbers);
+        let place = leader(nodes, self.members.as_slice(), numbers);
         match numbers.get(place) {
             Some(number) => {
                 group.clear();
-                put_group(
-                    self.names,
-                    self.instances,
-                    self.nodes,
-                    self.members.as_slice(),
-                    *number as usize,
-                    group,
-                )?;
+                put_group(self.table, self.members.as_slice(), *number as usize, group)?;
                 self.numbers = &numbers[place + 1..];
                 Ok(true)
             }
@@ -210,53 +191,42 @@ fn is_first(numbers: &[u32], number: usize) -> bool
 
 // Appends the nodes of the group that a number is in.
 fn put_group<'g>(
-    names: &'g NameNumbers<'g>,
-    instances: &'g [Instance],
-    nodes: &'g StoredNodes<'g>,
+    table: &'g NodeTable<'g>,
     members: &[Vec<u32>],
     number: usize,
     group: &mut Vec<Node<'g>>,
 ) -> Result<(), AllocError>
-    requires { AreNodesHeld names.now instances.now nodes.now }
-    ensures { OnOk result (group.new.items ≡ group.old.items ++ nodes_view names.now instances.now nodes.now
-        (members_of nodes.now (rows_held members.now) number)) }
+    ensures { OnOk result (group.new.items ≡ group.old.items ++ nodes_view table.now
+        (members_of table.now.nodes (rows_held members.now) number)) }
 {
-    match making_at(nodes, number) {
-        Some(making) => put_all(names, instances, nodes, row_at(members, making), group),
-        None => put(names, instances, nodes, number, group),
+    match making_at(table.nodes(), number) {
+        Some(making) => put_all(table, row_at(members, making), group),
+        None => put(table, number, group),
     }
 }
 
 fn put_all<'g>(
-    names: &'g NameNumbers<'g>,
-    instances: &'g [Instance],
-    nodes: &'g StoredNodes<'g>,
+    table: &'g NodeTable<'g>,
     numbers: &[u32],
     group: &mut Vec<Node<'g>>,
 ) -> Result<(), AllocError>
-    requires { AreNodesHeld names.now instances.now nodes.now }
-    ensures { OnOk result (group.new.items
-        ≡ group.old.items ++ nodes_view names.now instances.now nodes.now numbers.now) }
+    ensures { OnOk result (group.new.items ≡ group.old.items ++ nodes_view table.now numbers.now) }
 {
     for number in numbers {
-        put(names, instances, nodes, *number as usize, group)?;
+        put(table, *number as usize, group)?;
     }
     Ok(())
 }
 
 fn put<'g>(
-    names: &'g NameNumbers<'g>,
-    instances: &'g [Instance],
-    nodes: &'g StoredNodes<'g>,
+    table: &'g NodeTable<'g>,
     number: usize,
     group: &mut Vec<Node<'g>>,
 ) -> Result<(), AllocError>
-    requires { AreNodesHeld names.now instances.now nodes.now }
-    ensures { OnOk result (group.new.items
-        ≡ group.old.items ++ nodes_view names.now instances.now nodes.now (number ∷ [])) }
+    ensures { OnOk result (group.new.items ≡ group.old.items ++ nodes_view table.now (number ∷ [])) }
 {
-    if number < nodes.len() {
-        group.push(Node::new(names, instances, nodes, number))?;
+    if number < table.nodes().len() {
+        group.push(Node::new(table, number))?;
     }
     Ok(())
 }

@@ -5,8 +5,8 @@ ghost use Rattle.kt_graph.specs.nodes.Node.{inputs_of, is_leaf, order_only_of};
 ghost use Rattle.kt_graph.specs.nodes.Views.{instance_view, name_at, part_lines, part_needed, part_order_only};
 ghost use Rattle.kt_graph.specs.nodes.Views.{part_stem};
 
+use crate::nodes::node_table::NodeTable;
 use crate::nodes::numbering::NameNumbers;
-use crate::nodes::stored::StoredNodes;
 use kt_rules::RecipeLine;
 use std::marker::Model;
 
@@ -46,9 +46,7 @@ pub enum Instance {
 /// part a node returns nothing.
 #[derive(Drop)]
 pub struct Node<'g> {
-    names: &'g NameNumbers<'g>,
-    instances: &'g [Instance],
-    nodes: &'g StoredNodes<'g>,
+    table: &'g NodeTable<'g>,
     number: usize,
 }
 
@@ -57,84 +55,67 @@ impl<'g> Model for Node<'g> {
 
     ghost Value = { Node };
 
-    ghost use Rattle.kt_graph.specs.nodes.Views.{node_view};
-    ghost use Rattle.kt_graph.specs.inner.nodes.Stored.{stored_at};
+    ghost use Rattle.kt_graph.specs.nodes.Views.{node_numbered};
 
-    ghost view = { λ node. node_view node.names.now node.instances.now node.number
-        (stored_at node.nodes.now node.number) };
-
-    ghost use Rattle.kt_graph.specs.inner.nodes.Graph.{IsHeld};
-
-    ghost invariant = { λ node. IsHeld node.names.now node.instances.now (stored_at node.nodes.now node.number) };
+    ghost view = { λ node. node_numbered node.table.now node.number };
 }
 
 impl<'g> Node<'g> {
-    ghost use Rattle.kt_graph.specs.nodes.Views.{node_view};
-    ghost use Rattle.kt_graph.specs.inner.nodes.Stored.{stored_at};
-    ghost use Rattle.kt_graph.specs.inner.nodes.Graph.{IsHeld};
+    ghost use Rattle.kt_graph.specs.nodes.Views.{node_numbered};
 
-    pub(crate) fn new(
-        names: &'g NameNumbers<'g>,
-        instances: &'g [Instance],
-        nodes: &'g StoredNodes<'g>,
-        number: usize,
-    ) -> Node<'g>
-        requires { IsHeld names.now instances.now (stored_at nodes.now number) }
-        ensures { result ≡ node_view names.now instances.now number (stored_at nodes.now number) }
+    pub(crate) fn new(table: &'g NodeTable<'g>, number: usize) -> Node<'g>
+        ensures { result ≡ node_numbered table.now number }
     {
-        Node {
-            names,
-            instances,
-            nodes,
-            number,
-        }
+        Node { table, number }
     }
 
     pub fn name(&self) -> &'g [u8]
         ensures { result.now ≡ self.now.name }
     {
-        name_of(self.names, self.number)
+        name_of(self.table.names(), self.number)
     }
 
     pub fn kind(&self) -> NodeKind
         ensures { result ≡ self.now.kind }
     {
-        self.nodes.kind(self.number)
+        self.table.nodes().kind(self.number)
     }
 
     /// Whether a rule makes it.
     pub fn is_made(&self) -> bool
         ensures { result ≡ not (is_leaf self.now.kind) }
     {
-        !matches!(self.nodes.kind(self.number), NodeKind::Leaf)
+        !matches!(self.table.nodes().kind(self.number), NodeKind::Leaf)
     }
 
     /// The making that it shares with other names, if they are reached too.
     pub fn instance(&self) -> Option<&'g Instance>
         ensures { option_map (λ instance. instance_view instance.now) result ≡ self.now.made_with }
     {
-        self.instances.get(self.nodes.made_with(self.number)?)
+        self.table
+            .instances()
+            .get(self.table.nodes().made_with(self.number)?)
     }
 
     /// The number of parts.
     pub fn parts(&self) -> usize
         ensures { result ≡ length self.now.parts }
     {
-        self.nodes.parts(self.number)
+        self.table.nodes().parts(self.number)
     }
 
     /// The recipe of a part, if it has one.
     pub fn recipe(&self, part: usize) -> Option<&'g [RecipeLine]>
         ensures { option_map (λ lines. lines.now) result ≡ part_lines (slice_get self.now.parts part) }
     {
-        self.nodes.part(self.number, part)?.recipe
+        self.table.nodes().part(self.number, part)?.recipe
     }
 
     /// The stem of a part, which is the value of `$*` (GNU make manual, "Automatic Variables").
     pub fn stem(&self, part: usize) -> &'g [u8]
         ensures { result.now ≡ part_stem (slice_get self.now.parts part) }
     {
-        match self.nodes.part(self.number, part) {
+        match self.table.nodes().part(self.number, part) {
             Some(part) => part.stem.of_node(self.name()),
             None => b"",
         }
@@ -144,9 +125,9 @@ impl<'g> Node<'g> {
     pub fn prerequisites(&self, part: usize) -> Inputs<'g>
         ensures { result ≡ part_needed (slice_get self.now.parts part) }
     {
-        match self.nodes.part(self.number, part) {
-            Some(part) => Inputs::of(self.names, part.prerequisites),
-            None => Inputs::of(self.names, &[]),
+        match self.table.nodes().part(self.number, part) {
+            Some(part) => Inputs::of(self.table.names(), part.prerequisites),
+            None => Inputs::of(self.table.names(), &[]),
         }
     }
 
@@ -154,9 +135,9 @@ impl<'g> Node<'g> {
     pub fn order_only_prerequisites(&self, part: usize) -> Inputs<'g>
         ensures { result ≡ part_order_only (slice_get self.now.parts part) }
     {
-        match self.nodes.part(self.number, part) {
-            Some(part) => Inputs::of(self.names, part.order_only),
-            None => Inputs::of(self.names, &[]),
+        match self.table.nodes().part(self.number, part) {
+            Some(part) => Inputs::of(self.table.names(), part.order_only),
+            None => Inputs::of(self.table.names(), &[]),
         }
     }
 
@@ -164,14 +145,17 @@ impl<'g> Node<'g> {
     pub fn inputs(&self) -> Inputs<'g>
         ensures { result ≡ inputs_of self.now }
     {
-        Inputs::of(self.names, self.nodes.inputs(self.number))
+        Inputs::of(self.table.names(), self.table.nodes().inputs(self.number))
     }
 
     /// The order-only prerequisites of all parts, each once, without the inputs.
     pub fn order_only(&self) -> Inputs<'g>
         ensures { result ≡ order_only_of self.now }
     {
-        Inputs::of(self.names, self.nodes.order_only(self.number))
+        Inputs::of(
+            self.table.names(),
+            self.table.nodes().order_only(self.number),
+        )
     }
 }
 

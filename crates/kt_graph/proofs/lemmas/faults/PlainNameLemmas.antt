@@ -1,19 +1,19 @@
 -- What holds of all names of a graph holds of the names of its nodes.
 use Rattle.std.proofs.Common.{◌≡◌, ◌<◌, ℕ, false, ◌||◌, not, List, [], ◌∷◌, length, All, Option, None, Some, option_map, refl, ap, ◌∙◌, slice_get, arith}
-use Rattle.kt_graph.proofs.Common.{Contains, cons_option, list_any, All-cons, All-filter, All-head, All-map, All-tail, Text, Instance as Held, canon_of, is_reserved, made_names, StoredNode, Node, is_leaf, name_at, node_view, nodes_view, in_first, in_rest}
+use Rattle.kt_graph.proofs.Common.{Contains, cons_option, list_any, All-cons, All-filter, All-head, All-map, All-tail, Text, canon_of, is_reserved, made_names, StoredNode, Node, is_leaf, name_at, node_view, nodes_view, in_first, in_rest, NodeTable}
 
-pub of_nodes : (P : Text → Type 0) (names : List Text) (instances : List Held) (nodes : List StoredNode)
-    → ((number : ℕ) → number < length names → P (name_at names number))
-    → (order : List ℕ) → ((number : ℕ) → Contains order number → number < length names)
-    → All (λ (node : Node). P node.name) (nodes_view names instances nodes order)
-of_nodes P names instances nodes holds [] below = λ k d within. absurd (omega (arith, within))
-of_nodes P names instances nodes holds (number ∷ order) below =
-    by (slice_get nodes number) (of_nodes P names instances nodes holds order (λ other has. below other (in_rest number other order has)))
+pub of_nodes : (P : Text → Type 0) (table : NodeTable)
+    → ((number : ℕ) → number < length table.names → P (name_at table.names number))
+    → (order : List ℕ) → ((number : ℕ) → Contains order number → number < length table.names)
+    → All (λ (node : Node). P node.name) (nodes_view table order)
+of_nodes P table holds [] below = λ k d within. absurd (omega (arith, within))
+of_nodes P table holds (number ∷ order) below =
+    by (slice_get table.nodes number) (of_nodes P table holds order (λ other has. below other (in_rest number other order has)))
   where
-    by : (o : Option StoredNode) → All (λ (node : Node). P node.name) (nodes_view names instances nodes order)
-        → All (λ (node : Node). P node.name) (cons_option (option_map (node_view names instances number) o) (nodes_view names instances nodes order))
+    by : (o : Option StoredNode) → All (λ (node : Node). P node.name) (nodes_view table order)
+        → All (λ (node : Node). P node.name) (cons_option (option_map (node_view table.names table.instances number) o) (nodes_view table order))
     by None rest = rest
-    by (Some node) rest = All-cons (λ (one : Node). P one.name) (node_view names instances number node) (nodes_view names instances nodes order)
+    by (Some node) rest = All-cons (λ (one : Node). P one.name) (node_view table.names table.instances number node) (nodes_view table order)
         (holds number (below number (in_first number order))) rest
 
 -- none is reserved

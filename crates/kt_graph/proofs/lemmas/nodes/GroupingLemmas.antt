@@ -1,6 +1,6 @@
 -- The groups of the first numbers are those of the nodes.
 use Rattle.std.proofs.Common.{◌≡◌, ℕ, suc, ◌+◌, ◌<◌, ◌≤◌, Bool, true, false, not, ◌&&◌, ◌||◌, ⊎_elim, cond, if◌then◌else◌, List, [], ◌∷◌, ◌++◌, length, drop, get_or, map, filter, find, nat_eq, Option, None, Some, IfSome, option_map, slice_get, refl, sym, ap, ◌∙◌, subst, arith}
-use Rattle.kt_graph.proofs.Common.{Contains, cons_option, prefix_len, IsStrictlySortedBy, option_and_then, option_map_or, nat_cmp, is_eq, Less, slice_cmp, bytes_eq, and_parts, cases_eq, eq-eqb, eqb-true, false≢true, true≢false, append-nil, append_assoc, drop_all, drop_more, get_or-replicate, get_or-set_other, get_or-set_same, length-replicate, length-set, map-append, All-contains, filter-append, filter_agree, prefix_len_stops, sorted_tail, is_eq-slice_cmp, All-after_first, bytes_eq-Decides, equal_when, Text, Instance as Held, StoredNode, bare_rows, Node, is_leaf, HasNumbers, instance_at, name_at, names_at, node_view, nodes_view, first_or_rest, in_first, in_rest}
+use Rattle.kt_graph.proofs.Common.{Contains, cons_option, prefix_len, IsStrictlySortedBy, option_and_then, option_map_or, nat_cmp, is_eq, Less, slice_cmp, bytes_eq, and_parts, cases_eq, eq-eqb, eqb-true, false≢true, true≢false, append-nil, append_assoc, drop_all, drop_more, get_or-replicate, get_or-set_other, get_or-set_same, length-replicate, length-set, map-append, All-contains, filter-append, filter_agree, prefix_len_stops, sorted_tail, is_eq-slice_cmp, All-after_first, bytes_eq-Decides, equal_when, Text, StoredNode, bare_rows, Node, is_leaf, HasNumbers, instance_at, name_at, names_at, node_view, nodes_view, first_or_rest, in_first, in_rest, NodeTable}
 use Rattle.kt_graph.specs.inner.nodes.Grouping.{HasMembers, group_at, groups_left, is_first, is_made_at, is_made_with, is_number, leads_at, leads_by, making_at, members_by, members_of, with_making, with_member}
 use Rattle.kt_graph.specs.nodes.Groups.{are_together, groups_among, groups_of, is_leading, is_one_making, made_nodes}
 use Rattle.kt_graph.specs.nodes.Node.{Instance}
@@ -82,41 +82,41 @@ filter_one {A} p x xs = by (p x)
 
 -- ---- the groups of an order
 
-module _ (names : List Text) (instances : List Held) (nodes : List StoredNode) (order : List ℕ) (whole : IsWhole names instances nodes order)
-    (members : List (List ℕ)) (has : HasMembers nodes (length instances) order members) where
+module _ (table : NodeTable) (order : List ℕ) (whole : IsWhole table order)
+    (members : List (List ℕ)) (has : HasMembers table.nodes (length table.instances) order members) where
   abbrev told : List ℕ → List Node
-  told numbers = nodes_view names instances nodes numbers
+  told numbers = nodes_view table numbers
 
   abbrev made : List ℕ → List Node
   made numbers = made_nodes (told numbers)
 
   told_one : (number : ℕ) (numbers : List ℕ) → told (number ∷ numbers) ≡ told (number ∷ []) ++ told numbers
-  told_one number numbers = by (slice_get nodes number)
+  told_one number numbers = by (slice_get table.nodes number)
     where
-      by : (o : Option StoredNode) → cons_option (option_map (node_view names instances number) o) (told numbers)
-          ≡ cons_option (option_map (node_view names instances number) o) [] ++ told numbers
+      by : (o : Option StoredNode) → cons_option (option_map (node_view table.names table.instances number) o) (told numbers)
+          ≡ cons_option (option_map (node_view table.names table.instances number) o) [] ++ told numbers
       by None = refl
       by (Some node) = refl
 
-  made_one : (number : ℕ) (numbers : List ℕ) → made (number ∷ numbers) ≡ (if is_made_at nodes number then told (number ∷ []) else []) ++ made numbers
-  made_one number numbers = by (slice_get nodes number)
+  made_one : (number : ℕ) (numbers : List ℕ) → made (number ∷ numbers) ≡ (if is_made_at table.nodes number then told (number ∷ []) else []) ++ made numbers
+  made_one number numbers = by (slice_get table.nodes number)
     where
       made_by : (b : Bool) (node : Node) → cond b (node ∷ made numbers) (made numbers) ≡ (if b then node ∷ [] else []) ++ made numbers
       made_by true node = refl
       made_by false node = refl
 
-      by : (o : Option StoredNode) → made_nodes (cons_option (option_map (node_view names instances number) o) (told numbers))
-          ≡ (if option_map_or (λ node. not (is_leaf node.kind)) o false then cons_option (option_map (node_view names instances number) o) [] else []) ++ made numbers
+      by : (o : Option StoredNode) → made_nodes (cons_option (option_map (node_view table.names table.instances number) o) (told numbers))
+          ≡ (if option_map_or (λ node. not (is_leaf node.kind)) o false then cons_option (option_map (node_view table.names table.instances number) o) [] else []) ++ made numbers
       by None = refl
-      by (Some node) = made_by (not (is_leaf node.kind)) (node_view names instances number node)
+      by (Some node) = made_by (not (is_leaf node.kind)) (node_view table.names table.instances number node)
 
   -- ---- two numbers
 
-  same_name : (one other : ℕ) → Contains order one → Contains order other → bytes_eq (name_at names one) (name_at names other) ≡ nat_eq one other
-  same_name one other first second = equal_when (bytes_eq (name_at names one) (name_at names other)) (nat_eq one other)
+  same_name : (one other : ℕ) → Contains order one → Contains order other → bytes_eq (name_at table.names one) (name_at table.names other) ≡ nat_eq one other
+  same_name one other first second = equal_when (bytes_eq (name_at table.names one) (name_at table.names other)) (nat_eq one other)
       (λ e. eq-eqb one other (whole.held.distinct one other ((whole.rises.all one).0 first) ((whole.rises.all other).0 second)
-      ((bytes_eq-Decides (name_at names one) (name_at names other)).0 e)))
-      (λ e. (bytes_eq-Decides (name_at names one) (name_at names other)).1 (ap (name_at names) (eqb-true one other e)))
+      ((bytes_eq-Decides (name_at table.names one) (name_at table.names other)).0 e)))
+      (λ e. (bytes_eq-Decides (name_at table.names one) (name_at table.names other)).1 (ap (name_at table.names) (eqb-true one other e)))
 
   -- the makings of two numbers are equal
   abbrev is_same : Option ℕ → Option ℕ → Bool
@@ -124,83 +124,83 @@ module _ (names : List Text) (instances : List Held) (nodes : List StoredNode) (
   is_same (Some making) other = is_number making other
 
   abbrev IsBelow : Option ℕ → Type 0
-  IsBelow making = IfSome making (λ number. number < length instances)
+  IsBelow making = IfSome making (λ number. number < length table.instances)
 
-  same_making : (one other : Option ℕ) → IsBelow one → IsBelow other → is_one_making (instance_at instances one) (instance_at instances other) ≡ is_same one other
+  same_making : (one other : Option ℕ) → IsBelow one → IsBelow other → is_one_making (instance_at table.instances one) (instance_at table.instances other) ≡ is_same one other
   same_making None other first second = refl
   same_making (Some one) None first second =
-      let there : (told : Instance) × (instance_at instances (Some one) ≡ Some told) = instance_there instances one first in
+      let there : (told : Instance) × (instance_at table.instances (Some one) ≡ Some told) = instance_there table.instances one first in
       ap (λ (o : Option Instance). is_one_making o None) there.1
-  same_making (Some one) (Some other) first second = equal_when (is_one_making (instance_at instances (Some one)) (instance_at instances (Some other))) (nat_eq one other)
-      (λ e. eq-eqb one other (whole.held.apart one other first second (one_same (instance_at instances (Some one)) (instance_at instances (Some other)) e)))
+  same_making (Some one) (Some other) first second = equal_when (is_one_making (instance_at table.instances (Some one)) (instance_at table.instances (Some other))) (nat_eq one other)
+      (λ e. eq-eqb one other (whole.held.apart one other first second (one_same (instance_at table.instances (Some one)) (instance_at table.instances (Some other)) e)))
       (λ e.
-      let there : (told : Instance) × (instance_at instances (Some one) ≡ Some told) = instance_there instances one first in
-      let also : instance_at instances (Some other) ≡ Some there.0 = ap (λ n. instance_at instances (Some n)) (sym (eqb-true one other e)) ∙ there.1 in
-      ap (λ (o : Option Instance). is_one_making o (instance_at instances (Some other))) there.1 ∙ ap (is_one_making (Some there.0)) also ∙ one_itself there.0)
+      let there : (told : Instance) × (instance_at table.instances (Some one) ≡ Some told) = instance_there table.instances one first in
+      let also : instance_at table.instances (Some other) ≡ Some there.0 = ap (λ n. instance_at table.instances (Some n)) (sym (eqb-true one other e)) ∙ there.1 in
+      ap (λ (o : Option Instance). is_one_making o (instance_at table.instances (Some other))) there.1 ∙ ap (is_one_making (Some there.0)) also ∙ one_itself there.0)
 
-  below : (number : ℕ) (node : StoredNode) → slice_get nodes number ≡ Some node → IsBelow node.made_with
+  below : (number : ℕ) (node : StoredNode) → slice_get table.nodes number ≡ Some node → IsBelow node.made_with
   below number node at =
-      (All-contains (HasNumbers (length names) (length instances)) nodes node whole.held.numbers (Contains-slice_get nodes number node at)).made_with
+      (All-contains (HasNumbers (length table.names) (length table.instances)) table.nodes node whole.held.numbers (Contains-slice_get table.nodes number node at)).made_with
 
   -- whether a number is in one group with another
   abbrev stands_with : ℕ → ℕ → Bool
-  stands_with leader number = is_made_at nodes number && (nat_eq leader number || is_same (making_at nodes leader) (making_at nodes number))
+  stands_with leader number = is_made_at table.nodes number && (nat_eq leader number || is_same (making_at table.nodes leader) (making_at table.nodes number))
 
   -- ---- the numbers of a group
 
   -- those in the group of a node, with more numbers
-  with_one : (leader : ℕ) (node : StoredNode) → Contains order leader → slice_get nodes leader ≡ Some node → (number : ℕ) → Contains order number
-      → filter (are_together (node_view names instances leader node)) (if is_made_at nodes number then told (number ∷ []) else [])
+  with_one : (leader : ℕ) (node : StoredNode) → Contains order leader → slice_get table.nodes leader ≡ Some node → (number : ℕ) → Contains order number
+      → filter (are_together (node_view table.names table.instances leader node)) (if is_made_at table.nodes number then told (number ∷ []) else [])
       ≡ told (cond (stands_with leader number) (number ∷ []) [])
-  with_one leader node first at number second = by (slice_get nodes number) refl
+  with_one leader node first at number second = by (slice_get table.nodes number) refl
     where
       both : Option ℕ → Bool
       both making = nat_eq leader number || is_same node.made_with making
 
-      making_is : making_at nodes leader ≡ node.made_with
+      making_is : making_at table.nodes leader ≡ node.made_with
       making_is = ap (λ (o : Option StoredNode). option_and_then (λ one. one.made_with) o) at
 
-      kept : (b : Bool) (other : StoredNode) → slice_get nodes number ≡ Some other
-          → cond b (node_view names instances number other ∷ []) [] ≡ told (cond b (number ∷ []) [])
-      kept true other is = ap (λ (o : Option StoredNode). cons_option (option_map (node_view names instances number) o) []) (sym is)
+      kept : (b : Bool) (other : StoredNode) → slice_get table.nodes number ≡ Some other
+          → cond b (node_view table.names table.instances number other ∷ []) [] ≡ told (cond b (number ∷ []) [])
+      kept true other is = ap (λ (o : Option StoredNode). cons_option (option_map (node_view table.names table.instances number) o) []) (sym is)
       kept false other is = refl
 
-      together : (other : StoredNode) → slice_get nodes number ≡ Some other
-          → are_together (node_view names instances leader node) (node_view names instances number other) ≡ both other.made_with
+      together : (other : StoredNode) → slice_get table.nodes number ≡ Some other
+          → are_together (node_view table.names table.instances leader node) (node_view table.names table.instances number other) ≡ both other.made_with
       together other is =
-          ap (λ b. b || is_one_making (instance_at instances node.made_with) (instance_at instances other.made_with)) (same_name leader number first second)
+          ap (λ b. b || is_one_making (instance_at table.instances node.made_with) (instance_at table.instances other.made_with)) (same_name leader number first second)
           ∙ ap (λ b. nat_eq leader number || b) (same_making node.made_with other.made_with (below leader node at) (below number other is))
 
-      made_by : (b : Bool) (other : StoredNode) → slice_get nodes number ≡ Some other
-          → filter (are_together (node_view names instances leader node)) (if b then node_view names instances number other ∷ [] else [])
+      made_by : (b : Bool) (other : StoredNode) → slice_get table.nodes number ≡ Some other
+          → filter (are_together (node_view table.names table.instances leader node)) (if b then node_view table.names table.instances number other ∷ [] else [])
           ≡ told (cond (b && both other.made_with) (number ∷ []) [])
       made_by false other is = refl
       made_by true other is =
-          ap (λ b. cond b (node_view names instances number other ∷ []) []) (together other is) ∙ kept (both other.made_with) other is
+          ap (λ b. cond b (node_view table.names table.instances number other ∷ []) []) (together other is) ∙ kept (both other.made_with) other is
 
       Wanted : Option StoredNode → Option ℕ → Type 0
       Wanted o making =
-          filter (are_together (node_view names instances leader node))
-          (if option_map_or (λ one. not (is_leaf one.kind)) o false then cons_option (option_map (node_view names instances number) o) [] else [])
+          filter (are_together (node_view table.names table.instances leader node))
+          (if option_map_or (λ one. not (is_leaf one.kind)) o false then cons_option (option_map (node_view table.names table.instances number) o) [] else [])
           ≡ told (cond (option_map_or (λ one. not (is_leaf one.kind)) o false
           && (nat_eq leader number || is_same making (option_and_then (λ one. one.made_with) o))) (number ∷ []) [])
 
-      by : (o : Option StoredNode) → slice_get nodes number ≡ o
-          → filter (are_together (node_view names instances leader node)) (if is_made_at nodes number then told (number ∷ []) else [])
+      by : (o : Option StoredNode) → slice_get table.nodes number ≡ o
+          → filter (are_together (node_view table.names table.instances leader node)) (if is_made_at table.nodes number then told (number ∷ []) else [])
           ≡ told (cond (stands_with leader number) (number ∷ []) [])
-      by None is = subst (λ (o : Option StoredNode). Wanted o (making_at nodes leader)) (sym is) refl
-      by (Some other) is = subst (λ (o : Option StoredNode). Wanted o (making_at nodes leader)) (sym is)
+      by None is = subst (λ (o : Option StoredNode). Wanted o (making_at table.nodes leader)) (sym is) refl
+      by (Some other) is = subst (λ (o : Option StoredNode). Wanted o (making_at table.nodes leader)) (sym is)
           (subst (λ (making : Option ℕ). Wanted (Some other) making) (sym making_is) (made_by (not (is_leaf other.kind)) other is))
 
-  with_all : (leader : ℕ) (node : StoredNode) → Contains order leader → slice_get nodes leader ≡ Some node → (numbers : List ℕ)
+  with_all : (leader : ℕ) (node : StoredNode) → Contains order leader → slice_get table.nodes leader ≡ Some node → (numbers : List ℕ)
       → ((number : ℕ) → Contains numbers number → Contains order number)
-      → filter (are_together (node_view names instances leader node)) (made numbers) ≡ told (filter (stands_with leader) numbers)
+      → filter (are_together (node_view table.names table.instances leader node)) (made numbers) ≡ told (filter (stands_with leader) numbers)
   with_all leader node first at [] inside = refl
   with_all leader node first at (number ∷ numbers) inside =
       let rest = with_all leader node first at numbers (λ other h. inside other (in_rest number other numbers h)) in
-      ap (filter (are_together (node_view names instances leader node))) (made_one number numbers)
-      ∙ filter-append (are_together (node_view names instances leader node)) (if is_made_at nodes number then told (number ∷ []) else []) (made numbers)
-      ∙ ap (λ (front : List Node). front ++ filter (are_together (node_view names instances leader node)) (made numbers))
+      ap (filter (are_together (node_view table.names table.instances leader node))) (made_one number numbers)
+      ∙ filter-append (are_together (node_view table.names table.instances leader node)) (if is_made_at table.nodes number then told (number ∷ []) else []) (made numbers)
+      ∙ ap (λ (front : List Node). front ++ filter (are_together (node_view table.names table.instances leader node)) (made numbers))
       (with_one leader node first at number (inside number (in_first number numbers)))
       ∙ ap (λ (back : List Node). told (cond (stands_with leader number) (number ∷ []) []) ++ back) rest
       ∙ joined (stands_with leader number)
@@ -212,7 +212,7 @@ module _ (names : List Text) (instances : List Held) (nodes : List StoredNode) (
 
   -- a number is in a list once if the names rise
   none_later : (leader : ℕ) (numbers : List ℕ) (p : ℕ → Bool) → ((number : ℕ) → p number ≡ true → leader ≡ number)
-      → IsStrictlySortedBy (slice_cmp nat_cmp) (names_at names (leader ∷ numbers)) → filter p numbers ≡ []
+      → IsStrictlySortedBy (slice_cmp nat_cmp) (names_at table.names (leader ∷ numbers)) → filter p numbers ≡ []
   none_later leader numbers p only rises = kept_none numbers (λ number h. by number h (p number) refl)
     where
       kept_none : (others : List ℕ) → ((number : ℕ) → Contains others number → p number ≡ false) → filter p others ≡ []
@@ -224,43 +224,43 @@ module _ (names : List Text) (instances : List Held) (nodes : List StoredNode) (
       by : (number : ℕ) → Contains numbers number → (b : Bool) → p number ≡ b → p number ≡ false
       by number h false e = e
       by number h true e =
-          let less : slice_cmp nat_cmp (name_at names leader) (name_at names number) ≡ Less =
-          All-contains (λ (name : Text). slice_cmp nat_cmp (name_at names leader) name ≡ Less) (names_at names numbers) (name_at names number)
-          (All-after_first (slice_cmp nat_cmp) (name_at names leader) (names_at names numbers) rises) (Contains-map (name_at names) numbers number h) in
-          let differ : bytes_eq (name_at names leader) (name_at names number) ≡ false =
-          sym (is_eq-slice_cmp (name_at names leader) (name_at names number)) ∙ ap is_eq less in
-          let same : bytes_eq (name_at names leader) (name_at names number) ≡ true =
-          (bytes_eq-Decides (name_at names leader) (name_at names number)).1 (ap (name_at names) (only number e)) in
+          let less : slice_cmp nat_cmp (name_at table.names leader) (name_at table.names number) ≡ Less =
+          All-contains (λ (name : Text). slice_cmp nat_cmp (name_at table.names leader) name ≡ Less) (names_at table.names numbers) (name_at table.names number)
+          (All-after_first (slice_cmp nat_cmp) (name_at table.names leader) (names_at table.names numbers) rises) (Contains-map (name_at table.names) numbers number h) in
+          let differ : bytes_eq (name_at table.names leader) (name_at table.names number) ≡ false =
+          sym (is_eq-slice_cmp (name_at table.names leader) (name_at table.names number)) ∙ ap is_eq less in
+          let same : bytes_eq (name_at table.names leader) (name_at table.names number) ≡ true =
+          (bytes_eq-Decides (name_at table.names leader) (name_at table.names number)).1 (ap (name_at table.names) (only number e)) in
           absurd (false≢true (sym differ ∙ same))
 
   once : (leader : ℕ) (numbers : List ℕ) (p : ℕ → Bool) → p leader ≡ true → ((number : ℕ) → p number ≡ true → leader ≡ number)
-      → IsStrictlySortedBy (slice_cmp nat_cmp) (names_at names numbers) → Contains numbers leader → filter p numbers ≡ leader ∷ []
+      → IsStrictlySortedBy (slice_cmp nat_cmp) (names_at table.names numbers) → Contains numbers leader → filter p numbers ≡ leader ∷ []
   once leader [] p on only rises inside = Contains-none leader inside
   once leader (first ∷ numbers) p on only rises inside = by (λ rise h. once leader numbers p on only rise h) (p first) refl
     where
-      by : (IsStrictlySortedBy (slice_cmp nat_cmp) (names_at names numbers) → Contains numbers leader → filter p numbers ≡ leader ∷ []) → (b : Bool) → p first ≡ b → filter p (first ∷ numbers) ≡ leader ∷ []
+      by : (IsStrictlySortedBy (slice_cmp nat_cmp) (names_at table.names numbers) → Contains numbers leader → filter p numbers ≡ leader ∷ []) → (b : Bool) → p first ≡ b → filter p (first ∷ numbers) ≡ leader ∷ []
       by more true e =
           let same = only first e in
           let later : filter p numbers ≡ [] =
-          none_later leader numbers p only (subst (λ n. IsStrictlySortedBy (slice_cmp nat_cmp) (names_at names (n ∷ numbers))) (sym same) rises) in
+          none_later leader numbers p only (subst (λ n. IsStrictlySortedBy (slice_cmp nat_cmp) (names_at table.names (n ∷ numbers))) (sym same) rises) in
           ap (λ b. cond b (first ∷ filter p numbers) (filter p numbers)) e ∙ ap (λ (ns : List ℕ). first ∷ ns) later ∙ ap (λ n. n ∷ []) (sym same)
       by more false e =
           ap (λ b. cond b (first ∷ filter p numbers) (filter p numbers)) e
-          ∙ more (sorted_tail (slice_cmp nat_cmp) (name_at names first) (names_at names numbers) rises)
+          ∙ more (sorted_tail (slice_cmp nat_cmp) (name_at table.names first) (names_at table.names numbers) rises)
           (⊎_elim
           (λ (same : first ≡ leader). absurd (false≢true (sym e ∙ ap p same ∙ on)))
           (λ (h : Contains numbers leader). h)
           (first_or_rest first leader numbers inside))
 
   -- the numbers in the group of a number are its members
-  members_are : (leader : ℕ) → Contains order leader → is_made_at nodes leader ≡ true → (making : Option ℕ) → making_at nodes leader ≡ making → IsBelow making
+  members_are : (leader : ℕ) → Contains order leader → is_made_at table.nodes leader ≡ true → (making : Option ℕ) → making_at table.nodes leader ≡ making → IsBelow making
       → filter (stands_with leader) order ≡ members_by members leader making
   members_are leader inside on None is within = once leader order (stands_with leader)
-      (ap (λ b. b && (nat_eq leader leader || is_same (making_at nodes leader) (making_at nodes leader))) on
-      ∙ ap (λ b. b || is_same (making_at nodes leader) (making_at nodes leader)) (eq-eqb leader leader refl))
+      (ap (λ b. b && (nat_eq leader leader || is_same (making_at table.nodes leader) (making_at table.nodes leader))) on
+      ∙ ap (λ b. b || is_same (making_at table.nodes leader) (making_at table.nodes leader)) (eq-eqb leader leader refl))
       (λ number e.
-      let both = and_parts (is_made_at nodes number) (nat_eq leader number || is_same (making_at nodes leader) (making_at nodes number)) e in
-      let named : (nat_eq leader number || false) ≡ true = sym (ap (λ (o : Option ℕ). nat_eq leader number || is_same o (making_at nodes number)) is) ∙ both.1 in
+      let both = and_parts (is_made_at table.nodes number) (nat_eq leader number || is_same (making_at table.nodes leader) (making_at table.nodes number)) e in
+      let named : (nat_eq leader number || false) ≡ true = sym (ap (λ (o : Option ℕ). nat_eq leader number || is_same o (making_at table.nodes number)) is) ∙ both.1 in
       eqb-true leader number (or_none (nat_eq leader number) named))
       whole.rises.rises inside
     where
@@ -268,68 +268,68 @@ module _ (names : List Text) (instances : List Held) (nodes : List StoredNode) (
       or_none true e = refl
       or_none false e = e
   members_are leader inside on (Some making) is within =
-      filter_agree (stands_with leader) (is_made_with nodes making) alike order ∙ sym (has.each making within)
+      filter_agree (stands_with leader) (is_made_with table.nodes making) alike order ∙ sym (has.each making within)
     where
-      absorbed : (number : ℕ) (b : Bool) → nat_eq leader number ≡ b → (b || is_number making (making_at nodes number)) ≡ is_number making (making_at nodes number)
+      absorbed : (number : ℕ) (b : Bool) → nat_eq leader number ≡ b → (b || is_number making (making_at table.nodes number)) ≡ is_number making (making_at table.nodes number)
       absorbed number false e = refl
       absorbed number true e =
-          let also : making_at nodes number ≡ Some making = ap (making_at nodes) (sym (eqb-true leader number e)) ∙ is in
+          let also : making_at table.nodes number ≡ Some making = ap (making_at table.nodes) (sym (eqb-true leader number e)) ∙ is in
           sym (ap (is_number making) also ∙ eq-eqb making making refl)
 
-      alike : (number : ℕ) → stands_with leader number ≡ is_made_with nodes making number
+      alike : (number : ℕ) → stands_with leader number ≡ is_made_with table.nodes making number
       alike number =
-          ap (λ (o : Option ℕ). is_made_at nodes number && (nat_eq leader number || is_same o (making_at nodes number))) is
-          ∙ ap (λ b. is_made_at nodes number && b) (absorbed number (nat_eq leader number) refl)
+          ap (λ (o : Option ℕ). is_made_at table.nodes number && (nat_eq leader number || is_same o (making_at table.nodes number))) is
+          ∙ ap (λ b. is_made_at table.nodes number && b) (absorbed number (nat_eq leader number) refl)
 
   -- ---- the group of a first number
 
-  making_of : (number : ℕ) (node : StoredNode) → slice_get nodes number ≡ Some node → making_at nodes number ≡ node.made_with
+  making_of : (number : ℕ) (node : StoredNode) → slice_get table.nodes number ≡ Some node → making_at table.nodes number ≡ node.made_with
   making_of number node at = ap (λ (o : Option StoredNode). option_and_then (λ one. one.made_with) o) at
 
-  made_of : (number : ℕ) (node : StoredNode) → slice_get nodes number ≡ Some node → is_made_at nodes number ≡ not (is_leaf node.kind)
+  made_of : (number : ℕ) (node : StoredNode) → slice_get table.nodes number ≡ Some node → is_made_at table.nodes number ≡ not (is_leaf node.kind)
   made_of number node at = ap (λ (o : Option StoredNode). option_map_or (λ one. not (is_leaf one.kind)) o false) at
 
   -- its nodes
-  group_is : (leader : ℕ) (node : StoredNode) → Contains order leader → slice_get nodes leader ≡ Some node → is_made_at nodes leader ≡ true
-      → filter (are_together (node_view names instances leader node)) (made order) ≡ told (members_of nodes members leader)
+  group_is : (leader : ℕ) (node : StoredNode) → Contains order leader → slice_get table.nodes leader ≡ Some node → is_made_at table.nodes leader ≡ true
+      → filter (are_together (node_view table.names table.instances leader node)) (made order) ≡ told (members_of table.nodes members leader)
   group_is leader node inside at on =
       with_all leader node inside at order (λ number h. h)
-      ∙ ap told (members_are leader inside on (making_at nodes leader) refl (subst IsBelow (sym (making_of leader node at)) (below leader node at)))
+      ∙ ap told (members_are leader inside on (making_at table.nodes leader) refl (subst IsBelow (sym (making_of leader node at)) (below leader node at)))
 
   -- a number that is made has a node
-  there_made : (number : ℕ) → is_made_at nodes number ≡ true → (node : StoredNode) × (slice_get nodes number ≡ Some node)
-  there_made number on = by (slice_get nodes number) refl on
+  there_made : (number : ℕ) → is_made_at table.nodes number ≡ true → (node : StoredNode) × (slice_get table.nodes number ≡ Some node)
+  there_made number on = by (slice_get table.nodes number) refl on
     where
-      by : (o : Option StoredNode) → slice_get nodes number ≡ o → option_map_or (λ one. not (is_leaf one.kind)) o false ≡ true
-          → (node : StoredNode) × (slice_get nodes number ≡ Some node)
+      by : (o : Option StoredNode) → slice_get table.nodes number ≡ o → option_map_or (λ one. not (is_leaf one.kind)) o false ≡ true
+          → (node : StoredNode) × (slice_get table.nodes number ≡ Some node)
       by None is e = absurd (false≢true e)
       by (Some node) is e = (node, is)
 
   -- whether it is the first in the group
   abbrev is_named : ℕ → List Node → Bool
-  is_named leader group = option_map_or (λ first. bytes_eq first.name (name_at names leader)) (head_of group) false
+  is_named leader group = option_map_or (λ first. bytes_eq first.name (name_at table.names leader)) (head_of group) false
 
-  leads_is : (leader : ℕ) (node : StoredNode) → Contains order leader → slice_get nodes leader ≡ Some node → is_made_at nodes leader ≡ true
-      → is_leading (made order) (node_view names instances leader node) ≡ leads_by members leader (making_at nodes leader)
+  leads_is : (leader : ℕ) (node : StoredNode) → Contains order leader → slice_get table.nodes leader ≡ Some node → is_made_at table.nodes leader ≡ true
+      → is_leading (made order) (node_view table.names table.instances leader node) ≡ leads_by members leader (making_at table.nodes leader)
   leads_is leader node inside at on =
-      ap (λ (o : Option Node). option_map_or (λ first. bytes_eq first.name (name_at names leader)) o false)
-      (find_head (are_together (node_view names instances leader node)) (made order) ∙ ap head_of (group_is leader node inside at on))
-      ∙ by (making_at nodes leader) (subst IsBelow (sym (making_of leader node at)) (below leader node at))
+      ap (λ (o : Option Node). option_map_or (λ first. bytes_eq first.name (name_at table.names leader)) o false)
+      (find_head (are_together (node_view table.names table.instances leader node)) (made order) ∙ ap head_of (group_is leader node inside at on))
+      ∙ by (making_at table.nodes leader) (subst IsBelow (sym (making_of leader node at)) (below leader node at))
     where
-      first_of : (making : ℕ) → making < length instances → (numbers : List ℕ) → get_or members making [] ≡ numbers → is_named leader (told numbers) ≡ is_first numbers leader
+      first_of : (making : ℕ) → making < length table.instances → (numbers : List ℕ) → get_or members making [] ≡ numbers → is_named leader (told numbers) ≡ is_first numbers leader
       first_of making less [] is = refl
       first_of making less (first ∷ others) is =
-          let from = from_filter (is_made_with nodes making) order first
+          let from = from_filter (is_made_with table.nodes making) order first
           (subst (λ (ns : List ℕ). Contains ns first) (sym is ∙ has.each making less) (in_first first others)) in
-          let made_there : is_made_at nodes first ≡ true = (and_parts (is_made_at nodes first) (is_number making (making_at nodes first)) from.1).0 in
-          let there : (one : StoredNode) × (slice_get nodes first ≡ Some one) = there_made first made_there in
-          ap (λ (o : Option StoredNode). is_named leader (cons_option (option_map (node_view names instances first) o) (told others))) there.1
+          let made_there : is_made_at table.nodes first ≡ true = (and_parts (is_made_at table.nodes first) (is_number making (making_at table.nodes first)) from.1).0 in
+          let there : (one : StoredNode) × (slice_get table.nodes first ≡ Some one) = there_made first made_there in
+          ap (λ (o : Option StoredNode). is_named leader (cons_option (option_map (node_view table.names table.instances first) o) (told others))) there.1
           ∙ same_name first leader from.0 inside
 
       by : (making : Option ℕ) → IsBelow making → is_named leader (told (members_by members leader making)) ≡ leads_by members leader making
       by None within =
-          ap (λ (o : Option StoredNode). is_named leader (cons_option (option_map (node_view names instances leader) o) [])) at
-          ∙ (bytes_eq-Decides (name_at names leader) (name_at names leader)).1 refl
+          ap (λ (o : Option StoredNode). is_named leader (cons_option (option_map (node_view table.names table.instances leader) o) [])) at
+          ∙ (bytes_eq-Decides (name_at table.names leader) (name_at table.names leader)).1 refl
       by (Some making) within = first_of making within (get_or members making []) refl
 
   -- ---- all groups
@@ -338,61 +338,61 @@ module _ (names : List Text) (instances : List Held) (nodes : List StoredNode) (
   group_in leader = filter (are_together leader) (made order)
 
   abbrev group_told : ℕ → List Node
-  group_told number = told (members_of nodes members number)
+  group_told number = told (members_of table.nodes members number)
 
   one_group : (number : ℕ) → Contains order number
-      → map group_in (filter (is_leading (made order)) (if is_made_at nodes number then told (number ∷ []) else [])) ≡ group_at names instances nodes members number
-  one_group number inside = by (is_made_at nodes number) refl
+      → map group_in (filter (is_leading (made order)) (if is_made_at table.nodes number then told (number ∷ []) else [])) ≡ group_at table members number
+  one_group number inside = by (is_made_at table.nodes number) refl
     where
       led : (b : Bool) (node : Node) (group : List Node) → group_in node ≡ group → map group_in (cond b (node ∷ []) []) ≡ (if b then group ∷ [] else [])
       led true node group is = ap (λ (ns : List Node). ns ∷ []) is
       led false node group is = refl
 
-      by : (b : Bool) → is_made_at nodes number ≡ b
+      by : (b : Bool) → is_made_at table.nodes number ≡ b
           → map group_in (filter (is_leading (made order)) (if b then told (number ∷ []) else []))
-          ≡ (if b && leads_by members number (making_at nodes number) then group_told number ∷ [] else [])
+          ≡ (if b && leads_by members number (making_at table.nodes number) then group_told number ∷ [] else [])
       by false e = refl
       by true e =
-          let there : (one : StoredNode) × (slice_get nodes number ≡ Some one) = there_made number e in
-          let node : Node = node_view names instances number there.0 in
-          ap (λ (o : Option StoredNode). map group_in (filter (is_leading (made order)) (cons_option (option_map (node_view names instances number) o) []))) there.1
-          ∙ led (is_leading (made order) (node_view names instances number there.0)) (node_view names instances number there.0) (group_told number)
+          let there : (one : StoredNode) × (slice_get table.nodes number ≡ Some one) = there_made number e in
+          let node : Node = node_view table.names table.instances number there.0 in
+          ap (λ (o : Option StoredNode). map group_in (filter (is_leading (made order)) (cons_option (option_map (node_view table.names table.instances number) o) []))) there.1
+          ∙ led (is_leading (made order) (node_view table.names table.instances number there.0)) (node_view table.names table.instances number there.0) (group_told number)
           (group_is number there.0 inside there.1 e)
           ∙ ap (λ b. if b then group_told number ∷ [] else []) (leads_is number there.0 inside there.1 e)
 
   all_groups : (numbers : List ℕ) → ((number : ℕ) → Contains numbers number → Contains order number)
-      → map group_in (filter (is_leading (made order)) (made numbers)) ≡ groups_left names instances nodes members numbers
+      → map group_in (filter (is_leading (made order)) (made numbers)) ≡ groups_left table members numbers
   all_groups [] inside = refl
   all_groups (number ∷ numbers) inside =
       let rest = all_groups numbers (λ other h. inside other (in_rest number other numbers h)) in
       ap (λ (ns : List Node). map group_in (filter (is_leading (made order)) ns)) (made_one number numbers)
-      ∙ ap (map group_in) (filter-append (is_leading (made order)) (if is_made_at nodes number then told (number ∷ []) else []) (made numbers))
-      ∙ map-append group_in (filter (is_leading (made order)) (if is_made_at nodes number then told (number ∷ []) else [])) (filter (is_leading (made order)) (made numbers))
+      ∙ ap (map group_in) (filter-append (is_leading (made order)) (if is_made_at table.nodes number then told (number ∷ []) else []) (made numbers))
+      ∙ map-append group_in (filter (is_leading (made order)) (if is_made_at table.nodes number then told (number ∷ []) else [])) (filter (is_leading (made order)) (made numbers))
       ∙ ap (λ (front : List (List Node)). front ++ map group_in (filter (is_leading (made order)) (made numbers))) (one_group number (inside number (in_first number numbers)))
-      ∙ ap (λ (back : List (List Node)). group_at names instances nodes members number ++ back) rest
+      ∙ ap (λ (back : List (List Node)). group_at table members number ++ back) rest
 
-  pub groups_are : groups_left names instances nodes members order ≡ groups_of (nodes_view names instances nodes order)
+  pub groups_are : groups_left table members order ≡ groups_of (nodes_view table order)
   unfolding groups_among
   groups_are = sym (all_groups order (λ number h. h))
 
 -- ---- the next group
 
-module _ (names : List Text) (instances : List Held) (nodes : List StoredNode) (members : List (List ℕ)) where
+module _ (table : NodeTable) (members : List (List ℕ)) where
   abbrev stays : ℕ → Bool
-  stays number = not (leads_at nodes members number)
+  stays number = not (leads_at table.nodes members number)
 
   abbrev left_of : List ℕ → List (List Node)
-  left_of numbers = groups_left names instances nodes members numbers
+  left_of numbers = groups_left table members numbers
 
   skipped : (numbers : List ℕ) → left_of numbers ≡ left_of (drop (prefix_len stays numbers) numbers)
   skipped [] = refl
-  skipped (number ∷ numbers) = by (skipped numbers) (leads_at nodes members number) refl
+  skipped (number ∷ numbers) = by (skipped numbers) (leads_at table.nodes members number) refl
     where
-      by : left_of numbers ≡ left_of (drop (prefix_len stays numbers) numbers) → (b : Bool) → leads_at nodes members number ≡ b → left_of (number ∷ numbers) ≡ left_of (drop (cond (not b) (1 + prefix_len stays numbers) 0) (number ∷ numbers))
+      by : left_of numbers ≡ left_of (drop (prefix_len stays numbers) numbers) → (b : Bool) → leads_at table.nodes members number ≡ b → left_of (number ∷ numbers) ≡ left_of (drop (cond (not b) (1 + prefix_len stays numbers) 0) (number ∷ numbers))
       by more true e = refl
       by more false e =
           let next : suc (prefix_len stays numbers) ≡ 1 + prefix_len stays numbers = omega arith in
-          ap (λ b. (if b then nodes_view names instances nodes (members_of nodes members number) ∷ [] else []) ++ left_of numbers) e
+          ap (λ b. (if b then nodes_view table (members_of table.nodes members number) ∷ [] else []) ++ left_of numbers) e
           ∙ more ∙ ap (λ n. left_of (drop n (number ∷ numbers))) next
 
   pub none_next : (numbers : List ℕ) (place : ℕ) → place ≡ prefix_len stays numbers → length numbers ≤ place → left_of numbers ≡ []
@@ -400,17 +400,17 @@ module _ (names : List Text) (instances : List Held) (nodes : List StoredNode) (
       skipped numbers ∙ ap (λ n. left_of (drop n numbers)) (sym is) ∙ ap left_of (drop_all place numbers past)
 
   pub some_next : (numbers : List ℕ) (place number : ℕ) (group : List Node) (rest : List ℕ) → place ≡ prefix_len stays numbers → place < length numbers
-      → number ≡ get_or numbers place number → group ≡ nodes_view names instances nodes (members_of nodes members number)
+      → number ≡ get_or numbers place number → group ≡ nodes_view table (members_of table.nodes members number)
       → rest ≡ drop (place + 1) numbers → left_of numbers ≡ group ∷ left_of rest
   some_next numbers place number group rest is within at told rest_is =
-      let stops : not (leads_at nodes members (get_or numbers (prefix_len stays numbers) number)) ≡ false =
+      let stops : not (leads_at table.nodes members (get_or numbers (prefix_len stays numbers) number)) ≡ false =
       prefix_len_stops stays numbers number (subst (λ n. n < length numbers) is within) in
-      let leads : leads_at nodes members number ≡ true =
-      not_not (leads_at nodes members number) (ap (λ n. not (leads_at nodes members n)) (at ∙ ap (λ n. get_or numbers n number) is) ∙ stops) in
+      let leads : leads_at table.nodes members number ≡ true =
+      not_not (leads_at table.nodes members number) (ap (λ n. not (leads_at table.nodes members n)) (at ∙ ap (λ n. get_or numbers n number) is) ∙ stops) in
       skipped numbers ∙ ap (λ n. left_of (drop n numbers)) (sym is)
       ∙ ap left_of (drop_more numbers place number within)
       ∙ ap (λ n. left_of (n ∷ drop (place + 1) numbers)) (sym at)
-      ∙ ap (λ b. (if b then nodes_view names instances nodes (members_of nodes members number) ∷ [] else []) ++ left_of (drop (place + 1) numbers)) leads
+      ∙ ap (λ b. (if b then nodes_view table (members_of table.nodes members number) ∷ [] else []) ++ left_of (drop (place + 1) numbers)) leads
       ∙ ap (λ (ns : List Node). ns ∷ left_of (drop (place + 1) numbers)) (sym told)
       ∙ ap (λ (ns : List ℕ). group ∷ left_of ns) (sym rest_is)
     where
@@ -420,16 +420,16 @@ module _ (names : List Text) (instances : List Held) (nodes : List StoredNode) (
 
   -- nodes after others
   pub put_more : (numbers : List ℕ) (place number : ℕ) (before after : List Node) → place < length numbers → number ≡ get_or numbers place number
-      → after ≡ before ++ nodes_view names instances nodes (number ∷ [])
-      → after ++ nodes_view names instances nodes (drop (place + 1) numbers) ≡ before ++ nodes_view names instances nodes (drop place numbers)
+      → after ≡ before ++ nodes_view table (number ∷ [])
+      → after ++ nodes_view table (drop (place + 1) numbers) ≡ before ++ nodes_view table (drop place numbers)
   put_more numbers place number before after within at put =
-      ap (λ (ns : List Node). ns ++ nodes_view names instances nodes (drop (place + 1) numbers)) put
-      ∙ append_assoc before (nodes_view names instances nodes (number ∷ [])) (nodes_view names instances nodes (drop (place + 1) numbers))
-      ∙ ap (λ (ns : List Node). before ++ ns) (sym (one_more (slice_get nodes number)))
-      ∙ ap (λ (ns : List ℕ). before ++ nodes_view names instances nodes ns)
+      ap (λ (ns : List Node). ns ++ nodes_view table (drop (place + 1) numbers)) put
+      ∙ append_assoc before (nodes_view table (number ∷ [])) (nodes_view table (drop (place + 1) numbers))
+      ∙ ap (λ (ns : List Node). before ++ ns) (sym (one_more (slice_get table.nodes number)))
+      ∙ ap (λ (ns : List ℕ). before ++ nodes_view table ns)
       (ap (λ n. n ∷ drop (place + 1) numbers) at ∙ sym (drop_more numbers place number within))
     where
-      one_more : (o : Option StoredNode) → cons_option (option_map (node_view names instances number) o) (nodes_view names instances nodes (drop (place + 1) numbers))
-          ≡ cons_option (option_map (node_view names instances number) o) [] ++ nodes_view names instances nodes (drop (place + 1) numbers)
+      one_more : (o : Option StoredNode) → cons_option (option_map (node_view table.names table.instances number) o) (nodes_view table (drop (place + 1) numbers))
+          ≡ cons_option (option_map (node_view table.names table.instances number) o) [] ++ nodes_view table (drop (place + 1) numbers)
       one_more None = refl
       one_more (Some node) = refl

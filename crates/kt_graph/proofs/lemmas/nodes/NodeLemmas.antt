@@ -1,6 +1,6 @@
 -- Nodes of the definitions, and numbers for their names.
-use Rattle.std.proofs.Common.{◌≡◌, ℕ, ◌<◌, Bool, true, false, not, ◌||◌, cond, if◌then◌else◌, ⊎_elim, List, [], ◌∷◌, ◌++◌, length, get_or, map, filter, fold, nat_eq, All, refl, sym, ap, ◌∙◌, subst}
-use Rattle.kt_graph.proofs.Common.{flat_map, list_any, bytes_eq, cases_eq, eq-eqb, ne_eqb, eqb-true, false≢true, map-append, All-append, All-head, All-nil, All-push, All-tail, filter-append, bytes_eq-Decides, Text, is_among, with_name, without_repeats, Instance as Held, StoredPart, StoredNode, AreDistinct, Part, inputs_of, order_only_of, HasNumbers, IsNumbered, AreBelow, numbers_without, with_number, input_numbers, name_at, names_at, node_view, part_view}
+use Rattle.std.proofs.Common.{◌≡◌, ℕ, suc, zero, ◌<◌, Bool, true, false, not, ◌||◌, cond, if◌then◌else◌, ⊎_elim, List, [], ◌∷◌, ◌++◌, length, get_or, map, filter, fold, nat_eq, All, refl, sym, ap, ◌∙◌, subst}
+use Rattle.kt_graph.proofs.Common.{flat_map, list_any, bytes_eq, cases_eq, eq-eqb, ne_eqb, eqb-true, false≢true, map-append, All-append, All-head, All-nil, All-push, All-tail, filter-append, bytes_eq-Decides, Text, is_among, with_name, without_repeats, Instance as Held, StoredPart, StoredNode, AreDistinct, Part, inputs_of, order_only_of, HasNumbers, IsNumbered, AreBelow, numbers_without, with_number, input_numbers, name_at, names_at, node_view, part_view, stored_at}
 
 -- ---- numbers of names
 
@@ -169,6 +169,12 @@ others_below names makings node numbers =
     (below_all names (numbers_without (input_numbers node.parts) (other_numbers node.parts)) []
     (without_below names (λ n. not (list_any (nat_eq n) (input_numbers node.parts))) (other_numbers node.parts) (other_below names node.parts numbers.parts))
     (All-nil (λ n. n < names)))
+
+-- where there is no node, none has numbers
+pub numbers_at : (names makings : ℕ) (nodes : List StoredNode) → All (HasNumbers names makings) nodes → (number : ℕ) → HasNumbers names makings (stored_at nodes number)
+numbers_at names makings [] all number = record { parts = All-nil (IsNumbered names); inputs = refl; order_only = refl; made_with = tt }
+numbers_at names makings (node ∷ nodes) all zero = All-head (HasNumbers names makings) node nodes all
+numbers_at names makings (node ∷ nodes) all (suc number) = numbers_at names makings nodes (All-tail (HasNumbers names makings) node nodes all) number
 
 -- the names of a node's inputs
 pub inputs_are : (names : List Text) (instances : List Held) (number : ℕ) (node : StoredNode) → AreDistinct names

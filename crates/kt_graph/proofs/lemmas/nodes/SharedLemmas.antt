@@ -1,6 +1,6 @@
 -- Nodes that hold their inputs together have the same ones.
 use Rattle.std.proofs.Common.{◌≡◌, ℕ, ◌∷◌, List, length, Option, None, Some, option_map, slice_get, refl, sym, ap, subst, ◌∙◌}
-use Rattle.kt_graph.proofs.Common.{Contains, All-contains, none-some, same_Some, head_is, Text, Instance as Held, HasNumbers, AreAlike, StoredNode, stored_at, Node, inputs_of, order_only_of, names_at, node_at, node_view, nodes_view}
+use Rattle.kt_graph.proofs.Common.{Contains, All-contains, none-some, same_Some, head_is, HasNumbers, AreAlike, StoredNode, stored_at, Node, inputs_of, order_only_of, names_at, node_at, node_view, nodes_view, NodeTable}
 use Rattle.kt_graph.specs.inner.nodes.Graph.{AreNodesHeld}
 use Rattle.kt_graph.specs.inner.nodes.Grouping.{AreAllAlike}
 use Rattle.kt_graph.specs.nodes.Groups.{FirstSharesInputs, ShareInputs}
@@ -9,34 +9,34 @@ use Rattle.kt_graph.proofs.lemmas.nodes.NodeLemmas.{inputs_are, others_are}
 use Rattle.kt_graph.proofs.lemmas.nodes.StoredLemmas.{stored_is}
 use Rattle.kt_graph.proofs.lemmas.nodes.WholeLemmas.{Contains-from_filter_map}
 
-module _ (names : List Text) (instances : List Held) (nodes : List StoredNode) (held : AreNodesHeld names instances nodes)
-    (one : ℕ) (numbers : List ℕ) (alike : AreAllAlike nodes one numbers) where
+module _ (table : NodeTable) (held : AreNodesHeld table)
+    (one : ℕ) (numbers : List ℕ) (alike : AreAllAlike table.nodes one numbers) where
   abbrev HasInputs : Node → Type 0
   HasInputs node =
-      (inputs_of node ≡ names_at names (stored_at nodes one).inputs) × (order_only_of node ≡ names_at names (stored_at nodes one).order_only)
+      (inputs_of node ≡ names_at table.names (stored_at table.nodes one).inputs) × (order_only_of node ≡ names_at table.names (stored_at table.nodes one).order_only)
 
-  has_inputs : (node : Node) → Contains (nodes_view names instances nodes numbers) node → HasInputs node
+  has_inputs : (node : Node) → Contains (nodes_view table numbers) node → HasInputs node
   has_inputs node has =
-      let from = Contains-from_filter_map (node_at names instances nodes) numbers node has in
-      by from.0 (All-contains (λ number. AreAlike (stored_at nodes one) (stored_at nodes number)) numbers from.0 alike from.1) (slice_get nodes from.0) refl from.2
+      let from = Contains-from_filter_map (node_at table) numbers node has in
+      by from.0 (All-contains (λ number. AreAlike (stored_at table.nodes one) (stored_at table.nodes number)) numbers from.0 alike from.1) (slice_get table.nodes from.0) refl from.2
     where
-      told : (number : ℕ) (stored : StoredNode) → AreAlike (stored_at nodes one) (stored_at nodes number) → slice_get nodes number ≡ Some stored
-          → HasInputs (node_view names instances number stored)
+      told : (number : ℕ) (stored : StoredNode) → AreAlike (stored_at table.nodes one) (stored_at table.nodes number) → slice_get table.nodes number ≡ Some stored
+          → HasInputs (node_view table.names table.instances number stored)
       told number stored same at =
-          let numbered = All-contains (HasNumbers (length names) (length instances)) nodes stored held.numbers (Contains-slice_get nodes number stored at) in
-          let is = stored_is nodes number stored at in (
-            sym (inputs_are names instances number stored held.distinct numbered) ∙ ap (λ (s : StoredNode). names_at names s.inputs) (sym is) ∙ ap (names_at names) (sym same.inputs),
-            sym (others_are names instances number stored held.distinct numbered) ∙ ap (λ (s : StoredNode). names_at names s.order_only) (sym is)
-                ∙ ap (names_at names) (sym same.order_only),
+          let numbered = All-contains (HasNumbers (length table.names) (length table.instances)) table.nodes stored held.numbers (Contains-slice_get table.nodes number stored at) in
+          let is = stored_is table.nodes number stored at in (
+            sym (inputs_are table.names table.instances number stored held.distinct numbered) ∙ ap (λ (s : StoredNode). names_at table.names s.inputs) (sym is) ∙ ap (names_at table.names) (sym same.inputs),
+            sym (others_are table.names table.instances number stored held.distinct numbered) ∙ ap (λ (s : StoredNode). names_at table.names s.order_only) (sym is)
+                ∙ ap (names_at table.names) (sym same.order_only),
           )
 
-      by : (number : ℕ) → AreAlike (stored_at nodes one) (stored_at nodes number) → (o : Option StoredNode) → slice_get nodes number ≡ o
-          → option_map (node_view names instances number) o ≡ Some node → HasInputs node
+      by : (number : ℕ) → AreAlike (stored_at table.nodes one) (stored_at table.nodes number) → (o : Option StoredNode) → slice_get table.nodes number ≡ o
+          → option_map (node_view table.names table.instances number) o ≡ Some node → HasInputs node
       by number same None at is = absurd (none-some node is)
       by number same (Some stored) at is =
-          subst HasInputs (same_Some (node_view names instances number stored) node is) (told number stored same at)
+          subst HasInputs (same_Some (node_view table.names table.instances number stored) node is) (told number stored same at)
 
-  pub share_inputs : ShareInputs (nodes_view names instances nodes numbers)
+  pub share_inputs : ShareInputs (nodes_view table numbers)
   share_inputs = record {
     inputs = λ first second has also. (has_inputs first has).0 ∙ sym (has_inputs second also).0;
     order_only = λ first second has also. (has_inputs first has).1 ∙ sym (has_inputs second also).1;

@@ -2,10 +2,9 @@
 use Rattle.std.specs.Prelude.{◌≡◌, ℕ, ◌<◌, Bool, false, not, bytes_eq, find, List, length, All, Some}
 use Rattle.kt_graph.specs.Prelude.{option_map_or, Text, Node, is_leaf}
 use Rattle.kt_graph.specs.declared.nodes.node.Instance.{Instance as Held}
-use Rattle.kt_graph.specs.inner.nodes.Stored.{StoredNode}
 use Rattle.kt_graph.specs.inner.faults.Files.{AreDistinct, IsByteOrder}
 use Rattle.kt_graph.specs.inner.nodes.Numbering.{HasNumbers}
-use Rattle.kt_graph.specs.nodes.Views.{instance_at}
+use Rattle.kt_graph.specs.nodes.Views.{NodeTable, instance_at}
 
 -- no two makings are equal
 abbrev pub AreDifferent : List Held → Type 0
@@ -13,24 +12,17 @@ AreDifferent instances =
     (one other : ℕ) → one < length instances → other < length instances → instance_at instances (Some one)
     ≡ instance_at instances (Some other) → one ≡ other
 
--- a node's numbers are numbers of names and makings, and no two makings are equal
-pub record IsHeld (names : List Text) (instances : List Held) (node : StoredNode) : Type 0 where
-  pub distinct : AreDistinct names
-  pub apart : AreDifferent instances
-  pub numbers : HasNumbers (length names) (length instances) node
-
--- the same for several nodes
-pub record AreNodesHeld (names : List Text) (instances : List Held) (nodes : List StoredNode) : Type 0 where
-  pub distinct : AreDistinct names
-  pub apart : AreDifferent instances
-  pub numbers : All (HasNumbers (length names) (length instances)) nodes
+-- no two names are equal, no two makings, and the numbers of nodes are numbers of names and makings
+pub record AreNodesHeld (table : NodeTable) : Type 0 where
+  pub distinct : AreDistinct table.names
+  pub apart : AreDifferent table.instances
+  pub numbers : All (HasNumbers (length table.names) (length table.instances)) table.nodes
 
 -- each name has its node, and the order is the byte order of the names
-pub record IsWhole (names : List Text) (instances : List Held) (nodes : List StoredNode)
-    (order : List ℕ) : Type 0 where
-  pub held : AreNodesHeld names instances nodes
-  pub as_many : length nodes ≡ length names
-  pub rises : IsByteOrder names order
+pub record IsWhole (table : NodeTable) (order : List ℕ) : Type 0 where
+  pub held : AreNodesHeld table
+  pub as_many : length table.nodes ≡ length table.names
+  pub rises : IsByteOrder table.names order
 
 -- whether the nodes say that a rule makes a name
 abbrev pub makes_among : List Node → Text → Bool

@@ -1,10 +1,9 @@
 -- Groups of nodes by numbers, as the code finds them (kati's own).
 use Rattle.std.specs.Prelude.{◌≡◌, ℕ, ◌<◌, Bool, true, false, not, ◌&&◌, nat_eq, List, [], ◌∷◌, filter, flat_map}
 use Rattle.std.specs.Prelude.{All, get_or, length, Option, Some, None, slice_get, if◌then◌else◌}
-use Rattle.kt_graph.specs.Prelude.{option_and_then, option_map_or, Text, Node, is_leaf}
-use Rattle.kt_graph.specs.declared.nodes.node.Instance.{Instance as Held}
+use Rattle.kt_graph.specs.Prelude.{option_and_then, option_map_or, Node, is_leaf}
 use Rattle.kt_graph.specs.inner.nodes.Stored.{AreAlike, StoredNode, stored_at}
-use Rattle.kt_graph.specs.nodes.Views.{nodes_view}
+use Rattle.kt_graph.specs.nodes.Views.{NodeTable, nodes_view}
 use Rattle.kt_graph.specs.inner.faults.Edges.{with_edge}
 
 -- whether a rule makes the node with a number
@@ -62,10 +61,9 @@ abbrev pub leads_at : List StoredNode → List (List ℕ) → ℕ → Bool
 leads_at nodes members number = is_made_at nodes number && leads_by members number (making_at nodes number)
 
 -- the group of a number, if the number is the first in it
-abbrev pub group_at : List Text → List Held → List StoredNode → List (List ℕ) → ℕ → List (List Node)
-group_at names instances nodes members number =
-    if leads_at nodes members number then nodes_view names instances nodes (members_of nodes members number)
-    ∷ [] else []
+abbrev pub group_at : NodeTable → List (List ℕ) → ℕ → List (List Node)
+group_at table members number =
+    if leads_at table.nodes members number then nodes_view table (members_of table.nodes members number) ∷ [] else []
 
-abbrev pub groups_left : List Text → List Held → List StoredNode → List (List ℕ) → List ℕ → List (List Node)
-groups_left names instances nodes members numbers = flat_map (group_at names instances nodes members) numbers
+abbrev pub groups_left : NodeTable → List (List ℕ) → List ℕ → List (List Node)
+groups_left table members numbers = flat_map (group_at table members) numbers

@@ -3,7 +3,7 @@ use Rattle.kt_graph.specs.nodes.Views.{nodes_view}
 use Rattle.kt_graph.proofs.nodes.graph.first_node.Given as goal
 
 abbrev pub invariant-loop-left : goal.invariant-loop-left
-invariant-loop-left l = nodes_view l.names l.instances l.nodes l.left ≡ nodes_view l.names l.instances l.nodes l.numbers
+invariant-loop-left l = nodes_view l.table l.left ≡ nodes_view l.table l.numbers
 
 abbrev pub decreases-loop-left : goal.decreases-loop-left
 decreases-loop-left l = length l.left

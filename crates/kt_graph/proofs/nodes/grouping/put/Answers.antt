@@ -5,13 +5,13 @@ use Rattle.kt_graph.proofs.nodes.grouping.put.Goals as goal
 
 pub returns-in_ok-push : goal.returns-in_ok-push
 returns-in_ok-push c =
-    let within : c.args.number < length c.args.nodes.now = omega arith in
+    let within : c.args.number < length c.args.table.now.nodes = omega (arith, ap length c.nodes.ensures.value) in
     c.in_ok-push.ensures.items
     ∙ ap (λ (node : Node). c.args.group.now.items ++ node ∷ []) c.new.ensures
-    ∙ sym (ap (λ (o : Option StoredNode). c.args.group.now.items ++ cons_option (option_map (node_view c.args.names.now c.args.instances.now c.args.number) o) []) (stored_there c.args.nodes.now c.args.number within))
+    ∙ sym (ap (λ (o : Option StoredNode). c.args.group.now.items ++ cons_option (option_map (node_view c.args.table.now.names c.args.table.now.instances c.args.number) o) []) (stored_there c.args.table.now.nodes c.args.number within))
 
 pub returns-else-number-len : goal.returns-else-number-len
 returns-else-number-len c =
     sym (append-nil c.args.group.now.items)
-    ∙ sym (ap (λ (o : Option StoredNode). c.args.group.now.items ++ cons_option (option_map (node_view c.args.names.now c.args.instances.now c.args.number) o) [])
-    (slice_get_past c.args.nodes.now c.args.number (omega arith)))
+    ∙ sym (ap (λ (o : Option StoredNode). c.args.group.now.items ++ cons_option (option_map (node_view c.args.table.now.names c.args.table.now.instances c.args.number) o) [])
+    (slice_get_past c.args.table.now.nodes c.args.number (omega (arith, ap length c.nodes.ensures.value))))

@@ -6,7 +6,7 @@ use Rattle.kt_graph.proofs.nodes.grouping.put_all.Goals as goal
 pub loop-number-preserved : goal.loop-number-preserved
 loop-number-preserved c =
     let within : c.loop-number.number-index < length c.args.numbers.now = omega arith in
-    put_more c.args.names.now c.args.instances.now c.args.nodes.now [] c.args.numbers.now c.loop-number.number-index (get_or c.args.numbers.now c.loop-number.number-index 0)
+    put_more c.args.table.now [] c.args.numbers.now c.loop-number.number-index (get_or c.args.numbers.now c.loop-number.number-index 0)
     c.loop-number.group.items c.put.new.group.items within
     (get_or_default c.args.numbers.now c.loop-number.number-index 0 (get_or c.args.numbers.now c.loop-number.number-index 0) within) c.in_ok-put.ensures
     ∙ c.loop-number.invariant
@@ -14,6 +14,6 @@ loop-number-preserved c =
 pub returns : goal.returns
 returns c =
     sym (append-nil c.loop-number.group.items)
-    ∙ sym (ap (λ (numbers : List ℕ). c.loop-number.group.items ++ nodes_view c.args.names.now c.args.instances.now c.args.nodes.now numbers)
+    ∙ sym (ap (λ (numbers : List ℕ). c.loop-number.group.items ++ nodes_view c.args.table.now numbers)
     (drop_all c.loop-number.number-index c.args.numbers.now (omega arith)))
     ∙ c.loop-number.invariant

@@ -5,23 +5,24 @@ use Rattle.kt_graph.proofs.nodes.graph.Graph.circular.Goals as goal
 
 pub of-requires-clause-needed : goal.of-requires-clause-needed
 of-requires-clause-needed c =
-    needed_below c.self.inside.names c.self.inside.instances.keys c.self.inside.nodes c.self.inside.order.items c.self.invariant
+    rw c.nodes.ensures.value
+    (needed_below c.self.inside.table c.self.inside.order.items c.self.invariant)
 
 pub returns-in-Some : goal.returns-in-Some
 returns-in-Some c = λ rules known goals graph.
     let held = c.self.inside in
     let first = MatchOption-at_some _ _ c.in-Some.number c.in-Some.is c.in_ok-number.ensures in
-    rw c.name_of.ensures
-    (first_cyclic held.names held.instances.keys held.nodes held.order.items c.self.invariant rules known goals
+    rw (c.name_of.ensures, c.names.ensures)
+    (first_cyclic held.table held.order.items c.self.invariant rules known goals
     (subst (IsGraph rules known goals) (sym c.self.view_is) graph) c.in_ok-edges.edges
-    c.in_ok-edges.ensures.edges c.in-Some.number
+    (rw c.nodes.ensures.value at c.in_ok-edges.ensures.edges) c.in-Some.number
     (rw c.as_slice.ensures.value at first))
 
 pub returns : goal.returns
 returns c = λ rules known goals graph.
     let held = c.self.inside in
     let none = MatchOption-at_none _ _ c.in-None.is c.in_ok-number.ensures in
-    none_cyclic held.names held.instances.keys held.nodes held.order.items c.self.invariant rules known goals
+    none_cyclic held.table held.order.items c.self.invariant rules known goals
     (subst (IsGraph rules known goals) (sym c.self.view_is) graph) c.in_ok-edges.edges
-    c.in_ok-edges.ensures.edges
+    (rw c.nodes.ensures.value at c.in_ok-edges.ensures.edges)
     (rw c.as_slice.ensures.value at none)

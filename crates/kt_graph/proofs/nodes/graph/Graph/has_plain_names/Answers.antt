@@ -1,4 +1,4 @@
-use Rattle.std.proofs.Common.{◌≡◌, All, List, false, ℕ, ◌<◌, ⊎_elim, subst, arith}
+use Rattle.std.proofs.Common.{◌≡◌, All, List, false, ℕ, ◌<◌, ⊎_elim, subst, arith, ap, length}
 use Rattle.kt_graph.proofs.Common.{list_any, cases_lt, Text, canon_of, is_reserved, made_names, Node, name_at, nodes_view}
 use Rattle.kt_graph.proofs.lemmas.faults.PlainNameLemmas.{made_canonical, none_reserved, of_nodes}
 use Rattle.kt_graph.proofs.nodes.graph.Graph.has_plain_names.Goals as goal
@@ -11,7 +11,7 @@ loop-number-preserved c = λ place within. ⊎_elim
     (λ (less : place < c.loop-number.number). c.loop-number.invariant place less)
     (λ more.
     let same : c.loop-number.number ≡ place = omega arith in
-    subst (λ (n : ℕ). (canon_of (name_at c.self.inside.names n) ≡ name_at c.self.inside.names n) × (is_reserved (name_at c.self.inside.names n) ≡ false)) same
+    subst (λ (n : ℕ). (canon_of (name_at c.names-names.result.now n) ≡ name_at c.names-names.result.now n) × (is_reserved (name_at c.names-names.result.now n) ≡ false)) same
     (subst (λ (name : Text). (canon_of name ≡ name) × (is_reserved name ≡ false)) c.name_of.ensures
     (c.is_plain.ensures.canonical c.if-not-is_plain.false, c.is_plain.ensures.unreserved c.if-not-is_plain.false)))
     (cases_lt place c.loop-number.number)
@@ -19,15 +19,15 @@ loop-number-preserved c = λ place within. ⊎_elim
 pub returns-clause-unreserved : goal.returns-clause-unreserved
 returns-clause-unreserved c = λ yes.
     subst (λ (nodes : List Node). list_any (λ (node : Node). is_reserved node.name) nodes ≡ false) c.self.view_is
-    (none_reserved (nodes_view c.self.inside.names c.self.inside.instances.keys c.self.inside.nodes c.self.inside.order.items)
-    (of_nodes (λ (name : Text). is_reserved name ≡ false) c.self.inside.names c.self.inside.instances.keys c.self.inside.nodes
-    (λ number within. (c.loop-number.invariant number (omega arith)).1)
+    (none_reserved (nodes_view c.self.inside.table c.self.inside.order.items)
+    (of_nodes (λ (name : Text). is_reserved name ≡ false) c.self.inside.table
+    (λ number within. rw c.names-names.ensures at ((c.loop-number.invariant number (omega (arith, ap length c.names-names.ensures))).1))
     c.self.inside.order.items (λ number has. (c.self.invariant.rises.all number).0 has)))
 
 pub returns-clause-canonical : goal.returns-clause-canonical
 returns-clause-canonical c = λ yes.
     subst (λ (nodes : List Node). All (λ (name : Text). canon_of name ≡ name) (made_names nodes)) c.self.view_is
-    (made_canonical (nodes_view c.self.inside.names c.self.inside.instances.keys c.self.inside.nodes c.self.inside.order.items)
-    (of_nodes (λ (name : Text). canon_of name ≡ name) c.self.inside.names c.self.inside.instances.keys c.self.inside.nodes
-    (λ number within. (c.loop-number.invariant number (omega arith)).0)
+    (made_canonical (nodes_view c.self.inside.table c.self.inside.order.items)
+    (of_nodes (λ (name : Text). canon_of name ≡ name) c.self.inside.table
+    (λ number within. rw c.names-names.ensures at ((c.loop-number.invariant number (omega (arith, ap length c.names-names.ensures))).0))
     c.self.inside.order.items (λ number has. (c.self.invariant.rises.all number).0 has)))

@@ -3,8 +3,8 @@ use Rattle.kt_graph.proofs.Common.{IfOk-weaker, Text, Rule, with_name, GraphBuil
 use Rattle.kt_graph.proofs.lemmas.nodes.BuilderLemmas.{done_numbers}
 use Rattle.kt_graph.proofs.nodes.graph.Graph.reached.Goals as goal
 
-pub whole-requires-clause-numbers : goal.whole-requires-clause-numbers
-whole-requires-clause-numbers c =
+pub new-table-requires : goal.new-table-requires
+new-table-requires c =
     let reach = c.in_ok-reach.ensures in
     let start = c.in_ok-builder.ensures.begun in
     let begun : IsBegun c.args.goals.now c.reach.new.self = record {
@@ -36,4 +36,4 @@ returns c =
     (c.in_ok-build_all.ensures goals begun)) in
     IfOk-weaker c.whole.result
     (λ graph. (rules : List Rule) (known others : List Text) → IsDone rules known others keys self.instances.keys self.nodes → IsGraph rules known others graph)
-    (IsGraph c.args.book.now c.args.known.now goals) (λ graph h. h c.args.book.now c.args.known.now goals done) c.whole.ensures
+    (IsGraph c.args.book.now c.args.known.now goals) (λ graph h. h c.args.book.now c.args.known.now goals done) (rw c.new-table.ensures at c.whole.ensures)
