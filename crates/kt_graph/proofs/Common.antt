@@ -20,7 +20,7 @@ unfoldable pub use Rattle.kt_graph.specs.faults.Paths.{canon_of, parts_of}
 pub use Rattle.kt_graph.specs.inner.faults.Arrivals.{AreCounted, IsLeftIn, LeavesCircular, arrivals_at, is_left, next_of_all, next_of_left, with_arrival, without_arrival}
 pub use Rattle.kt_graph.specs.inner.faults.Edges.{AreEdgesOf, AreMadeBelow, AreNeededBelow, AreReversed, HasNext, HaveEdges, HoldsCircular, IsDoneWith, IsEdge, IsFirstBack, IsRepeated, LeadToVertices, LeadsBack, LeadsOn, LeadsTo, Searches, Visits, bare_rows, count_held, count_of, edges_from, edges_to, holds_in, making_edges, makings_edges, needed_numbers, next_of, numbers_after, one_at, row_by, row_of, rows_held, rows_of, with_edge, with_edges, work_with}
 pub use Rattle.kt_graph.specs.inner.faults.Files.{AreDistinct, HasFiles, IsByteOrder, held_for, is_repeated, made_names, several_in}
-pub use Rattle.kt_graph.specs.inner.nodes.GraphBuilder.{AllSay, AreTold, BuildsNode, IsBegun, IsCut, IsDone, IsLeafOf, IsLikeLast, IsOver, LastNeeds, ReachesMore, leaf_stored, sole_node}
+pub use Rattle.kt_graph.specs.inner.nodes.GraphBuilder.{AllSay, AreOf, AreTold, BuildsNode, IsBegun, IsCut, IsDone, IsLeafOf, IsLikeLast, IsOver, LastNeeds, ReachesMore, leaf_stored, sole_node}
 pub use Rattle.kt_graph.specs.inner.nodes.Inputs.{HasOwnInputs, inputs_held, numbers_without, others_held, with_number}
 unfoldable pub use Rattle.kt_graph.specs.inner.nodes.Inputs.{differ, rise, rise_after}
 pub use Rattle.kt_graph.specs.inner.nodes.Needed.{first_needs, joined_after, needed_as, needed_by, needed_by_parts, needing_as, needing_view, part_with, rules_needs, single_node}

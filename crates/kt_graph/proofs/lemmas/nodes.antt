@@ -18,3 +18,5 @@ pub mod GroupLaw
 pub mod GroupingLemmas
 pub mod SharedLemmas
 pub mod LikeLemmas
+pub mod StemLemmas
+pub mod OfLemmas

@@ -8,7 +8,7 @@ ghost use Rattle.kt_rules.specs.Names.{with_name};
 ghost use Rattle.kt_rules.specs.Slots.{rule_view};
 ghost use Rattle.kt_rules.specs.Targets.{entry_view, targets_view};
 ghost use Rattle.kt_rules.specs.Suffixes.{all_needs, suffixes_of};
-ghost use Rattle.kt_graph.specs.inner.nodes.GraphBuilder.{IsCut};
+ghost use Rattle.kt_graph.specs.inner.nodes.GraphBuilder.{AreOf, IsCut};
 ghost use Rattle.kt_graph.specs.inner.nodes.Needed.{needed_by_parts};
 ghost use Rattle.kt_graph.specs.inner.nodes.Numbering.{SayParts, SaysPart};
 ghost use Rattle.kt_graph.specs.inner.nodes.Stored.{part_held, parts_held};
@@ -57,8 +57,8 @@ pub(crate) fn double_parts<'a>(
     names: &mut NameNumbers<'_>,
     rules: &[TargetRule<'a>],
 ) -> Result<Vec<NumberedPart<'a>>, AllocError>
-    ensures say { IfOk result (λ parts. (name : Text) → SayParts names.new name (map (own_part (suffixes_of book.now))
-        (map rule_view rules.now)) (parts_held parts.items)) }
+    ensures say { IfOk result (λ parts. (name : Text) → AreOf name (map rule_view rules.now) → SayParts names.new name
+        (map (own_part (suffixes_of book.now)) (map rule_view rules.now)) (parts_held parts.items)) }
     ensures reached { OnOk result (names.new ≡ fold with_name names.old (needed_by_parts
         (map (own_part (suffixes_of book.now)) (map rule_view rules.now)))) }
 {
@@ -75,7 +75,7 @@ fn double_part<'a>(
     names: &mut NameNumbers<'_>,
     rule: TargetRule<'a>,
 ) -> Result<NumberedPart<'a>, AllocError>
-    ensures says { IfOk result (λ part. (name : Text) → SaysPart names.new name
+    ensures says { IfOk result (λ part. SaysPart names.new (rule_view rule.entry).1.name
         (own_part (suffixes_of book.now) (rule_view rule.entry)) (part_held part.part part.needs)) }
     ensures reached { OnOk result (names.new
         ≡ fold with_name names.old (all_needs (own_part (suffixes_of book.now) (rule_view rule.entry)).needs)) }
@@ -83,10 +83,8 @@ fn double_part<'a>(
     let mut needs = Numbered::none(alloc);
     let needing = Needing::after(rule.needs(), &[], &[]);
     names.number_needs(needing, &mut needs)?;
-    Ok(NumberedPart {
-        part: Part::of_rule(book, rule),
-        needs,
-    })
+    let part = Part::of_rule(alloc, book, rule)?;
+    Ok(NumberedPart { part, needs })
 }
 
 /// Whether one of the rules has two colons.

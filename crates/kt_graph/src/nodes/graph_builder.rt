@@ -13,8 +13,9 @@ ghost use Rattle.kt_graph.specs.inner.nodes.Needed.{needing_view, single_node};
 ghost use Rattle.kt_graph.specs.nodes.Node.{double_node, explicit_node, node_by, node_of, node_with, plain_node};
 ghost use Rattle.kt_graph.specs.nodes.Node.{searched};
 ghost use Rattle.kt_graph.specs.inner.nodes.Numbering.{IsMaking};
-ghost use Rattle.kt_graph.specs.inner.nodes.GraphBuilder.{AreTold, BuildsNode, IsBegun, IsBuilt, IsCut, IsLikeLast, IsOver};
-ghost use Rattle.kt_graph.specs.inner.nodes.GraphBuilder.{LastNeeds, NeedsAs, NeedsAsLast, ReachesMore, sole_node};
+ghost use Rattle.kt_graph.specs.inner.nodes.GraphBuilder.{AreOf, AreTold, BuildsNode, IsBegun, IsBuilt, IsCut};
+ghost use Rattle.kt_graph.specs.inner.nodes.GraphBuilder.{IsLikeLast, IsOver, LastNeeds, NeedsAs, NeedsAsLast};
+ghost use Rattle.kt_graph.specs.inner.nodes.GraphBuilder.{ReachesMore, sole_node};
 ghost use Rattle.kt_graph.specs.inner.nodes.Reached.{reached_text};
 ghost use Rattle.kt_graph.specs.nodes.Views.{instance_view};
 
@@ -180,13 +181,13 @@ impl<'a> GraphBuilder<'a> {
 
     // The node of a name with one rule, which needs what the last node does.
     fn node_like_last(&mut self, rule: TargetRule<'a>) -> Result<(), AllocError>
-        ensures { OnOk result ((name : Text) → LastNeeds self.old (needs_for (rule_view rule.entry).0 (rule_view
-            rule.entry).1) → BuildsNode self.old (sole_node (suffixes_of self.old.book.now) name
+        ensures { OnOk result (LastNeeds self.old (needs_for (rule_view rule.entry).0 (rule_view rule.entry).1)
+            → BuildsNode self.old (sole_node (suffixes_of self.old.book.now) (rule_view rule.entry).1.name
             (rule_view rule.entry)) self.new) }
     {
         let last = self.nodes.len().saturating_sub(1);
         let making = group_of(self.alloc, rule.entry)?;
-        let part = Part::of_rule(self.book, rule);
+        let part = Part::of_rule(self.alloc, self.book, rule)?;
         let made_with = self.making(making)?;
         let maker = Maker {
             kind: NodeKind::Explicit,
@@ -201,7 +202,8 @@ impl<'a> GraphBuilder<'a> {
         name: &ReachedName<'a>,
         rules: &[TargetRule<'a>],
     ) -> Result<(), AllocError>
-        requires { IsOver self.old }
+        requires over { IsOver self.old }
+        requires rules { AreOf (reached_text name.now) (map rule_view rules.now) }
         ensures { OnOk result (BuildsNode self.old (node_with self.old.book.now self.old.known.now
             (reached_text name.now) (map rule_view rules.now)) self.new) }
     {
@@ -215,7 +217,7 @@ impl<'a> GraphBuilder<'a> {
     }
 
     fn double_node(&mut self, rules: &[TargetRule<'a>]) -> Result<(), AllocError>
-        ensures { OnOk result ((name : Text) → BuildsNode self.old (double_node
+        ensures { OnOk result ((name : Text) → AreOf name (map rule_view rules.now) → BuildsNode self.old (double_node
             (suffixes_of self.old.book.now) name (map rule_view rules.now)) self.new) }
     {
         let parts = double_parts(self.alloc, self.book, &mut self.numbers, rules)?;
@@ -223,14 +225,14 @@ impl<'a> GraphBuilder<'a> {
     }
 
     fn explicit_node(&mut self, used: Used<'a, '_>) -> Result<(), AllocError>
-        ensures { OnOk result ((name : Text) (rules : List (Rule × HeldTarget)) → IsCut rules used.entry
-            → BuildsNode self.old (explicit_node (suffixes_of self.old.book.now) name rules
-            (rule_view used.entry.rule)) self.new) }
+        ensures { OnOk result ((rules : List (Rule × HeldTarget)) → IsCut rules used.entry
+            → BuildsNode self.old (explicit_node (suffixes_of self.old.book.now) (rule_view used.entry.rule).1.name
+            rules (rule_view used.entry.rule)) self.new) }
     {
         let rule = used.rule;
         let making = group_of(self.alloc, rule.entry)?;
         let needing = Needing::after(rule.needs(), used.earlier, used.later);
-        let part = Part::of_rule(self.book, rule);
+        let part = Part::of_rule(self.alloc, self.book, rule)?;
         self.hold(NodeKind::Explicit, part, needing, making)
     }
 
@@ -340,24 +342,24 @@ impl<'a> GraphBuilder<'a> {
     // What the pattern rule that makes a name gives it; for a phony name there is no search.
     fn inferred(&mut self, name: &[u8]) -> Result<Option<Inferred<'a>>, AllocError>
         requires { IsOver self.old }
-        ensures tells { IfOk result (InfersFrom (searched self.old.book.now self.old.known.now name.now)) }
+        ensures tells { IfOk result (InfersFrom name.now (searched self.old.book.now self.old.known.now name.now)) }
         ensures kept { OnOk result (ReachesMore self.old [] [] self.new) }
     {
         if self.book.is_phony(name) {
             return Ok(None);
         }
         match self.finder.choose(name)? {
-            Some(chosen) => self.inference(chosen),
+            Some(chosen) => self.inference(name, chosen),
             None => Ok(None),
         }
     }
 
     // What a chosen rule gives to the name that it makes.
-    fn inference(&self, chosen: Chosen) -> Result<Option<Inferred<'a>>, AllocError>
-        ensures { IfOk result (Infers self.now.finder.rules chosen) }
+    fn inference(&self, name: &[u8], chosen: Chosen) -> Result<Option<Inferred<'a>>, AllocError>
+        ensures { IfOk result (Infers name.now self.now.finder.rules chosen) }
     {
         match self.finder.patterns().get(chosen.rule) {
-            Some(pattern) => Ok(Some(Inferred::of(self.alloc, pattern, chosen)?)),
+            Some(pattern) => Ok(Some(Inferred::of(self.alloc, name, pattern, chosen)?)),
             None => Ok(None),
         }
     }

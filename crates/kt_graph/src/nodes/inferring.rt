@@ -22,17 +22,18 @@ pub(crate) struct Inferred<'a> {
 impl<'a> Inferred<'a> {
     pub(crate) fn of(
         alloc: Global,
+        name: &[u8],
         pattern: &Pattern<'a>,
         chosen: Chosen,
     ) -> Result<Inferred<'a>, AllocError>
-        ensures { IfOk result (GivesChosen pattern.now chosen) }
+        ensures { IfOk result (GivesChosen name.now pattern.now chosen) }
     {
         let stemming = Stemming {
             directory: chosen.directory.as_slice(),
             stem: chosen.stem.as_slice(),
         };
         let needs = stemming.needs(alloc, pattern.needs())?;
-        let stem = Stem::joined(alloc, stemming.directory, stemming.stem)?;
+        let stem = Stem::joined(alloc, name, stemming.directory, stemming.stem)?;
         Ok(Inferred {
             recipe: pattern.recipe(),
             stem,

@@ -1,6 +1,5 @@
 //! What a node is made of before it is stored.
 ghost use Rattle.std.specs.Prelude.{◌≡◌, [], IfOk, None, is_some};
-ghost use Rattle.kt_text.specs.Words.{Text};
 ghost use Rattle.kt_rules.specs.declared.entry.Needs.{Needs};
 ghost use Rattle.kt_rules.specs.Slots.{rule_view};
 ghost use Rattle.kt_rules.specs.Suffixes.{suffixes_of};
@@ -58,14 +57,19 @@ pub(crate) struct NumberedPart<'a> {
 
 impl<'a> Part<'a> {
     /// The part of a rule of a target.
-    pub(crate) fn of_rule(book: &'a Book, rule: TargetRule<'a>) -> Part<'a>
-        ensures { (name : Text) (needs : Needs) → part_with name result needs
-            ≡ part_of (suffixes_of book.now) (rule_view rule.entry) needs }
+    pub(crate) fn of_rule(
+        alloc: Global,
+        book: &'a Book,
+        rule: TargetRule<'a>,
+    ) -> Result<Part<'a>, AllocError>
+        ensures { IfOk result (λ part. (needs : Needs) → part_with (rule_view rule.entry).1.name part needs
+            ≡ part_of (suffixes_of book.now) (rule_view rule.entry) needs) }
     {
-        Part {
+        let stem = Stem::of_rule(alloc, book, rule)?;
+        Ok(Part {
             recipe: rule.entry.recipe(),
-            stem: Stem::of_rule(book, rule),
-        }
+            stem,
+        })
     }
 
     /// The part of a node without a recipe.

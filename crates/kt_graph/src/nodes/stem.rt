@@ -1,19 +1,23 @@
 //! The stem of a part.
-ghost use Rattle.std.specs.Prelude.{◌≡◌, ◌++◌, IfOk};
+ghost use Rattle.std.specs.Prelude.{◌≡◌, ◌++◌, drop, take, true, IfOk, IfSome};
+ghost use Rattle.kt_text.specs.Words.{Text};
 ghost use Rattle.kt_rules.specs.Slots.{rule_view};
 ghost use Rattle.kt_rules.specs.Suffixes.{suffixes_of};
-ghost use Rattle.kt_graph.specs.inner.nodes.Stems.{given, own, stem_in};
+ghost use Rattle.kt_graph.specs.inner.nodes.Stems.{Lies, own, stem_in};
 ghost use Rattle.kt_graph.specs.nodes.Node.{stem_for, suffix_stem};
 
-use kt_list::ShortText;
+use kt_list::narrow;
 use kt_rules::{Book, TargetRule};
+use memchr::memmem::find;
 use std::alloc::{AllocError, Global};
+use std::boxed::Box;
 use std::marker::Model;
 
 /// The stem of a part, which is the value of `$*`. Few recipes name it, so the suffixes of a book are tried only where
 /// it is asked for.
 ///
-/// A contract sees it as just its bytes, or as the suffixes of which the name of the node loses one.
+/// Nearly all stems lie in the name of the node, and are told by their place there. A contract sees a stem as what
+/// gives it by the name: suffixes of which the name loses one, a place, or just its bytes.
 #[derive(Drop)]
 pub(crate) struct Stem<'a> {
     form: Form<'a>,
@@ -21,14 +25,12 @@ pub(crate) struct Stem<'a> {
 
 #[derive(Drop)]
 enum Form<'a> {
-    // The name of the node without its suffix.
+    // The name without its suffix.
     Own(&'a Book),
-    // This name of the book without its suffix.
-    Suffixed(&'a Book, &'a [u8]),
-    InBook(&'a [u8]),
-    // Two forms of its own, as `Name` has them: a form that holds a `Name` makes each stem longer.
-    Short(ShortText),
-    Long(Vec<u8>),
+    // From a place in the name on, so many bytes.
+    Within(u32, u32),
+    // In a vector that lies elsewhere, since few stems need one.
+    Given(Box<Vec<u8>>),
 }
 
 impl<'a> Model for Stem<'a> {
@@ -40,15 +42,19 @@ impl<'a> Model for Stem<'a> {
 }
 
 impl<'a> Stem<'a> {
-    /// The stem in an explicit rule: that of its static pattern, if it has one. Takes no memory.
-    pub(crate) fn of_rule(book: &'a Book, rule: TargetRule<'a>) -> Stem<'a>
-        ensures { result ≡ given (stem_for (suffixes_of book.now) (rule_view rule.entry)) }
+    /// The stem in the node of a target with this rule: that of its static pattern, if it has one.
+    pub(crate) fn of_rule(
+        alloc: Global,
+        book: &'a Book,
+        rule: TargetRule<'a>,
+    ) -> Result<Stem<'a>, AllocError>
+        ensures { IfOk result (λ stem. stem_in (rule_view rule.entry).1.name stem
+            ≡ stem_for (suffixes_of book.now) (rule_view rule.entry)) }
     {
-        let form = match rule.target.stem() {
-            Some(stem) => Form::InBook(stem),
-            None => Form::Suffixed(book, rule.target.name),
-        };
-        Stem { form }
+        match rule.target.stem() {
+            Some(stem) => Stem::joined(alloc, rule.target.name, b"", stem),
+            None => Ok(Stem::own(book)),
+        }
     }
 
     /// The stem in a node without such a rule.
@@ -60,35 +66,30 @@ impl<'a> Stem<'a> {
         }
     }
 
-    /// The two texts together. Most stems have no directory before them.
-    pub(crate) fn joined(alloc: Global, front: &[u8], back: &[u8]) -> Result<Stem<'a>, AllocError>
-        ensures { IfOk result (λ stem. stem ≡ given (front.now ++ back.now)) }
+    /// The two texts together, in the node of a name. Most stems have no directory before them.
+    pub(crate) fn joined(
+        alloc: Global,
+        name: &[u8],
+        front: &[u8],
+        back: &[u8],
+    ) -> Result<Stem<'a>, AllocError>
+        ensures { IfOk result (λ stem. stem_in name.now stem ≡ front.now ++ back.now) }
     {
-        match front {
-            [] => Stem::copied(alloc, back),
-            _ => Ok(Stem::held(appended(alloc, front, back)?)),
+        match place_in(name, front, back) {
+            Some(place) => Stem::within(place, front.len() + back.len()),
+            None => Ok(Stem {
+                form: Form::Given(Box::new(alloc, appended(alloc, front, back)?)?),
+            }),
         }
     }
 
-    fn copied(alloc: Global, text: &[u8]) -> Result<Stem<'a>, AllocError>
-        ensures { IfOk result (λ stem. stem ≡ given text.now) }
+    // Places beyond 4,294,967,295 are refused as if memory were.
+    fn within(place: usize, len: usize) -> Result<Stem<'a>, AllocError>
+        ensures { IfOk result (λ stem. (name : Text) → stem_in name stem ≡ take len (drop place name)) }
     {
-        let form = match ShortText::of(text) {
-            Some(short) => Form::Short(short),
-            None => Form::Long(Vec::from_slice(alloc, text)?),
-        };
-        Ok(Stem { form })
-    }
-
-    // The bytes of a vector. Takes no memory.
-    fn held(text: Vec<u8>) -> Stem<'a>
-        ensures { result ≡ given text.items }
-    {
-        let form = match ShortText::of(text.as_slice()) {
-            Some(short) => Form::Short(short),
-            None => Form::Long(text),
-        };
-        Stem { form }
+        Ok(Stem {
+            form: Form::Within(narrow(place)?, narrow(len)?),
+        })
     }
 
     /// The stem in the node of a name.
@@ -97,12 +98,49 @@ impl<'a> Stem<'a> {
     {
         match &self.form {
             Form::Own(book) => suffix_stem(book, name),
-            Form::Suffixed(book, name) => suffix_stem(book, name),
-            Form::InBook(text) => text,
-            Form::Short(text) => text.as_slice(),
-            Form::Long(text) => text.as_slice(),
+            Form::Within(place, len) => up_to(after(name, *place as usize), *len as usize),
+            Form::Given(text) => text.as_slice(),
         }
     }
+}
+
+// What stands from a place on.
+fn after(name: &[u8], place: usize) -> &[u8]
+    ensures { result.now ≡ drop place name.now }
+{
+    &name[place.min(name.len())..]
+}
+
+// The first bytes, so many.
+fn up_to(name: &[u8], len: usize) -> &[u8]
+    ensures { result.now ≡ take len name.now }
+{
+    &name[..len.min(name.len())]
+}
+
+// A place in a name where the two texts lie together, if it is found: nothing is promised where it isn't.
+fn place_in(name: &[u8], front: &[u8], back: &[u8]) -> Option<usize>
+    ensures { IfSome result (Lies name.now front.now back.now) }
+{
+    if lie_at(name, 0, front, back) {
+        return Some(0);
+    }
+    let place = find(name, back)?.checked_sub(front.len())?;
+    if lie_at(name, place, front, back) {
+        return Some(place);
+    }
+    None
+}
+
+// Whether they lie together at this place.
+fn lie_at(name: &[u8], place: usize, front: &[u8], back: &[u8]) -> bool
+    ensures { result ≡ true → Lies name.now front.now back.now place }
+{
+    let rest = after(name, place);
+    if up_to(rest, front.len()) != front {
+        return false;
+    }
+    up_to(after(rest, front.len()), back.len()) == back
 }
 
 fn appended(alloc: Global, front: &[u8], back: &[u8]) -> Result<Vec<u8>, AllocError>

@@ -12,11 +12,11 @@ search_is book known name choice h found =
     ap (λ b. if b then None else option_and_then (chosen_rule (patterns_of book)) (choice_of (patterns_of book) known name)) h
     ∙ ap (option_and_then (chosen_rule (patterns_of book))) found
 
-given : (candidate : Candidate) (rule : Rule) (chosen : Chosen) (inferred : Inferred) → chosen ≡ choice_view candidate
-    → candidate.needs ≡ needs_with candidate.directory candidate.stem rule.needs → GivesChosen rule chosen inferred
-    → (name : Text) (rules : List (Rule × Target)) → inferred_node name rules inferred ≡ implicit_node name rules candidate rule
-given candidate rule chosen inferred told needing gives name rules =
-    let stem : stem_in name inferred.stem ≡ candidate.directory ++ candidate.stem = ap (stem_in name) gives.stem ∙ ap (λ c. c.directory ++ c.stem) told in
+given : (candidate : Candidate) (rule : Rule) (chosen : Chosen) (inferred : Inferred) (name : Text) → chosen ≡ choice_view candidate
+    → candidate.needs ≡ needs_with candidate.directory candidate.stem rule.needs → GivesChosen name rule chosen inferred
+    → (rules : List (Rule × Target)) → inferred_node name rules inferred ≡ implicit_node name rules candidate rule
+given candidate rule chosen inferred name told needing gives rules =
+    let stem : stem_in name inferred.stem ≡ candidate.directory ++ candidate.stem = gives.stem ∙ ap (λ c. c.directory ++ c.stem) told in
     let needs : inferred.needs ≡ candidate.needs = gives.needs ∙ ap (λ c. needs_with c.directory c.stem rule.needs) told ∙ sym needing in
     let all : needs_after inferred.needs (joined_needs rules) ≡ needs_after candidate.needs (joined_needs rules) = ap (λ n. needs_after n (joined_needs rules)) needs in
     let made : option_map instance_view inferred.making ≡ pattern_making rule (choice_view candidate) = gives.making ∙ ap (pattern_making rule) told in
@@ -25,7 +25,7 @@ given candidate rule chosen inferred told needing gives name rules =
 -- a rule is found, or no rule has the chosen number
 rule_tells : (book : List Rule) (known : List Text) (name : Text) (candidate : Candidate) (chosen : Chosen) (inferred : Option Inferred) → is_phony book name ≡ false
     → choice_of (patterns_of book) known name ≡ Some candidate → chosen ≡ choice_view candidate
-    → Infers (patterns_of book) chosen inferred → InfersFrom (searched book known name) inferred
+    → Infers name (patterns_of book) chosen inferred → InfersFrom name (searched book known name) inferred
 rule_tells book known name candidate chosen None h found told infers =
     search_is book known name (Some candidate) h found
     ∙ ap (option_map (λ rule. (candidate, rule))) (ap (λ c. slice_get (patterns_of book) c.rule) (sym told) ∙ infers)
@@ -34,17 +34,17 @@ rule_tells book known name candidate chosen (Some inferred) h found told infers 
     let at : slice_get (patterns_of book) candidate.rule ≡ Some rule = ap (λ c. slice_get (patterns_of book) c.rule) (sym told) ∙ infers.1 in (
       (candidate, rule),
       search_is book known name (Some candidate) h found ∙ ap (option_map (λ r. (candidate, r))) at,
-      given candidate rule chosen inferred told (choice_needs (patterns_of book) known name candidate rule found at) infers.2,
+      given candidate rule chosen inferred name told (choice_needs (patterns_of book) known name candidate rule found at) infers.2,
     )
 
 -- something is chosen
 pub some_tells : (book : List Rule) (known : List Text) (name : Text) (chosen : Chosen) (inferred : Option Inferred) → is_phony book name ≡ false
-    → Some chosen ≡ option_map choice_view (choice_of (patterns_of book) known name) → Infers (patterns_of book) chosen inferred
-    → InfersFrom (searched book known name) inferred
+    → Some chosen ≡ option_map choice_view (choice_of (patterns_of book) known name) → Infers name (patterns_of book) chosen inferred
+    → InfersFrom name (searched book known name) inferred
 some_tells book known name chosen inferred h some infers = by_choice (choice_of (patterns_of book) known name) refl some
   where
     by_choice : (choice : Option Candidate) → choice_of (patterns_of book) known name ≡ choice → Some chosen ≡ option_map choice_view choice
-        → InfersFrom (searched book known name) inferred
+        → InfersFrom name (searched book known name) inferred
     by_choice None found e = cc
     by_choice (Some candidate) found e =
         let told : chosen ≡ choice_view candidate = cc in

@@ -18,6 +18,10 @@ pub record IsCut (rules : List (Rule × Target)) (used : Used) : Type 0 where
   pub before : before_last has_recipe rules ≡ map rule_view used.earlier.now
   pub after : after_last has_recipe rules ≡ map rule_view used.later.now
 
+-- the targets of these rules have a name
+abbrev pub AreOf : Text → List (Rule × Target) → Type 0
+AreOf name rules = All (λ made. made.1.name ≡ name) rules
+
 -- how each leaf is stored that needs nothing
 abbrev pub leaf_stored : List Text → StoredNode
 leaf_stored suffixes = stored_with Leaf None

@@ -4,7 +4,7 @@ use Rattle.std.specs.Prelude.{slice_get, if◌then◌else◌}
 use Rattle.kt_graph.specs.Prelude.{Text, Target, Rule, Chosen, Implicit, Candidate, needs_with}
 use Rattle.kt_graph.specs.declared.nodes.inferring.Inferred.{Inferred}
 use Rattle.kt_graph.specs.nodes.Node.{Instance, Node, of_pattern, implicit_node, joined_needs, needs_after}
-use Rattle.kt_graph.specs.inner.nodes.Stems.{given, stem_in}
+use Rattle.kt_graph.specs.inner.nodes.Stems.{stem_in}
 use Rattle.kt_graph.specs.nodes.Views.{instance_view}
 
 -- the making of a pattern rule with several targets
@@ -12,18 +12,18 @@ abbrev pub pattern_making : Rule → Chosen → Option Instance
 pattern_making rule chosen = if nat_lt 1 (length rule.targets)
     then Some (of_pattern chosen.rule chosen.directory chosen.stem) else None
 
--- what the code has is what the chosen rule gives
-pub record GivesChosen (rule : Rule) (chosen : Chosen) (inferred : Inferred) : Type 0 where
+-- what the code has is what the chosen rule gives to a name
+pub record GivesChosen (name : Text) (rule : Rule) (chosen : Chosen) (inferred : Inferred) : Type 0 where
   pub recipe : option_map (λ lines. lines.now) inferred.recipe ≡ rule.recipe
-  pub stem : inferred.stem ≡ given (chosen.directory ++ chosen.stem)
+  pub stem : stem_in name inferred.stem ≡ chosen.directory ++ chosen.stem
   pub needs : inferred.needs ≡ needs_with chosen.directory chosen.stem rule.needs
   pub making : option_map instance_view inferred.making ≡ pattern_making rule chosen
 
 -- what the rule with the chosen number gives, if there is such a rule
-abbrev pub Infers : List Rule → Chosen → Option Inferred → Type 0
-Infers rules chosen inferred =
+abbrev pub Infers : Text → List Rule → Chosen → Option Inferred → Type 0
+Infers name rules chosen inferred =
     MatchOption inferred (slice_get rules chosen.rule ≡ None) (λ some. (rule : Rule)
-    × (slice_get rules chosen.rule ≡ Some rule) × GivesChosen rule chosen some)
+    × (slice_get rules chosen.rule ≡ Some rule) × GivesChosen name rule chosen some)
 
 -- the node of a name, from what the chosen rule gives
 abbrev pub inferred_node : Text → List (Rule × Target) → Inferred → Node
@@ -39,8 +39,7 @@ inferred_node name rules inferred = record {
 }
 
 -- what is given comes from the candidate that the search finds and its rule
-abbrev pub InfersFrom : Option (Candidate × Rule) → Option Inferred → Type 0
-InfersFrom found inferred =
+abbrev pub InfersFrom : Text → Option (Candidate × Rule) → Option Inferred → Type 0
+InfersFrom name found inferred =
     MatchOption inferred (found ≡ None) (λ some. (one : Candidate × Rule) × (found ≡ Some one)
-    × ((name : Text) (rules : List (Rule × Target)) → inferred_node name rules some
-    ≡ implicit_node name rules one.0 one.1))
+    × ((rules : List (Rule × Target)) → inferred_node name rules some ≡ implicit_node name rules one.0 one.1))

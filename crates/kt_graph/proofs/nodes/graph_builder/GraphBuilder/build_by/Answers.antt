@@ -1,5 +1,6 @@
 use Rattle.std.proofs.Common.{◌∙◌, List, Some, map, subst, sym}
-use Rattle.kt_graph.proofs.Common.{on_ok_weaker, Text, Target, Rule, rule_view, suffixes_of, double_node, explicit_node, reached_text, BuildsNode, IsCut}
+use Rattle.kt_graph.proofs.Common.{AreOf, on_ok_weaker, Text, Target, Rule, rule_view, suffixes_of, double_node, explicit_node, reached_text, BuildsNode, IsCut}
+use Rattle.kt_graph.proofs.lemmas.nodes.OfLemmas.{used_of}
 use Rattle.kt_graph.proofs.lemmas.nodes.StepLemmas.{double_with, single_with}
 use Rattle.kt_graph.proofs.nodes.graph_builder.GraphBuilder.build_by.Goals as goal
 
@@ -10,8 +11,8 @@ returns-then-has_double c =
     let made = map rule_view c.args.rules.now in
     let new = c.double_node.new.self in
     let same = double_with book c.args.self.now.known.now name made (sym c.has_double.ensures ∙ c.if-has_double.true) in
-    on_ok_weaker c.double_node.result (λ (h : (name : Text) → BuildsNode c.args.self.now (double_node (suffixes_of book) name made) new).
-    subst (λ n. BuildsNode c.args.self.now n new) same (h name)) c.double_node.ensures
+    on_ok_weaker c.double_node.result (λ (h : (name : Text) → AreOf name made → BuildsNode c.args.self.now (double_node (suffixes_of book) name made) new).
+    subst (λ n. BuildsNode c.args.self.now n new) same (h name c.requires.rules)) c.double_node.ensures
 
 pub returns-in-Some : goal.returns-in-Some
 returns-in-Some c =
@@ -22,6 +23,8 @@ returns-in-Some c =
     let new = c.explicit_node.new.self in
     let same = single_with book c.args.self.now.known.now name made (Some (rule_view used.rule)) (sym c.has_double.ensures ∙ c.if-has_double.false) c.in-Some.ensures.0 in
     on_ok_weaker c.explicit_node.result
-    (λ (h : (name : Text) (rules : List (Rule × Target)) → IsCut rules used
-    → BuildsNode c.args.self.now (explicit_node (suffixes_of book) name rules (rule_view used.rule)) new).
-    subst (λ n. BuildsNode c.args.self.now n new) same (h name made c.in-Some.ensures.1)) c.explicit_node.ensures
+    (λ (h : (rules : List (Rule × Target)) → IsCut rules used
+    → BuildsNode c.args.self.now (explicit_node (suffixes_of book) (rule_view used.rule).1.name rules (rule_view used.rule)) new).
+    subst (λ n. BuildsNode c.args.self.now n new) same
+    (subst (λ (n : Text). BuildsNode c.args.self.now (explicit_node (suffixes_of book) n made (rule_view used.rule)) new)
+    (used_of name made (rule_view used.rule) c.requires.rules c.in-Some.ensures.0) (h made c.in-Some.ensures.1))) c.explicit_node.ensures

@@ -7,6 +7,6 @@ pub returns : goal.returns
 returns c =
     let old = c.args.self.now in
     let parts = parts_held c.in_ok-parts.parts.items in
-    on_ok_weaker c.push_double.result (λ (h : c.push_double.new.self ≡ old.nodes ++ stored_with DoubleColon None parts ∷ []) name.
+    on_ok_weaker c.push_double.result (λ (h : c.push_double.new.self ≡ old.nodes ++ stored_with DoubleColon None parts ∷ []) name of.
     holds_double old c.double_parts.new.names c.push_double.new.self (suffixes_of old.book.now) name (map rule_view c.args.rules.now) parts
-    c.in_ok-parts.ensures.reached (c.in_ok-parts.ensures.say name) h) c.push_double.ensures
+    c.in_ok-parts.ensures.reached (c.in_ok-parts.ensures.say name of) h) c.push_double.ensures

@@ -17,6 +17,6 @@ returns-in-Some-clause-tells c =
     ∙ ap (λ k. option_map choice_view (choice_of (patterns_of book) k name)) c.requires.known_names in
     let rules : c.choose.new.self.rules ≡ patterns_of book
     = ap (λ (s : Finding). s.rules) c.choose.ensures.same ∙ c.requires.rules in
-    IfOk-weaker c.inference.result (Infers c.choose.new.self.rules chosen) (InfersFrom (searched book known name))
-    (λ inferred h. some_tells book known name chosen inferred (sym c.is_phony.ensures ∙ c.if-is_phony.false) some (subst (λ r. Infers r chosen inferred) rules h))
+    IfOk-weaker c.inference.result (Infers name c.choose.new.self.rules chosen) (InfersFrom name (searched book known name))
+    (λ inferred h. some_tells book known name chosen inferred (sym c.is_phony.ensures ∙ c.if-is_phony.false) some (subst (λ r. Infers name r chosen inferred) rules h))
     c.inference.ensures

@@ -9,7 +9,7 @@ returns c =
     let middle = c.making.new.self in
     let made_with = c.in_ok-made_with.made_with in
     on_ok_weaker c.push_like.result
-    (λ (h : c.push_like.new.self ≡ middle.nodes ++ node_like Explicit made_with c.of_rule-part.result (stored_at middle.nodes (length old.nodes - 1)) ∷ []) name needs.
-    holds_like old middle c.push_like.new.self (suffixes_of old.book.now) name (rule_view c.args.rule) c.of_rule-part.result
+    (λ (h : c.push_like.new.self ≡ middle.nodes ++ node_like Explicit made_with c.in_ok-part.part (stored_at middle.nodes (length old.nodes - 1)) ∷ []) needs.
+    holds_like old middle c.push_like.new.self (suffixes_of old.book.now) (rule_view c.args.rule).1.name (rule_view c.args.rule) c.in_ok-part.part
     (option_map instance_view c.in_ok-making.making) made_with c.in_ok-made_with.ensures.others c.in_ok-made_with.ensures.kept c.in_ok-made_with.ensures.making
-    c.in_ok-making.ensures (c.of_rule-part.ensures name) needs h) (rw (c.saturating_sub-last.ensures, c.len.ensures.len) at c.push_like.ensures)
+    c.in_ok-making.ensures c.in_ok-part.ensures needs h) (rw (c.saturating_sub-last.ensures, c.len.ensures.len) at c.push_like.ensures)

@@ -14,10 +14,10 @@ returns-in-Some c =
     let name = reached_text c.args.name.now in
     let made = map rule_view c.args.rules.now in
     let new = c.implicit_node.new.self in
-    let tells = subst (λ (n : Text). InfersFrom (searched book known n) (Some c.in-Some.inferred)) c.as_slice.ensures
-    (subst (InfersFrom (searched book known c.as_slice.result.now)) c.in-Some.is c.in_ok-inferred.ensures.tells) in
+    let tells = subst (λ (n : Text). InfersFrom n (searched book known n) (Some c.in-Some.inferred)) c.as_slice.ensures
+    (subst (InfersFrom c.as_slice.result.now (searched book known c.as_slice.result.now)) c.in-Some.is c.in_ok-inferred.ensures.tells) in
     let same : inferred_node name made c.in-Some.inferred ≡ node_by book name made None (searched book known name)
-    = tells.2 name made ∙ ap (node_by book name made None) (sym tells.1) in
+    = tells.2 made ∙ ap (node_by book name made None) (sym tells.1) in
     on_ok_weaker c.implicit_node.result
     (λ (h : (name : Text) → BuildsNode c.inferred.new.self (inferred_node name made c.in-Some.inferred) new).
     builds_after c.args.self.now c.inferred.new.self new (node_by book name made None (searched book known name)) c.in_ok-inferred.ensures.kept
