@@ -1,32 +1,12 @@
 -- `new` makes a value of no bytes, at the empty list.
 use Rattle.std.proofs.Common.{[], ◌∷◌, refl}
-use seplogic.Ra.Ura.{Ura}
-use mir.Syntax.{Fn, Args, a_type}
-use mir.Val.{Val}
-use mir.MapTy.{inst_fn}
-use base.Logic.{SProp, ent}
-use prog.Memory.{Memory}
-use prog.Routine.{Routine}
-use prog.Wp.{Calls, Loops, WpFn, Tables}
-use contract.Monad.{Fun}
-use contract.Running.{tables, tables_of}
-use sound.WpLaws.{WpFn-mono}
-use types.Logic.{Logic}
+use Rattle.kt_history.proofs.Common.{Args, Calls, Clauses, Ended, Fn, Fun, Is, Logic, Loops, Meets, Memory}
+use Rattle.kt_history.proofs.Common.{RattleType, Routine, SProp, Stays, Tables, Ura, Val, WpFn, WpFn-mono, a_type}
+use Rattle.kt_history.proofs.Common.{agg, alive, alloc_all, and_then, closing, ends_at, ent, enter, entered, free_all}
+use Rattle.kt_history.proofs.Common.{get, inst_fn, layouts, look_at, makes, no_more, nothing, owned, owns, param}
+use Rattle.kt_history.proofs.Common.{pass_all, returns, says, sets, tables, tables_of, triple_of, types_at}
+use Rattle.kt_history.proofs.Common.{walk_Meets, walk_of}
 use types.Kit.{‵, raw, ◌⊛◌, ◌$◌, ◌∵◌, !, qed, move, keep, split, fjoin, suffices, done}
-use types.Part.{agg}
-use types.Run.{enter, returns, and_then, no_more}
-use types.ByLocal.{alloc_all, pass_all, free_all, look_at, get, sets}
-use denote.RattleType.{RattleType, owns}
-use denote.Laws.{Is}
-use denote.Param.{param, layouts}
-use denote.Signature.{types_at}
-use denote.Steps.{nothing, owned}
-use denote.Struct.Laws.{makes}
-use denote.Triple.Clauses.{Clauses, Ended, closing}
-use denote.Triple.Entry.{alive}
-use denote.Triple.Spec.{Meets, triple_of}
-use denote.Triple.Table.{entered}
-use denote.Triple.Walked.{says, Stays, walk_of, ends_at, walk_Meets}
 use Rattle.std.specs.contracts.marker.PhantomData as Mark
 use Rattle.kt_history.proofs.Walks.{none, one, one_made}
 use Rattle.kt_history.specs.contracts.History as History

@@ -1,37 +1,19 @@
 -- `with` makes a value of no bytes, at the list that its clause names.
 use Rattle.std.proofs.Common.{ℕ, List, [], ◌∷◌, ◌++◌, ◌<◌, ◌^◌, length, refl}
-use seplogic.Ra.Ura.{Ura}
-use mir.Syntax.{Fn, Args, a_type, named}
-use mir.Val.{Val, vptr}
-use mir.MapTy.{inst_fn}
-use base.Logic.{SProp, ent, via, fst∗}
+use Rattle.kt_history.proofs.Common.{AllGo, Args, Calls, Clauses, Ended, Fn, Fun, Goes-none_ref, Goes-none_slice, Is}
+use Rattle.kt_history.proofs.Common.{Logic, Loops, Meets, Memory, RattleType, Routine, SProp, Stays, Tables, Ura, Val}
+use Rattle.kt_history.proofs.Common.{Walks, WpFn, WpFn-mono, a_type, agg, alive, alloc_all, and_then, closing}
+use Rattle.kt_history.proofs.Common.{ends_at, ent, enter, entered, free_all, fst∗, get, inst_fn, layouts, look_at}
+use Rattle.kt_history.proofs.Common.{makes, named, no_more, nothing, on_entry, owned, owns, param, pass_all, plain}
+use Rattle.kt_history.proofs.Common.{returns, says, sets, stay_none_ref, stay_none_slice, tables, tables_of}
+use Rattle.kt_history.proofs.Common.{triple_of, types_at, via, vptr, walk_Meets, walk_of, walked}
 use base.Fml.{Fml}
-use prog.Memory.{Memory}
-use prog.Routine.{Routine}
-use prog.Wp.{Calls, Loops, WpFn, Tables}
-use types.Logic.{Logic}
 use contract.Lifetimes.{AllOutlive, Lfts, Shares}
-use contract.Monad.{Fun}
-use contract.Running.{tables, tables_of}
 use types.Kit.{‵, raw, ◌$◌, ◌∵◌, !, qed, move, fjoin, suffices, done}
-use types.Run.{and_then, enter, no_more, returns}
-use types.Part.{agg}
-use types.ByLocal.{alloc_all, pass_all, free_all, get, look_at, sets}
-use sound.WpLaws.{WpFn-mono}
-use denote.RattleType.{RattleType, owns}
-use denote.Laws.{Is}
-use denote.Param.{param, layouts}
 use denote.Ref.{Bor, shr_vals, shr_Tells}
 use denote.Exit.{yes}
 use denote.Slice.{slice_val, shr_slice_vals, shr_slice_Tells}
-use denote.Signature.{plain, types_at}
-use denote.Steps.{nothing, owned}
-use denote.Struct.Laws.{makes}
-use denote.Triple.Clauses.{Clauses, Ended, closing}
-use denote.Triple.Entry.{on_entry, alive, Args as Passed}
-use denote.Triple.Spec.{Meets, triple_of}
-use denote.Triple.Table.{entered}
-use denote.Triple.Walked.{says, Stays, stay_none_ref, stay_none_slice, walk_of, AllGo, Goes-none_ref, Goes-none_slice, Walks, ends_at, walked, walk_Meets}
+use denote.Triple.Entry.{Args as Passed}
 use Rattle.std.specs.contracts.marker.PhantomData as Mark
 use Rattle.kt_history.proofs.Walks.{none, one, one_made}
 use Rattle.kt_history.specs.contracts.History as T
