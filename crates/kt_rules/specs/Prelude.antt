@@ -4,7 +4,7 @@ pub use Rattle.kt_rules.specs.Entry.{Rule, empty_line, is_nil, needs_for, read_l
 pub use Rattle.kt_rules.specs.Names.{after_dots, is_wildcard, name_of, wait_name, with_name, without_dots, without_repeats, written_words}
 pub use Rattle.kt_rules.specs.RuleLine.{Head, colon_cut, name_refusal, option_list}
 pub use Rattle.kt_rules.specs.declared.book.book_rule.BookRule.{BookRule}
-pub use Rattle.kt_rules.specs.declared.book.held_rule.HeldRule.{HeldRule}
+pub use Rattle.kt_rules.specs.inner.HeldRule.{HeldRule}
 pub use Rattle.kt_rules.specs.declared.book.spot.Spot.{Spot}
 pub use Rattle.kt_rules.specs.declared.entry.Kind.{Kind}
 pub use Rattle.kt_rules.specs.declared.entry.Kind.TheVariants.{DoubleColon, Group, Pattern, SingleColon, TerminalPattern}

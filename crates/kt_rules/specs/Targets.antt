@@ -27,12 +27,16 @@ listed_needs needs = record {
   order_only = listed_view needs.order_only;
 }
 
+-- a text, if there is one
+abbrev pub text_in : Option (Bor Text) → Option Text
+text_in text = option_map (λ t. t.now) text
+
 abbrev pub target_view : TargetView → Target
-target_view target = target_of target.pattern.now (listed_needs target.needs) target.name.now
+target_view target = target_of (text_in target.pattern) (listed_needs target.needs) target.name.now
 
 -- the targets that remain
 abbrev pub targets_view : Targets → List Target
-targets_view targets = map (target_of targets.pattern.now (listed_needs targets.needs)) (listed_view targets.names)
+targets_view targets = map (target_of (text_in targets.pattern) (listed_needs targets.needs)) (listed_view targets.names)
 
 -- a name with the stem in place of its first percent sign, and then without leading `./`
 abbrev pub stemmed_name : Text → Text → Text
@@ -72,5 +76,5 @@ line_needs rule = record {
 -- a rule of a book
 abbrev pub entry_view : BookRule → Rule
 entry_view rule =
-    rule_by rule.held.now.kind (names_at rule.names.now rule.targets.now) rule.held.now.pattern (line_needs rule)
-    (option_map (λ lines. lines.now) rule.recipe) rule.held.now.place
+    rule_by rule.held.line.now.kind (names_at rule.names.now rule.targets.now) (text_in rule.held.pattern) (line_needs rule)
+    (option_map (λ lines. lines.now) rule.recipe) rule.held.line.now.place

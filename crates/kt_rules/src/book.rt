@@ -16,7 +16,6 @@ mod entries;
 mod explicit;
 mod few;
 mod goal;
-mod held_rule;
 mod kinds;
 mod lists;
 mod matching;
@@ -27,6 +26,7 @@ mod pattern;
 mod pattern_set;
 mod refusing;
 mod rules;
+mod slot;
 mod special;
 mod spot;
 mod spots;
@@ -123,6 +123,14 @@ impl Book {
         // Naming a field makes the book's invariant known, which `groups` needs.
         let _rules = &self.rules;
         result
+    }
+
+    /// Frees what is kept only for the next entry, so it is called after the last one. More can be added all the same.
+    /// Takes no memory.
+    pub fn finish_adding(&mut self)
+        ensures { self.new ≡ self.old }
+    {
+        self.rules.forget_last();
     }
 
     /// All entries, in order. Takes no memory.

@@ -115,7 +115,7 @@ impl Entry {
     {
         Targets {
             names: Listed::Own(self.targets.as_slice()),
-            pattern: &self.pattern,
+            pattern: self.pattern.text(),
             needs: ListedNeeds::of(self.needs.get()),
         }
     }
@@ -126,7 +126,7 @@ impl Entry {
     {
         match target.stem() {
             Some(stem) => NeedsView::stemmed(target.needs, stem),
-            None => shared_needs(&self.pattern, ListedNeeds::of(self.needs.get())),
+            None => shared_needs(self.pattern.text(), ListedNeeds::of(self.needs.get())),
         }
     }
 

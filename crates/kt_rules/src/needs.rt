@@ -5,12 +5,11 @@ ghost use Rattle.std.specs.Iterator.{YieldsFirstBy, item_count};
 ghost use Rattle.kt_text.specs.Words.{Text};
 ghost use Rattle.kt_rules.specs.Entry.{no_needs, shared_needs, stemmed};
 ghost use Rattle.kt_rules.specs.Suffixes.{needs_nothing};
-ghost use Rattle.kt_rules.specs.Targets.{listed_needs, needed_view, names_view, needs_view, stemmed_name};
+ghost use Rattle.kt_rules.specs.Targets.{listed_needs, needed_view, names_view, needs_view, stemmed_name, text_in};
 
 use crate::entry::Needs;
 use crate::listed::{Listed, ListedNeeds};
 use crate::name::{stemmed_name, without_dots};
-use crate::static_pattern::StaticPattern;
 use kt_list::Names;
 use kt_text::has_percent;
 use std::alloc::{AllocError, Global};
@@ -85,10 +84,10 @@ impl<'a> NeedsView<'a> {
 }
 
 /// The prerequisites that all targets of a line share: none in a static pattern rule.
-pub(crate) fn shared_needs<'a>(pattern: &StaticPattern, needs: ListedNeeds<'a>) -> NeedsView<'a>
-    ensures { needs_view result ≡ shared_needs pattern.now (listed_needs needs.entry) }
+pub(crate) fn shared_needs<'a>(pattern: Option<&[u8]>, needs: ListedNeeds<'a>) -> NeedsView<'a>
+    ensures { needs_view result ≡ shared_needs (text_in pattern.entry) (listed_needs needs.entry) }
 {
-    match pattern.text() {
+    match pattern {
         None => NeedsView::listed(needs),
         Some(_) => NeedsView::none(),
     }

@@ -30,8 +30,8 @@ const LONG: usize = 64;
 
 /// Reads rule lines as entries.
 ///
-/// Where a line has the same long text of prerequisites as an earlier one, as `$(HEADERS)` gives in line after line, the
-/// text isn't read again, and the entries hold the same prerequisites together.
+/// Where a line has the same long text of prerequisites as an earlier one, as `$(HEADERS)` gives in line after line,
+/// the text isn't read again, and the entries hold the same prerequisites together.
 #[derive(Drop)]
 pub struct RuleReader {
     alloc: Global,

@@ -2,18 +2,17 @@
 ghost use Rattle.std.specs.Prelude.{◌≡◌, option_map, length, Some, slice_get};
 ghost use Rattle.std.specs.Iterator.{YieldsFirstBy, item_count};
 ghost use Rattle.kt_rules.specs.Entry.{stemmed, stemmed_of, target_of};
-ghost use Rattle.kt_rules.specs.Targets.{listed_needs, target_view, targets_view};
+ghost use Rattle.kt_rules.specs.Targets.{listed_needs, target_view, targets_view, text_in};
 ghost use Rattle.kt_rules.specs.declared.entry.Needs.{Needs as AllNeeds};
 
 use crate::listed::{Listed, ListedNeeds};
-use crate::static_pattern::StaticPattern;
 use kt_text::match_pattern;
 
 /// A target of an entry. In a static pattern rule, its stem and prerequisites are computed when they are requested.
 #[derive(Clone, Copy)]
 pub struct TargetView<'a> {
     pub name: &'a [u8],
-    pub(crate) pattern: &'a StaticPattern,
+    pub(crate) pattern: Option<&'a [u8]>,
     /// In a static pattern rule, the prerequisites before the stem is put in.
     pub(crate) needs: ListedNeeds<'a>,
 }
@@ -30,11 +29,11 @@ impl<'a> TargetView<'a> {
 
 // The stem of a name in a static pattern, if there is one and it matches.
 #[tactic(auto, unfolding(crate::specs::Entry::stemmed_of))]
-fn stem_of<'a>(pattern: &StaticPattern, name: &'a [u8]) -> Option<&'a [u8]>
+fn stem_of<'a>(pattern: Option<&[u8]>, name: &'a [u8]) -> Option<&'a [u8]>
     ensures { (needs : AllNeeds) → option_map (λ stem. stemmed needs stem.now) result
-        ≡ stemmed_of pattern.now needs name.now }
+        ≡ stemmed_of (text_in pattern.entry) needs name.now }
 {
-    match pattern.text() {
+    match pattern {
         None => None,
         Some(pattern) => stem_in(pattern, name),
     }
@@ -53,7 +52,7 @@ fn stem_in<'a>(pattern: &[u8], name: &'a [u8]) -> Option<&'a [u8]>
 #[derive(Drop)]
 pub struct Targets<'a> {
     pub(crate) names: Listed<'a>,
-    pub(crate) pattern: &'a StaticPattern,
+    pub(crate) pattern: Option<&'a [u8]>,
     pub(crate) needs: ListedNeeds<'a>,
 }
 
@@ -74,7 +73,7 @@ impl<'a> Targets<'a> {
     }
 
     fn view(&self, name: &'a [u8]) -> TargetView<'a>
-        ensures { target_view result ≡ target_of self.now.pattern.now (listed_needs self.now.needs) name.now }
+        ensures { target_view result ≡ target_of (text_in self.now.pattern) (listed_needs self.now.needs) name.now }
     {
         TargetView {
             name,

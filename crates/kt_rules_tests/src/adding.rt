@@ -1,7 +1,8 @@
 //! Books of rules, a line each.
 use crate::asking::{Question, add, add_lines, answers, put_answer, put_answer_to};
 use crate::telling::put_place;
-use kt_rules::{Book, Place};
+use kt_rules::{Book, Place, RuleFault, RuleReader, Warnings};
+use kt_rules_doubles::place_of;
 use std::alloc::{AllocError, Global};
 use std::process::Abort;
 use std::test::Fail;
@@ -471,5 +472,45 @@ fn stays_as_it_was_where_it_refuses(rt: HostRuntime) -> Result<(), Fail> {
     assert!(rt; takes(alloc, &mut book, b".x.o:;cc", 1));
     assert!(rt; !takes(alloc, &mut book, b"b .x.o .PHONY .SUFFIXES:: .x;y", 2));
     answers_by(&rt, alloc, &book, false);
+    Ok(())
+}
+
+/// Adds the entry of a line, and finishes.
+fn add_last(
+    alloc: Global,
+    book: &mut Book,
+    reader: &mut RuleReader,
+    head: &[u8],
+) -> Result<Warnings, RuleFault> {
+    let entry = reader.read(head, None, place_of(alloc, 1)?)?;
+    let warnings = book.add(entry)?;
+    book.finish_adding();
+    Ok(warnings)
+}
+
+/// The second rule needs the names that the first one left.
+#[test]
+fn takes_more_after_it_was_finished(rt: HostRuntime) -> Result<(), Fail> {
+    let alloc = rt.alloc();
+    let mut book = Book::new(alloc)?;
+    let mut reader = RuleReader::new(alloc);
+    let heads: [&[u8]; 2] = [
+        b"a: include/of_thirty_two_letters.h1 | include/of_thirty_two_letters.h2",
+        b"b: include/of_thirty_two_letters.h1 | include/of_thirty_two_letters.h2",
+    ];
+    for head in heads {
+        assert!(rt; add_last(alloc, &mut book, &mut reader, head).is_ok());
+    }
+    answers_as(
+        &rt,
+        alloc,
+        &book,
+        true,
+        &[
+            (Question::Entries, b"", b"m:1 a* .m:1 b* ."),
+            (Question::Numbers(b"a"), b"", b"1|2."),
+            (Question::Numbers(b"b"), b"", b"1|2."),
+        ],
+    );
     Ok(())
 }

@@ -5,11 +5,11 @@ use Rattle.kt_rules.specs.Prelude.{All, AreBelow, Text, BookRule, HeldRule, Spot
 use Rattle.kt_rules.specs.Prelude.{Target, Rule, rule_by, target_of}
 use Rattle.kt_rules.specs.declared.book.kinds.Kinds.{Kinds}
 use Rattle.kt_rules.specs.declared.book.rules.LastList.{LastList}
-use Rattle.kt_rules.specs.declared.book.rules.ListRows.{ListRows}
+use Rattle.kt_rules.specs.declared.book.slot.ListRows.{ListRows}
 use Rattle.kt_rules.specs.declared.entry.RecipeLine.{RecipeLine}
 use Rattle.kt_rules.specs.Slots.{IsKept}
 use Rattle.kt_rules.specs.Suffixes.{all_needs}
-use Rattle.kt_rules.specs.Targets.{line_needs, names_at}
+use Rattle.kt_rules.specs.Targets.{line_needs, names_at, text_in}
 
 -- these are the numbers of names, one by one
 abbrev pub AreNumbersOf : List Text → List ℕ → List Text → Type 0
@@ -78,7 +78,7 @@ pub record AreHeld (names : List Text) (lists : List (List ℕ)) (recipes : List
 -- the target of a rule whose name has this number
 abbrev pub numbered_target : BookRule → ℕ → Target
 numbered_target rule number =
-    target_of rule.held.now.pattern (line_needs rule) (get_or rule.names.now number [])
+    target_of (text_in rule.held.pattern) (line_needs rule) (get_or rule.names.now number [])
 
 abbrev pub GotNames : List Text → List Text → Type 0
 GotNames old new = (more : List Text) × (new ≡ old ++ more)

@@ -215,7 +215,7 @@ impl Marks {
             || is_among (all_needs (entry_view rule.entry).needs) name) }
         ensures many { length self.new.numbers.items ≡ length self.old.numbers.items }
     {
-        if rule.held.pattern.is_none() {
+        if rule.held.is_plain() {
             self.mark_numbers(rule.names, rule.prerequisites);
             self.mark_numbers(rule.names, rule.order_only);
         }

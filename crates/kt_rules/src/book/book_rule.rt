@@ -3,7 +3,7 @@ ghost use Rattle.std.specs.Prelude.{◌≡◌, option_map};
 ghost use Rattle.kt_rules.specs.Entry.{needs_for};
 ghost use Rattle.kt_rules.specs.Targets.{entry_view, line_needs, listed_needs, needs_view, target_view, targets_view};
 
-use super::held_rule::HeldRule;
+use super::slot::SlotRule;
 use crate::entry::{Kind, RecipeLine};
 use crate::listed::{Listed, ListedNeeds, Numbered};
 use crate::needs::{NeedsView, shared_needs};
@@ -19,7 +19,7 @@ pub struct BookRule<'a> {
     pub(crate) prerequisites: &'a [u32],
     pub(crate) order_only: &'a [u32],
     pub(crate) recipe: Option<&'a [RecipeLine]>,
-    pub(crate) held: &'a HeldRule,
+    pub(crate) held: SlotRule<'a>,
 }
 
 impl<'a> BookRule<'a> {
@@ -27,7 +27,7 @@ impl<'a> BookRule<'a> {
     pub fn kind(self) -> Kind
         ensures { result ≡ (entry_view self.entry).kind }
     {
-        self.held.kind
+        self.held.line.kind
     }
 
     /// The targets, in order and without repeats.
@@ -38,7 +38,7 @@ impl<'a> BookRule<'a> {
         let numbers = self.targets;
         Targets {
             names: Listed::ByNumber(Numbered { names, numbers }),
-            pattern: &self.held.pattern,
+            pattern: self.held.pattern,
             needs: self.listed(),
         }
     }
@@ -57,7 +57,7 @@ impl<'a> BookRule<'a> {
     pub(crate) fn shared_needs(self) -> NeedsView<'a>
         ensures { needs_view result ≡ (entry_view self.entry).needs }
     {
-        shared_needs(&self.held.pattern, self.listed())
+        shared_needs(self.held.pattern, self.listed())
     }
 
     /// The lines of the recipe, if there is one.
@@ -71,7 +71,7 @@ impl<'a> BookRule<'a> {
     pub fn place(self) -> &'a Place
         ensures { result.now ≡ (entry_view self.entry).place }
     {
-        &self.held.place
+        &self.held.line.place
     }
 
     // The prerequisites, without a stem.

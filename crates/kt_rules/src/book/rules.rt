@@ -1,6 +1,7 @@
 //! The rules of a book, which stores each name once.
-ghost use Rattle.std.specs.Prelude.{◌≡◌, ◌++◌, ◌∷◌, [], ◌<◌, All, drop, flat_map, get_or, length, option_map, set, take};
-ghost use Rattle.std.specs.Prelude.{ℕ, slice_get, IfOk, IfSome, IsTrue, List, None, false, OnErr, OnOk, Some, unwrap_or};
+ghost use Rattle.std.specs.Prelude.{◌≡◌, ◌++◌, ◌∷◌, [], ◌<◌, All, drop, flat_map, get_or, length, option_map, set};
+ghost use Rattle.std.specs.Prelude.{ℕ, slice_get, take, unwrap_or, IfOk, IfSome, IsTrue, List, None, false, OnErr, OnOk};
+ghost use Rattle.std.specs.Prelude.{Some};
 ghost use Rattle.std.specs.List.{Contains};
 ghost use Rattle.std.specs.Option.{option_and_then};
 ghost use Rattle.kt_list.specs.Names.{AreBelow, place_of};
@@ -10,14 +11,15 @@ ghost use Rattle.kt_rules.specs.inner.Alike.{HaveSameList, SaySame};
 ghost use Rattle.kt_rules.specs.inner.Held.{GotLists, GotNames, GotRow, HasOneMore, HasRows};
 ghost use Rattle.kt_list.specs.Prefixes.{HasMore};
 ghost use Rattle.kt_rules.specs.inner.Held.{IsLast, IsRow, rule_held};
+ghost use Rattle.kt_rules.specs.inner.HeldRule.{held_rule};
 ghost use Rattle.kt_rules.specs.Known.{names_in};
 ghost use Rattle.kt_rules.specs.Slots.{rules_in, slot_rule};
 ghost use Rattle.kt_rules.specs.Suffixes.{all_needs};
 ghost use Rattle.kt_rules.specs.Targets.{entry_view};
 
 use super::book_rule::BookRule;
-use super::held_rule::HeldRule;
 use super::kinds::Kinds;
+use super::slot::{Form, HeldLine, ListRows, Slot, SlotRule};
 use crate::entry::{Entry, Name, Needs, RecipeLine};
 use crate::held_needs::{HeldNeeds, PlainNeeds};
 use kt_list::{Names, Rows, Sequence, narrow};
@@ -33,7 +35,7 @@ pub(crate) struct Rules {
     lists: Rows<u32>,
     // For each slot, the lines of a rule's recipe.
     lines: Rows<RecipeLine>,
-    slots: Vec<Option<HeldRule>>,
+    slots: Vec<Slot>,
     // Of the rules in the slots, and maybe of some that were taken out again.
     kinds: Kinds,
     // The last prerequisites that several entries may hold, and their row.
@@ -44,13 +46,6 @@ pub(crate) struct Rules {
 pub(crate) struct LastList {
     needs: Rc<PlainNeeds>,
     row: u32,
-}
-
-// Where the lists of a rule are.
-#[derive(Clone, Copy)]
-pub(crate) struct ListRows {
-    targets: u32,
-    needs: u32,
 }
 
 impl Model for Rules {
@@ -175,7 +170,7 @@ impl Rules {
         ensures grown { GotNames self.old.0 self.new.0 }
     {
         let Entry {
-            alloc: _alloc,
+            alloc,
             kind,
             targets,
             pattern,
@@ -185,6 +180,13 @@ impl Rules {
         } = entry;
         let has_recipe = recipe.is_some();
         let prerequisites = narrow(needs.get().prerequisites.as_slice().len())?;
+        let line = HeldLine {
+            place,
+            prerequisites,
+            kind,
+            has_recipe,
+        };
+        let form = Form::of(alloc, line, pattern)?;
         self.slots.reserve(1)?;
         let rows = add_rows(
             &mut self.names,
@@ -195,17 +197,17 @@ impl Rules {
             &needs,
             recipe,
         )?;
-        self.slots.push_reserved(Some(HeldRule {
-            kind,
-            has_recipe,
-            rows,
-            prerequisites,
-            pattern,
-            place,
-        }));
+        self.slots.push_reserved(Slot::filled(rows, form));
         self.kinds = self.kinds.with(kind);
         remember(&mut self.last, needs, rows.needs);
         Ok(())
+    }
+
+    /// Forgets the prerequisites that the next rule may have, too.
+    pub(crate) fn forget_last(&mut self)
+        ensures { self.new ≡ self.old }
+    {
+        self.last = None;
     }
 
     /// Empties a slot.
@@ -214,30 +216,30 @@ impl Rules {
         ensures names { self.new.0 ≡ self.old.0 }
         ensures emptied { self.new.1 ≡ set self.old.1 place None }
     {
-        self.slots[place] = None;
+        self.slots[place] = Slot::empty();
     }
 }
 
 // The rule in a slot.
-fn held_at(slots: &[Option<HeldRule>], place: usize) -> Option<&HeldRule>
-    ensures { option_map (λ held. held.now) result ≡ option_and_then (λ slot. slot) (slice_get slots.now place) }
+fn held_at(slots: &[Slot], place: usize) -> Option<SlotRule<'_>>
+    ensures { option_map held_rule result ≡ option_and_then (λ slot. slot) (slice_get slots.now place) }
 {
     match slots.get(place) {
-        Some(Some(held)) => Some(held),
-        _ => None,
+        Some(slot) => slot.rule(),
+        None => None,
     }
 }
 
 // Whether rules without a static pattern have the same list of prerequisites.
-fn have_same_list(held: &HeldRule, other: &HeldRule) -> bool
-    ensures { IsTrue result → HaveSameList held.now other.now }
+fn have_same_list(held: SlotRule<'_>, other: SlotRule<'_>) -> bool
+    ensures { IsTrue result → HaveSameList (held_rule held.entry) (held_rule other.entry) }
 {
     held.rows.needs == other.rows.needs
-        && held.prerequisites == other.prerequisites
-        && held.has_recipe == other.has_recipe
-        && held.kind == other.kind
-        && held.pattern.is_none()
-        && other.pattern.is_none()
+        && held.line.prerequisites == other.line.prerequisites
+        && held.line.has_recipe == other.line.has_recipe
+        && held.line.kind == other.line.kind
+        && held.is_plain()
+        && other.is_plain()
 }
 
 // The row at a place, or none of its items.
@@ -256,22 +258,26 @@ fn rule_of<'a>(
     targets: &'a [u32],
     needs: &'a [u32],
     lines: &'a [RecipeLine],
-    held: &'a HeldRule,
+    held: SlotRule<'a>,
 ) -> BookRule<'a>
     requires needs_below { AreBelow (length names.now) needs.now }
-    ensures told { entry_view result ≡ rule_held names.now targets.now needs.now lines.now held.now }
+    ensures told { entry_view result ≡ rule_held names.now targets.now needs.now lines.now (held_rule held.entry) }
     ensures names { result.names.now ≡ names.now }
     ensures targets { result.targets.now ≡ targets.now }
     ensures needs_below { AreBelow (length names.now) result.prerequisites.now }
     ensures orders_below { AreBelow (length names.now) result.order_only.now }
 {
-    let (prerequisites, order_only) = cut(needs, held.prerequisites);
+    let (prerequisites, order_only) = cut(needs, held.line.prerequisites);
     BookRule {
         names,
         targets,
         prerequisites,
         order_only,
-        recipe: if held.has_recipe { Some(lines) } else { None },
+        recipe: if held.line.has_recipe {
+            Some(lines)
+        } else {
+            None
+        },
         held,
     }
 }
@@ -313,8 +319,8 @@ fn remember(last: &mut Option<LastList>, needs: HeldNeeds, row: u32)
     }
 }
 
-// Adds rows with the numbers of a rule's names, and one with the lines of its recipe. If memory runs out, only names may
-// be added.
+// Adds rows with the numbers of a rule's names, and one with the lines of its recipe. If memory runs out, only names
+// may be added.
 fn add_rows(
     names: &mut Names,
     lists: &mut Rows<u32>,

@@ -1,5 +1,5 @@
-use Rattle.std.proofs.Common.{◌≡◌, ◌∙◌, List, Option, None, length, set, sym, ap, arith}
-use Rattle.kt_rules.proofs.Common.{Text, Rule}
+use Rattle.std.proofs.Common.{◌≡◌, ◌∙◌, List, Option, None, length, set, subst, sym, ap, arith}
+use Rattle.kt_rules.proofs.Common.{Text, HeldRule, Rule, AreHeld, slots_held}
 use Rattle.kt_rules.proofs.HeldLemmas.{emptied_held, slots_emptied, slots_many}
 use Rattle.kt_rules.proofs.book.rules.Rules.empty.Goals as goal
 
@@ -14,10 +14,12 @@ index_mut-requires c =
 pub returns-clause-emptied : goal.returns-clause-emptied
 returns-clause-emptied c =
     let held = c.self.inside in
-    slots_emptied held.names held.lists held.lines held.slots.items c.args.place
+    ap (λ (slot : Option HeldRule). slots_held held.names held.lists held.lines (set held.slots.items c.args.place slot)) c.empty.ensures
+    ∙ slots_emptied held.names held.lists held.lines held.slots.items c.args.place
     ∙ ap (λ (both : List Text × List (Option Rule)). set both.1 c.args.place None) c.self.view_is
 
 pub invariant_of-self : goal.invariant_of-self
 invariant_of-self c =
     let held = c.self.inside in
-    emptied_held held.names held.lists held.lines held.slots.items held.kinds held.last c.args.place c.self.invariant
+    subst (λ (slot : Option HeldRule). AreHeld held.names held.lists held.lines (set held.slots.items c.args.place slot) held.kinds held.last) (sym c.empty.ensures)
+    (emptied_held held.names held.lists held.lines held.slots.items held.kinds held.last c.args.place c.self.invariant)

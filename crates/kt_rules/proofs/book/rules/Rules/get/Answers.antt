@@ -1,6 +1,7 @@
 use Rattle.std.proofs.Common.{◌∙◌, None, Some, ap, option_map, rules}
 use Rattle.kt_rules.proofs.Common.{entry_view, rule_held}
 use Rattle.kt_rules.proofs.HeldLemmas.{slot_told}
+use Rattle.kt_rules.specs.inner.HeldRule.{held_rule}
 use Rattle.kt_rules.proofs.book.rules.Rules.get.Goals as goal
 
 pub returns-in_err-held-clause-told : goal.returns-in_err-held-clause-told
@@ -14,5 +15,5 @@ returns-clause-told c =
     let held = c.self.inside in
     let rule = c.in_ok-held.held in
     ap Some (c.rule_of.ensures.told
-    ∙ (λ j. rule_held held.names (c.row_at.ensures j) (c.row_at-2.ensures j) (c.row_at-3.ensures j) rule.now))
-    ∙ slot_told c.args.self.now held.names held.lists held.lines held.slots.items c.args.place (Some rule.now) c.self.view_is c.self.invariant.many (search rules)
+    ∙ (λ j. rule_held held.names (c.row_at.ensures j) (c.row_at-2.ensures j) (c.row_at-3.ensures j) (held_rule rule)))
+    ∙ slot_told c.args.self.now held.names held.lists held.lines held.slots.items c.args.place (Some (held_rule rule)) c.self.view_is c.self.invariant.many (search rules)

@@ -41,7 +41,7 @@ invariant_of-self-2 c =
     } in
     pushed_held held.names new.names held.lists new.lists held.lines new.lines held.slots.items c.push_reserved.new.self.items held.kinds held.last
     (unwrap_or (option_map (λ own. own.items) entry.recipe) []) rule entry.targets entry.needs added.grown added.listed c.self.invariant rows added.lined
-    (c.push_reserved.ensures.items ∙ ap (λ (slots : List (Option HeldRule)). slots ++ Some rule ∷ []) c.in_ok-reserve.ensures.items)
+    (c.push_reserved.ensures.items ∙ (λ j. c.in_ok-reserve.ensures.items j ++ (c.filled.ensures ∙ c.in_ok-form.ensures c.in_ok-rows.rows) j ∷ []))
     c.with-self-inside.result c.remember.new.last c.with-self-inside.ensures.kept c.with-self-inside.ensures.added
     (λ before. c.remember.ensures new.names new.lists before rows.1)
 
@@ -62,7 +62,7 @@ returns-clause-pushed c =
     } in
     pushed_rule held.names new.names held.lists new.lists held.lines new.lines held.slots.items c.push_reserved.new.self.items held.kinds held.last
     (unwrap_or recipe []) rule entry.targets entry.needs added.grown added.listed c.self.invariant (added.added c.self.invariant.remembered) added.lined
-    (c.push_reserved.ensures.items ∙ ap (λ (slots : List (Option HeldRule)). slots ++ Some rule ∷ []) c.in_ok-reserve.ensures.items) recipe
+    (c.push_reserved.ensures.items ∙ (λ j. c.in_ok-reserve.ensures.items j ++ (c.filled.ensures ∙ c.in_ok-form.ensures c.in_ok-rows.rows) j ∷ [])) recipe
     (c.in_ok-prerequisites.ensures ∙ ap length c.as_slice.ensures ∙ ap (λ (needs : Needs). length needs.prerequisites) c.get.ensures)
     (c.is_some-has_recipe.ensures ∙ sym (is_some-map (λ own. own.items) entry.recipe)) refl
     ∙ (λ j. ap (λ (both : List Text × List (Option Rule)). both.1) c.self.view_is j ++ Some (c.entry.view_is j) ∷ [])
