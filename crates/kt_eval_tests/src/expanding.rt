@@ -6,6 +6,7 @@ use kt_testing::{Random, put};
 use std::alloc::{AllocError, Global};
 use std::test::Fail;
 
+mod calls;
 mod levels;
 
 fn table(alloc: Global, rows: &[(&str, Flavour, &str)]) -> Result<Macros, AllocError> {

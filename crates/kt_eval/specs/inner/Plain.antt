@@ -1,13 +1,13 @@
 -- The text of a term that needs no further level: a literal, and the value of a plainly named macro that expands to
 -- itself (kati's own).
-use Rattle.std.specs.Prelude.{ℕ, Bool, true, not, ◌&&◌, ◌==◌, [], ◌++◌, length, Option, Some, None, codes}
-use Rattle.std.specs.Prelude.{if◌then◌else◌}
-use Rattle.kt_eval.specs.Prelude.{list_all, list_any, Text, is_separator, Mark, Byte, Parentheses, Braces, Token}
-use Rattle.kt_eval.specs.Prelude.{literal, dollar, reference, unclosed, Flavour, Deferred, Immediate, Found, Step}
+use Rattle.std.specs.Prelude.{ℕ, Bool, true, not, ◌&&◌, ◌==◌, [], ◌++◌, Option, Some, None, codes, if◌then◌else◌}
+use Rattle.kt_eval.specs.Prelude.{list_any, Text, Token, literal, dollar, reference, unclosed, Flavour, Deferred}
+use Rattle.kt_eval.specs.Prelude.{Immediate, Found, Step}
 use Rattle.kt_eval.specs.declared.state.Left.{Left}
 use Rattle.kt_eval.specs.declared.state.Left.TheVariants.{Nothing, Value, Whole}
 use Rattle.kt_eval.specs.State.{World, lookup}
 use Rattle.kt_eval.specs.Outcome.{◌>>=◌, done}
+use Rattle.kt_eval.specs.expanding.Calls.{names_plainly}
 use Rattle.kt_eval.specs.expanding.Expansion.{Evaluator, term_of}
 
 -- whether a value expands to itself: it isn't expanded again, or a level is left and it has no dollar
@@ -29,15 +29,6 @@ put_of below (Some found) = put_if (is_plain below found.flavour found.value) fo
 unfoldable pub still_deferred : ℕ → Option Found → Option Text
 still_deferred below None = None
 still_deferred below (Some found) = left_unless (is_plain below found.flavour found.value) found.value
-
--- whether a body is just a name: it has no dollar, colon or separator
-unfoldable pub is_name_byte : ℕ → Bool
-is_name_byte byte = not (byte == 36) && (not (byte == 58) && not (is_separator byte))
-
-unfoldable pub names_plainly : Mark → Text → Bool
-names_plainly Byte body = length body == 1 && list_all is_name_byte body
-names_plainly Parentheses body = list_all is_name_byte body
-names_plainly Braces body = list_all is_name_byte body
 
 abbrev pub value_left : Option Text → Left
 value_left None = Nothing

@@ -1,5 +1,5 @@
 -- The code's own types as those of the definitions, without their places in memory.
-use Rattle.std.specs.Prelude.{[], ◌++◌, Option, None, Some, map, codes}
+use Rattle.std.specs.Prelude.{[], ◌++◌, Option, None, Some, codes}
 use Rattle.kt_eval.specs.Prelude.{Text, Stop, fault_at, Assigning, keeps, defers, expands, escapes}
 use Rattle.kt_rules.specs.declared.fault.RuleFault.{RuleFault}
 use Rattle.kt_rules.specs.declared.fault.RuleFault.TheVariants.{Memory, Refused}
@@ -10,9 +10,7 @@ use Rattle.kt_eval.specs.declared.reading.page.RawLine.{RawLine}
 use Rattle.kt_eval.specs.declared.stop.Stop.TheVariants as stops
 use Rattle.kt_eval.specs.reading.Conditions.{Compared}
 use Rattle.kt_eval.specs.reading.Reading.{Raw}
-use Rattle.kt_eval.specs.expanding.Calls.{Asked, calls, refuses, refers, Naming, plainly, substituting}
-use Rattle.kt_eval.specs.declared.expanding.calls.Asked.{Asked as AskedType}
-use Rattle.kt_eval.specs.declared.expanding.calls.Asked.TheVariants as asked
+use Rattle.kt_eval.specs.expanding.Calls.{Naming, plainly, substituting}
 use Rattle.kt_eval.specs.declared.expanding.calls.Naming.{Naming as NamingType}
 use Rattle.kt_eval.specs.declared.expanding.calls.Naming.TheVariants as naming
 
@@ -40,12 +38,6 @@ compared_view compared = record { first = compared.first.now; second = compared.
 abbrev pub rule_stop : RuleFault → Stop
 rule_stop (Refused number place words) = stops.Fault (fault_at (Some place) number words)
 rule_stop Memory = stops.Memory
-
--- what is asked for
-abbrev pub asked_view : AskedType → Asked
-asked_view (asked.Calls function arguments) = calls function (map (λ argument. argument.now) arguments.items)
-asked_view (asked.Refuses name) = refuses name.now
-asked_view (asked.Refers body) = refers body.now
 
 -- what is named
 abbrev pub naming_view : NamingType → Naming

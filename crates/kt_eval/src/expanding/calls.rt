@@ -4,11 +4,11 @@ ghost use Rattle.std.specs.Prelude.{drop, take, Some, position, MatchOption, tru
 ghost use Rattle.std.specs.List.{after_first, before_first, list_all, list_any, position_or_len};
 ghost use Rattle.std.specs.Str.{bytes_eq};
 ghost use Rattle.kt_text.specs.Words.{is_separator};
-ghost use Rattle.kt_eval.specs.expanding.Calls.{arguments_of, asked_by, asked_of, byte_name, closer, commas, cuts};
-ghost use Rattle.kt_eval.specs.expanding.Calls.{function_of, is_function_name, is_refused_function, may_cut, naming_of};
-ghost use Rattle.kt_eval.specs.expanding.Calls.{nested, one_less, opener, other_function};
-ghost use Rattle.kt_eval.specs.inner.Plain.{is_name_byte, names_plainly};
-ghost use Rattle.kt_eval.specs.inner.Views.{asked_view, naming_view};
+ghost use Rattle.kt_eval.specs.expanding.Calls.{arguments_of, asked_by, asked_of, asked_view, byte_name, closer};
+ghost use Rattle.kt_eval.specs.expanding.Calls.{commas, cuts, function_of, is_function_name, is_name_byte};
+ghost use Rattle.kt_eval.specs.expanding.Calls.{is_refused_function, may_cut, names_plainly, naming_of, nested, one_less};
+ghost use Rattle.kt_eval.specs.expanding.Calls.{opener, other_function};
+ghost use Rattle.kt_eval.specs.inner.Views.{naming_view};
 
 use crate::expanding::function::Function;
 use kt_syntax::Mark;
@@ -19,10 +19,26 @@ use std::alloc::{AllocError, Global};
 
 /// What a reference asks for.
 #[derive(Drop)]
-pub(crate) enum Asked<'a> {
+pub enum Asked<'a> {
+    /// A call of a function with its arguments, unexpanded.
     Calls(Function, Vec<&'a [u8]>),
+    /// A call of a function with this name, which is refused.
     Refuses(&'a [u8]),
+    /// The macro that this body names once it is expanded.
     Refers(&'a [u8]),
+}
+
+impl<'a> Asked<'a> {
+    /// What a reference asks for, from its mark and its body.
+    #[tactic(auto, unfolding(crate::specs::expanding::Calls::asked_by))]
+    pub fn by(alloc: Global, mark: Mark, body: &'a [u8]) -> Result<Asked<'a>, AllocError>
+        ensures { IfOk result (λ asked. asked_view asked ≡ asked_by mark body.now) }
+    {
+        match mark {
+            Mark::Byte => Ok(Asked::Refers(byte_name(body))),
+            Mark::Parentheses | Mark::Braces => asked_of(alloc, mark, body),
+        }
+    }
 }
 
 /// A name alone, or one with a pattern and a replacement for the words of its value.
@@ -30,17 +46,6 @@ pub(crate) enum Asked<'a> {
 pub(crate) enum Naming<'a> {
     Plainly(&'a [u8]),
     Substituting(&'a [u8], Vec<u8>, Vec<u8>),
-}
-
-// What a reference asks for, from its mark and its body.
-#[tactic(auto, unfolding(crate::specs::expanding::Calls::asked_by))]
-pub(crate) fn asked_by(alloc: Global, mark: Mark, body: &[u8]) -> Result<Asked<'_>, AllocError>
-    ensures { IfOk result (λ asked. asked_view asked ≡ asked_by mark body.now) }
-{
-    match mark {
-        Mark::Byte => Ok(Asked::Refers(byte_name(body))),
-        Mark::Parentheses | Mark::Braces => asked_of(alloc, mark, body),
-    }
 }
 
 // The name in a reference of one byte.
@@ -72,8 +77,8 @@ fn asked_of(alloc: Global, mark: Mark, body: &[u8]) -> Result<Asked<'_>, AllocEr
 
 /// Whether the body of a reference is just the name of a macro, without a reference in it. A body with a colon may be a
 /// substitution reference, and isn't taken for a name.
-#[tactic(auto, unfolding(crate::specs::inner::Plain::names_plainly))]
-pub(crate) fn names_plainly(mark: Mark, body: &[u8]) -> bool
+#[tactic(auto, unfolding(crate::specs::expanding::Calls::names_plainly))]
+pub fn names_plainly(mark: Mark, body: &[u8]) -> bool
     ensures { result ≡ names_plainly mark body.now }
 {
     match mark {
@@ -89,7 +94,7 @@ fn is_plain_name(body: &[u8]) -> bool
 }
 
 // Neither a dollar, nor a colon, nor a separator.
-#[tactic(auto, unfolding(crate::specs::inner::Plain::is_name_byte))]
+#[tactic(auto, unfolding(crate::specs::expanding::Calls::is_name_byte))]
 fn is_name_byte(byte: u8) -> bool
     ensures { result ≡ is_name_byte byte }
 {

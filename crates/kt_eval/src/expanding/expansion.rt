@@ -5,12 +5,11 @@ ghost use Rattle.kt_syntax.specs.Terms.{token_of};
 ghost use Rattle.kt_eval.specs.State.{lookup};
 ghost use Rattle.kt_eval.specs.inner.Doing.{Does};
 ghost use Rattle.kt_eval.specs.inner.Plain.{appended};
-ghost use Rattle.kt_eval.specs.expanding.Calls.{naming_of};
-ghost use Rattle.kt_eval.specs.inner.Views.{asked_view};
+ghost use Rattle.kt_eval.specs.expanding.Calls.{asked_view, naming_of};
 ghost use Rattle.kt_eval.specs.expanding.Expansion.{apply, expanded, referred, term_of, value_named, value_of};
 
 use crate::evaluation::Evaluation;
-use crate::expanding::calls::{Asked, Naming, asked_by, name_in};
+use crate::expanding::calls::{Asked, Naming, name_in};
 use crate::files::Files;
 use crate::macros::has_dollar;
 use crate::macros::scope::Scope;
@@ -106,7 +105,7 @@ impl<'a, M: Scope, F: Files> Evaluation<'a, M, F> {
             Ok(Term::Lit(bytes)) => Ok(Vec::from_slice(self.alloc, bytes)?),
             Ok(Term::Dollar) => Ok(Vec::from_slice(self.alloc, b"$")?),
             Ok(Term::Ref(mark, body)) => {
-                let asked = asked_by(self.alloc, mark, body)?;
+                let asked = Asked::by(self.alloc, mark, body)?;
                 self.refer(below, asked)
             }
             Err(Unterminated) => {

@@ -8,9 +8,10 @@ use kt_text::TextFault;
 use kt_text::functions::TextFunction;
 use std::alloc::Global;
 
-// The result of a text function. Missing arguments are empty.
+/// The result of a text function for its expanded arguments, of which missing ones are empty. The errors are those of
+/// `TextFunction::apply`.
 #[tactic(auto, unfolding(crate::specs::expanding::TextFunctions::text_result))]
-pub(crate) fn text_result(
+pub fn text_result(
     alloc: Global,
     function: TextFunction,
     arguments: &[Value],

@@ -150,10 +150,11 @@ impl Machine {
             alloc: _,
             limit: _,
             macros,
-            book,
+            mut book,
             messages,
             refusal: _,
         } = self;
+        book.finish_adding();
         Reading {
             macros,
             book,

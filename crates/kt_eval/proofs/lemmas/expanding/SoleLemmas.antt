@@ -3,7 +3,8 @@ use Rattle.std.proofs.Common.{◌≡◌, ◌==◌, ◌∙◌, ℕ, Bool, false, 
 use Rattle.kt_eval.proofs.Common.{list_any, Text, Mark, reference, terms_of, Store, World, lookup, Gave, Evaluator, each_term, expanded, term_of, evaluator}
 use Rattle.kt_eval.specs.reading.Conditions.{Compared}
 use Rattle.kt_eval.specs.reading.Conditionals.{are_equal}
-use Rattle.kt_eval.specs.inner.Plain.{names_plainly, put_of, still_deferred}
+use Rattle.kt_eval.specs.inner.Plain.{put_of, still_deferred}
+use Rattle.kt_eval.specs.expanding.Calls.{names_plainly}
 use Rattle.kt_eval.proofs.lemmas.expanding.LiteralLemmas.{stays}
 use Rattle.kt_eval.proofs.lemmas.expanding.PlainLemmas.{plainly_is, value_put}
 
