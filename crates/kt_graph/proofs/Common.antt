@@ -35,7 +35,7 @@ pub use Rattle.kt_graph.specs.search.Candidates.{are_short, by_size, candidate_b
 unfoldable pub use Rattle.kt_graph.specs.search.Candidates.{candidate_of, candidates_for, fit_of, matching_from, needed_names, stem_of}
 pub use Rattle.kt_graph.specs.search.Search.{Asking, Choosing, IsFoundByTrees, Searching, asked_among, asked_by, asked_eq, asked_for, asked_inside, chain_limit, chosen_of, is_begun, is_inferred, is_met, is_used, open_candidates, unknown_needs}
 unfoldable pub use Rattle.kt_graph.specs.search.Search.{HasTree, asking, fitting, with_rule}
-pub use Rattle.kt_graph.specs.search.Views.{AreWithin, IsFitWithin, candidate_at, candidate_view, candidates_view, choice_view, fit_size, found_view, held_by_size, held_without_any, question_view, stays}
+pub use Rattle.kt_graph.specs.search.Views.{AreWithin, IsFitWithin, candidate_at, candidate_view, candidates_view, choice_view, found_view, held_by_size, held_without_any, question_view, stays}
 pub use Rattle.kt_list.proofs.NameLemmas.{number_found}
 pub use Rattle.kt_list.proofs.general.Booleans.{and_first, and_nothing, and_second, equal_when, or_first, or_second, or_swap}
 pub use Rattle.kt_list.proofs.general.Elements.{first_or_rest, from_flat_map, in_first, in_flat_map, in_rest, none_in_empty}

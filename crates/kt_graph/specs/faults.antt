@@ -3,4 +3,3 @@
 pub mod Paths
 pub mod Resolution
 pub mod Faults
-pub mod Views

@@ -6,6 +6,8 @@ use Rattle.kt_rules.specs.declared.fault_kind.FaultKind.TheVariants as kind
 use Rattle.kt_rules.specs.FaultKinds.{number_of, words_with}
 use Rattle.kt_graph.specs.declared.faults.fault.GraphFault.{GraphFault}
 use Rattle.kt_graph.specs.declared.faults.fault.GraphFault.TheVariants.{Memory, Refused}
+use Rattle.kt_graph.specs.declared.faults.trouble.Trouble.{Trouble as HeldTrouble}
+use Rattle.kt_graph.specs.declared.faults.trouble.Trouble.TheVariants as held
 use Rattle.kt_graph.specs.Reach.{Trouble, no_rule, circular, reserved_name, one_file, ComesFirst, IsDoubled, IsFirst}
 use Rattle.kt_graph.specs.Reach.{IsGraph, IsReserved}
 
@@ -41,9 +43,15 @@ IsFileTrouble rules known goals None =
 IsFileTrouble rules known goals (Some reserved_name) = (name : Text) × IsReserved rules known goals name
 IsFileTrouble rules known goals (Some (one_file name)) =
     ((other : Text) → ¬ IsReserved rules known goals other) × IsFirst (IsDoubled rules known goals) name
-IsFileTrouble rules known goals (Some (no_rule goal)) = ⊥
-IsFileTrouble rules known goals (Some (circular name)) = ⊥
+IsFileTrouble rules known goals (Some other) = ⊥
 
 -- a graph with what goals need, all of it and nothing else, and with nothing wrong
 abbrev pub IsSoundGraph : List Rule → List Text → List Text → List Node → Type 0
 IsSoundGraph rules known goals nodes = ComesFirst rules known goals None × IsGraph rules known goals nodes
+
+-- a trouble as the code holds it
+abbrev pub trouble_view : HeldTrouble → Trouble
+trouble_view (held.NoRule goal) = no_rule goal.now
+trouble_view (held.Circular name) = circular name.now
+trouble_view held.Reserved = reserved_name
+trouble_view (held.OneFile name) = one_file name.now

@@ -2,4 +2,3 @@
 pub mod Edges
 pub mod Arrivals
 pub mod Files
-pub mod Spelling

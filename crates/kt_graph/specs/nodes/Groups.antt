@@ -1,22 +1,20 @@
 -- Which made nodes one making makes (GNU make manual, "Multiple Targets in a Rule", "Introduction to Pattern Rules").
 use Rattle.std.specs.Prelude.{◌≡◌, ◌↔◌, Bool, false, not, ◌&&◌, ◌||◌, nat_eq, List, [], ◌∷◌, All, map, filter, find}
-use Rattle.std.specs.Prelude.{bytes_eq, Option, Some, None}
+use Rattle.std.specs.Prelude.{bytes_eq, Option, Some}
 use Rattle.kt_graph.specs.Prelude.{Contains, IsStrictlySortedBy, option_map_or, nat_cmp, slice_cmp, Text, Rule}
 use Rattle.kt_graph.specs.nodes.Node.{Instance, Node, of_group, of_pattern, inputs_of, is_leaf, order_only_of}
 use Rattle.kt_graph.specs.Reach.{IsInGroup}
 
 abbrev pub instance_eq : Instance → Instance → Bool
 instance_eq (of_group first) (of_group other) = bytes_eq first other
-instance_eq (of_group first) (of_pattern rule directory stem) = false
-instance_eq (of_pattern rule directory stem) (of_group first) = false
 instance_eq (of_pattern rule directory stem) (of_pattern other_rule other_directory other_stem) =
     nat_eq rule other_rule && (bytes_eq directory other_directory && bytes_eq stem other_stem)
+instance_eq one other = false
 
 -- two makings of several names are the same
 abbrev pub is_one_making : Option Instance → Option Instance → Bool
-is_one_making None other = false
-is_one_making (Some making) None = false
 is_one_making (Some making) (Some other) = instance_eq making other
+is_one_making one other = false
 
 -- two nodes are in one group
 abbrev pub are_together : Node → Node → Bool

@@ -1,9 +1,8 @@
 -- The code's own types of a search as those of the definitions (kati's own).
-use Rattle.std.specs.Prelude.{◌≡◌, ℕ, ◌+◌, ◌-◌, ◌<◌, ◌≤◌, Bool, true, not, ◌||◌, ◌==◌, nat_le, All, List, length, take}
-use Rattle.std.specs.Prelude.{filter, flat_map, filter_map, Option, Some, None, option_map, unwrap_or, slice_get}
-use Rattle.std.specs.Prelude.{if◌then◌else◌}
-use Rattle.std.specs.List.{list_any, range_with_len, slice_range}
-use Rattle.kt_graph.specs.Prelude.{option_and_then, Text, Rule, Question, Chosen, Candidate, needs_with, Sought}
+use Rattle.std.specs.Prelude.{◌≡◌, ℕ, ◌+◌, ◌-◌, ◌<◌, ◌≤◌, Bool, true, not, ◌||◌, ◌==◌, nat_le, All, length, take}
+use Rattle.std.specs.Prelude.{filter, flat_map, filter_map, Some, None, option_map, unwrap_or, slice_get, if◌then◌else◌}
+use Rattle.kt_graph.specs.Prelude.{option_and_then, Text, Rule, Question, Chosen, Candidate, needs_with, Sought, List}
+use Rattle.kt_graph.specs.Prelude.{Option, list_any, range_with_len, slice_range}
 use Rattle.kt_rules.specs.Patterns.{is_terminal}
 use Rattle.kt_graph.specs.declared.search.candidate.Candidate.{Candidate as HeldCandidate}
 use Rattle.kt_graph.specs.declared.search.candidate.Fit.{Fit}
@@ -18,9 +17,6 @@ pub record IsFitWithin (name : Text) (fit : Fit) : Type 0 where
 
 abbrev pub fit_view : Text → Fit → Text × Text
 fit_view name fit = (take fit.directory name, slice_range name fit.start fit.end)
-
-abbrev pub fit_size : Fit → ℕ
-fit_size fit = fit.size
 
 -- a candidate of a rule
 abbrev pub candidate_at : Text → Rule → HeldCandidate → Candidate
@@ -54,7 +50,7 @@ AreWithin rules name candidates = All (λ candidate. (candidate.rule < length ru
 abbrev pub shorter_of : Option HeldCandidate → Option HeldCandidate → Option HeldCandidate
 shorter_of best None = best
 shorter_of None (Some other) = Some other
-shorter_of (Some best) (Some other) = if nat_le (fit_size best.fit) (fit_size other.fit) then Some best else Some other
+shorter_of (Some best) (Some other) = if nat_le best.fit.size other.fit.size then Some best else Some other
 
 -- whether the rule with a number is terminal; if there is no rule, it counts as terminal
 abbrev pub is_last_at : List Rule → ℕ → Bool
@@ -71,7 +67,7 @@ held_without_any rules in_chain candidates =
 
 abbrev pub held_by_size : ℕ → List HeldCandidate → List HeldCandidate
 held_by_size longest candidates =
-    flat_map (λ size. filter (λ candidate. fit_size candidate.fit == size) candidates) (range_with_len 0 (longest + 1))
+    flat_map (λ size. filter (λ candidate. candidate.fit.size == size) candidates) (range_with_len 0 (longest + 1))
 
 -- the choice of a candidate
 abbrev pub choice_view : Candidate → Chosen

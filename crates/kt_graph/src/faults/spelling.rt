@@ -1,6 +1,6 @@
 //! Names that are already the canonical spelling of their file, as most names are.
 ghost use Rattle.std.specs.Prelude.{◌≡◌, ◌<◌, ◌&&◌, IfSome, MatchOption, length, true};
-ghost use Rattle.kt_graph.specs.inner.faults.Spelling.{has_names_only, is_name};
+ghost use Rattle.kt_graph.specs.inner.faults.Files.{has_names_only, is_name};
 ghost use Rattle.kt_graph.specs.faults.Paths.{canon_of};
 
 use crate::faults::paths::is_rooted;

@@ -1,7 +1,6 @@
 //! What is wrong with the names that goals need; a trouble needs no memory.
 ghost use Rattle.std.specs.Prelude.{◌≡◌};
-ghost use Rattle.kt_graph.specs.faults.Faults.{ReportsTrouble, kind_and_name};
-ghost use Rattle.kt_graph.specs.faults.Views.{trouble_view};
+ghost use Rattle.kt_graph.specs.faults.Faults.{ReportsTrouble, kind_and_name, trouble_view};
 
 use crate::faults::fault::GraphFault;
 use kt_list::Sequence;

@@ -8,7 +8,7 @@ ghost use Rattle.std.specs.List.Sorted.{IsStrictlySortedBy};
 ghost use Rattle.std.specs.Ordering.{nat_cmp};
 ghost use Rattle.kt_text.specs.Words.{Text};
 ghost use Rattle.kt_rules.specs.Entry.{Rule};
-ghost use Rattle.kt_graph.specs.faults.Faults.{IsFileTrouble};
+ghost use Rattle.kt_graph.specs.faults.Faults.{IsFileTrouble, trouble_view};
 ghost use Rattle.kt_graph.specs.faults.Paths.{canon_of, is_reserved};
 ghost use Rattle.kt_graph.specs.nodes.Groups.{groups_of};
 ghost use Rattle.kt_graph.specs.inner.faults.Files.{is_repeated, made_names};
@@ -16,7 +16,6 @@ ghost use Rattle.kt_graph.specs.Reach.{ComesFirst, IsCyclic, IsFirst, IsGraph};
 ghost use Rattle.kt_graph.specs.inner.nodes.GraphBuilder.{IsDone};
 ghost use Rattle.kt_graph.specs.inner.nodes.Graph.{makes_among};
 ghost use Rattle.kt_graph.specs.nodes.Views.{node_at, nodes_view};
-ghost use Rattle.kt_graph.specs.faults.Views.{trouble_view};
 
 use crate::faults::cycles::first_circular;
 use crate::faults::edges::Edges;

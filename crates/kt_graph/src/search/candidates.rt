@@ -7,7 +7,7 @@ ghost use Rattle.kt_rules.specs.Entry.{Rule};
 ghost use Rattle.kt_rules.specs.Patterns.{is_terminal};
 ghost use Rattle.kt_graph.specs.search.Candidates.{candidate_by, candidate_of, candidates_for, matching_from, shortest};
 ghost use Rattle.kt_graph.specs.inner.search.Ends.{candidate_numbered, candidates_numbered};
-ghost use Rattle.kt_graph.specs.search.Views.{AreWithin, IsFitWithin, candidate_at, candidates_view, fit_size, found_view};
+ghost use Rattle.kt_graph.specs.search.Views.{AreWithin, IsFitWithin, candidate_at, candidates_view, found_view};
 ghost use Rattle.kt_graph.specs.search.Views.{held_by_size, held_without_any, is_last_at, shorter_of, stays};
 
 use crate::search::candidate::{Candidate, fit_of};
@@ -166,7 +166,7 @@ fn stays(patterns: &Patterns, candidate: &Candidate) -> bool
 // Match").
 fn sort_by_size(candidates: &mut Vec<Candidate>) -> Result<(), AllocError>
     ensures sorted { OnOk result ((longest : ℕ)
-        → All (λ candidate. fit_size candidate.fit ≤ longest) candidates.old.items →
+        → All (λ candidate. candidate.fit.size ≤ longest) candidates.old.items →
         candidates.new.items ≡ held_by_size longest candidates.old.items) }
     ensures same { IsPermutation candidates.old.items candidates.new.items }
 {

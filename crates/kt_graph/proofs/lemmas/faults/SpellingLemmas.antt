@@ -2,7 +2,7 @@
 use Rattle.std.proofs.Common.{◌≡◌, ℕ, ◌+◌, ◌==◌, ◌&&◌, Bool, true, false, fold, take, drop, List, [], ◌∷◌, ◌++◌, reverse, Some, None, refl, sym, ap, ◌∙◌, arith, bytes_eq}
 use Rattle.kt_graph.proofs.Common.{join_with_byte, slice_split, list_all, position_or_len, eqb-true, false≢true, false_from_ne_true, All-from_get_or, append-nil, append_assoc, reverse-append, IsFirstByte, is_byte, and_first, and_second, Text, first_byte_place, canon_of, parts_of, is_idle, is_rooted, above_name, with_part}
 use Rattle.std.proofs.lemmas.List.Splits.{join_with_byte-slice_split, slice_split_first, slice_split_none}
-use Rattle.kt_graph.specs.inner.faults.Spelling.{has_names_only, is_name}
+use Rattle.kt_graph.specs.inner.faults.Files.{has_names_only, is_name}
 
 abbrev is_slash : ℕ → Bool
 is_slash byte = byte == 47

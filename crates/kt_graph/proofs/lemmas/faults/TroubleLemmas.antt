@@ -6,6 +6,8 @@ use Rattle.kt_graph.specs.inner.faults.Files.{count_of}
 use Rattle.kt_graph.specs.nodes.Groups.{made_nodes}
 use Rattle.kt_graph.specs.inner.nodes.Graph.{makes_among}
 use Rattle.kt_graph.proofs.lemmas.MemberLemmas.{Contains-from_map, Contains-map, Contains-none}
+use Rattle.kt_graph.proofs.lemmas.Membership.{in_filter, kept_by_filter}
+use Rattle.kt_graph.proofs.lemmas.nodes.WholeLemmas.{mapped_itself}
 
 abbrev order : Text → Text → Ordering
 order = slice_cmp nat_cmp
@@ -155,34 +157,9 @@ kept_rises p (node ∷ nodes) rises =
 pub rises_made : (nodes : List Node) → Rises (map (λ node. node.name) nodes) → Rises (made_names nodes)
 rises_made nodes rises = kept_rises (λ (node : Node). not (is_leaf node.kind)) nodes rises
 
-pub filter_there : {A : Type 0} (p : A → Bool) (xs : List A) (x : A) → Contains xs x → p x ≡ true → Contains (filter p xs) x
-filter_there p [] x has on = Contains-none x has
-filter_there {A} p (first ∷ xs) x has on = ⊎_elim
-    (λ (same : first ≡ x).
-    subst (λ b. Contains (cond b (first ∷ filter p xs) (filter p xs)) x) (sym (ap p same ∙ on))
-    (subst (λ (y : A). Contains (first ∷ filter p xs) y) same (in_first first (filter p xs))))
-    (λ (h : Contains xs x). by (p first) (filter_there p xs x h on))
-    (first_or_rest first x xs has)
-  where
-    by : (b : Bool) → Contains (filter p xs) x → Contains (cond b (first ∷ filter p xs) (filter p xs)) x
-    by true h = in_rest first x (filter p xs) h
-    by false h = h
-
-pub from_filter : {A : Type 0} (p : A → Bool) (xs : List A) (x : A) → Contains (filter p xs) x → Contains xs x × (p x ≡ true)
-from_filter p [] x has = Contains-none x has
-from_filter {A} p (first ∷ xs) x has =
-    by (λ h. let rest = from_filter p xs x h in (in_rest first x xs rest.0, rest.1)) (p first) refl has
-  where
-    by : (Contains (filter p xs) x → Contains (first ∷ xs) x × (p x ≡ true)) → (b : Bool) → p first ≡ b → Contains (cond b (first ∷ filter p xs) (filter p xs)) x → Contains (first ∷ xs) x × (p x ≡ true)
-    by later true e h = ⊎_elim
-        (λ (same : first ≡ x). (subst (λ (y : A). Contains (first ∷ xs) y) same (in_first first xs), ap p (sym same) ∙ e))
-        (λ (g : Contains (filter p xs) x). later g)
-        (first_or_rest first x (filter p xs) h)
-    by later false e h = later h
-
 -- two that pass make the count two, and the other way round
 one_passes : {A : Type 0} (p : A → Bool) (xs : List A) (x : A) → Contains xs x → p x ≡ true → 0 < length (filter p xs)
-one_passes p xs x has on = let at = (filter_there p xs x has on).1 in omega arith
+one_passes p xs x has on = let at = (in_filter p xs x has on).1 in omega arith
 
 two_pass : {A : Type 0} (p : A → Bool) (xs : List A) (x y : A) → Contains xs x → Contains xs y → ¬ (x ≡ y) → p x ≡ true → p y ≡ true → 1 < length (filter p xs)
 two_pass p [] x y one other differ on also = Contains-none x one
@@ -210,7 +187,7 @@ some_passes {A} p xs some = by (filter p xs) refl some
     by : (ys : List A) → filter p xs ≡ ys → 0 < length ys → (x : A) × Contains xs x × (p x ≡ true)
     by [] e none = absurd (omega arith)
     by (y ∷ ys) e more =
-        let in' = from_filter p xs y (subst (λ (zs : List A). Contains zs y) (sym e) (in_first y ys)) in
+        let in' = kept_by_filter p xs y (subst (λ (zs : List A). Contains zs y) (sym e) (in_first y ys)) in
         (y, in'.0, in'.1)
 
 -- of two that pass in a list that rises, one isn't a given one
@@ -274,15 +251,7 @@ none_repeated nodes rises canonical =
 
 module _ (rules : List Rule) (known goals : List Text) (nodes : List Node) (graph : IsGraph rules known goals nodes) where
   of_node : (node : Node) → Contains nodes node → node_of rules known node.name ≡ node
-  of_node node has =
-      let names : List Text = map (λ (one : Node). one.name) nodes in
-      let within : has.0 < length nodes = has.1 in
-      let inside : has.0 < length names = subst (λ n. has.0 < n) (sym (length-map nodes (λ (one : Node). one.name))) within in
-      ap (λ (one : Node). node_of rules known one.name) (sym has.2)
-      ∙ ap (node_of rules known) (sym (Rattle.std.proofs.lemmas.List.get_or-map (λ (one : Node). one.name) nodes has.0 node node.name within))
-      ∙ sym (Rattle.std.proofs.lemmas.List.get_or-map (node_of rules known) names has.0 node.name node inside)
-      ∙ ap (λ (ns : List Node). Rattle.std.specs.List.slice_index_or ns has.0 node) (sym graph.stored)
-      ∙ has.2
+  of_node node has = mapped_itself (node_of rules known) (λ (one : Node). one.name) nodes node graph.stored has
 
   node_reached : (node : Node) → Contains nodes node → IsReached rules known goals node.name
   node_reached node has = (graph.reached node.name).0 (Contains-map (λ (one : Node). one.name) nodes node has)
@@ -322,7 +291,7 @@ module _ (rules : List Rule) (known goals : List Text) (nodes : List Node) (grap
   made_is : (name : Text) → Contains (made_names nodes) name → IsMade rules known goals name
   made_is name has =
       let at : (node : Node) × Contains (made_nodes nodes) node × (node.name ≡ name) = Contains-from_map (λ (one : Node). one.name) (made_nodes nodes) name has in
-      let inside = from_filter (λ (one : Node). not (is_leaf one.kind)) nodes at.0 at.1 in
+      let inside = kept_by_filter (λ (one : Node). not (is_leaf one.kind)) nodes at.0 at.1 in
       record {
         reached = subst (IsReached rules known goals) at.2 (node_reached at.0 inside.0);
         made = ap (λ (n : Text). is_leaf (node_of rules known n).kind) (sym at.2)
@@ -339,7 +308,7 @@ module _ (rules : List Rule) (known goals : List Text) (nodes : List Node) (grap
       let leaf : is_leaf at.0.kind ≡ false =
       ap (λ (one : Node). is_leaf one.kind) (sym (of_node at.0 at.1)) ∙ ap (λ (n : Text). is_leaf (node_of rules known n).kind) at.2 ∙ made.made in
       subst (Contains (made_names nodes)) at.2
-      (Contains-map (λ (one : Node). one.name) (made_nodes nodes) at.0 (filter_there (λ (one : Node). not (is_leaf one.kind)) nodes at.0 at.1 (ap not leaf)))
+      (Contains-map (λ (one : Node). one.name) (made_nodes nodes) at.0 (in_filter (λ (one : Node). not (is_leaf one.kind)) nodes at.0 at.1 (ap not leaf)))
 
   repeated_doubled : (name : Text) → Contains (made_names nodes) name → is_repeated (made_names nodes) name ≡ true → IsDoubled rules known goals name
   repeated_doubled name has on =

@@ -6,7 +6,8 @@ use Rattle.kt_graph.specs.nodes.Node.{Instance}
 use Rattle.kt_graph.proofs.lemmas.nodes.GroupLemmas.{one_itself, one_same}
 use Rattle.kt_graph.proofs.lemmas.nodes.MadeLemmas.{found_in}
 use Rattle.kt_graph.proofs.lemmas.MemberLemmas.{Contains-from_map, Contains-map}
-use Rattle.kt_graph.proofs.lemmas.faults.TroubleLemmas.{filter_there, find_agree, found_nowhere, from_filter, kept_rises, rises_made}
+use Rattle.kt_graph.proofs.lemmas.Membership.{in_filter, kept_by_filter}
+use Rattle.kt_graph.proofs.lemmas.faults.TroubleLemmas.{find_agree, found_nowhere, kept_rises, rises_made}
 use Rattle.kt_graph.proofs.lemmas.nodes.WholeLemmas.{group_cases, mapped_itself}
 
 abbrev order : Text → Text → Ordering
@@ -34,7 +35,7 @@ first_kept p (first ∷ nodes) node e = by (p first) e (first_kept p nodes node)
 
 -- ---- the nodes of a graph
 
-making_told : (one other : Option Instance) → is_one_making one other ≡ true → (making : Instance) × (one ≡ Some making) × (other ≡ Some making)
+pub making_told : (one other : Option Instance) → is_one_making one other ≡ true → (making : Instance) × (one ≡ Some making) × (other ≡ Some making)
 making_told None other e = absurd (false≢true e)
 making_told (Some one) other e = (one, refl, sym (one_same (Some one) other e))
 
@@ -71,7 +72,8 @@ module _ (rules : List Rule) (known goals : List Text) (nodes : List Node) (grap
   same_node one other first second same = sym (node_is one first) ∙ ap (node_of rules known) same ∙ node_is other second
 
   in_graph : (node : Node) → Contains (made_nodes nodes) node → Contains nodes node
-  in_graph node has = (from_filter (λ (one : Node). Rattle.std.proofs.Common.not (is_leaf one.kind)) nodes node has).0
+  in_graph node has =
+      (kept_by_filter (λ (one : Node). Rattle.std.proofs.Common.not (is_leaf one.kind)) nodes node has).0
 
   by_test : (one other : Node) → Contains (made_nodes nodes) one → Contains (made_nodes nodes) other → are_together one other ≡ true → AreOne one other
   by_test one other first second e = ⊎_elim
@@ -107,7 +109,7 @@ module _ (rules : List Rule) (known goals : List Text) (nodes : List Node) (grap
 
   of_leader : (leader : Node) → IsLeader leader → Contains (made_nodes nodes) leader × (find (are_together leader) (made_nodes nodes) ≡ Some leader)
   of_leader leader has =
-      let from = from_filter (is_leading (made_nodes nodes)) (made_nodes nodes) leader has in
+      let from = kept_by_filter (is_leading (made_nodes nodes)) (made_nodes nodes) leader has in
       (from.0, leads_itself leader from.0 from.1)
 
   -- each node has a leader, and only one
@@ -122,7 +124,7 @@ module _ (rules : List Rule) (known goals : List Text) (nodes : List Node) (grap
           let leads : is_leading (made_nodes nodes) leader ≡ true
           = ap (λ (o : Option Node). option_map_or (λ first. bytes_eq first.name leader.name) o false) (same_leader leader node found.0 has one ∙ is)
           ∙ (bytes_eq-Decides leader.name leader.name).1 refl in
-          (leader, filter_there (is_leading (made_nodes nodes)) (made_nodes nodes) leader found.0 leads, one)
+          (leader, in_filter (is_leading (made_nodes nodes)) (made_nodes nodes) leader found.0 leads, one)
 
   only_leader : (one other : Node) → IsLeader one → IsLeader other → AreOne one other → one ≡ other
   only_leader one other first second same =
@@ -132,11 +134,11 @@ module _ (rules : List Rule) (known goals : List Text) (nodes : List Node) (grap
 
   -- the group of a leader has all that are one with it
   in_group : (leader node : Node) → Contains (made_nodes nodes) node → AreOne leader node → Contains (group_in (made_nodes nodes) leader) node
-  in_group leader node has one = filter_there (are_together leader) (made_nodes nodes) node has (as_test leader node one)
+  in_group leader node has one = in_filter (are_together leader) (made_nodes nodes) node has (as_test leader node one)
 
   from_group : (leader node : Node) → IsLeader leader → Contains (group_in (made_nodes nodes) leader) node → Contains (made_nodes nodes) node × AreOne leader node
   from_group leader node leads has =
-      let from = from_filter (are_together leader) (made_nodes nodes) node has in
+      let from = kept_by_filter (are_together leader) (made_nodes nodes) node has in
       (from.0, by_test leader node (of_leader leader leads).0 from.0 from.1)
 
   -- ---- groups and names

@@ -7,7 +7,7 @@ use Rattle.kt_graph.specs.nodes.Node.{Instance}
 use Rattle.kt_graph.specs.inner.nodes.Graph.{IsWhole}
 use Rattle.kt_graph.proofs.lemmas.nodes.GroupLemmas.{one_itself, one_same}
 use Rattle.kt_graph.proofs.lemmas.MemberLemmas.{Contains-map, Contains-none, Contains-slice_get}
-use Rattle.kt_graph.proofs.lemmas.faults.TroubleLemmas.{from_filter}
+use Rattle.kt_graph.proofs.lemmas.Membership.{kept_by_filter}
 use Rattle.kt_graph.proofs.lemmas.nodes.WholeLemmas.{instance_there}
 
 -- ---- the numbers of each making
@@ -319,7 +319,7 @@ module _ (table : NodeTable) (order : List ℕ) (whole : IsWhole table order)
       first_of : (making : ℕ) → making < length table.instances → (numbers : List ℕ) → get_or members making [] ≡ numbers → is_named leader (told numbers) ≡ is_first numbers leader
       first_of making less [] is = refl
       first_of making less (first ∷ others) is =
-          let from = from_filter (is_made_with table.nodes making) order first
+          let from = kept_by_filter (is_made_with table.nodes making) order first
           (subst (λ (ns : List ℕ). Contains ns first) (sym is ∙ has.each making less) (in_first first others)) in
           let made_there : is_made_at table.nodes first ≡ true = (and_parts (is_made_at table.nodes first) (is_number making (making_at table.nodes first)) from.1).0 in
           let there : (one : StoredNode) × (slice_get table.nodes first ≡ Some one) = there_made first made_there in

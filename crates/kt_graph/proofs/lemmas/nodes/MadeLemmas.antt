@@ -1,34 +1,13 @@
 -- What implicit nodes need: it is known, or a rule makes it.
 use Rattle.std.proofs.Common.{◌≡◌, ℕ, suc, ◌+◌, ◌<◌, Bool, true, false, not, ◌&&◌, ◌||◌, if◌then◌else◌, List, [], ◌∷◌, ◌++◌, length, filter, map, Option, Some, None, is_some, refl, sym, ap, ◌∙◌, subst, true≢false, ◌⊎◌, inl, inr, ⊎_elim, arith, bytes_eq, fold, nat_le, option_map, slice_get}
-use Rattle.kt_graph.proofs.Common.{option_and_then, option_or, option_to_list, Contains, cons_option, filter_map, find, flat_map, list_all, list_any, same_text, and_from, and_parts, not_from_false, Contains-append_cases, Contains-append_left, Contains-append_right, none-some, same_Some, first_or_rest, from_flat_map, in_first, in_flat_map, in_rest, none_in_empty, at_place, Text, Target, is_among, without_repeats, Rule, needs_for, all_needs, is_suffix_rule, suffixes_of, explicit_rules, is_double, is_explicit, is_made, is_phony, patterns_of, rules_of, target_rules, DoubleColon, Explicit, Implicit, Phony, Leaf, Candidate, are_short, candidate_by, candidate_of, candidate_with, candidates_for, fit_of, matching_from, shorter, shortest, size_of, unless_long, without_any, known_names, listed_names, named_by, named_with, choice_of, fitting, is_begun, is_inferred, is_met, is_used, open_candidates, unknown_needs, with_rule, Node, all_inputs, chosen_rule, double_node, implicit_node, inputs_of, is_leaf, joined_needs, kind_without, node_by, node_of, order_only_of, searched, used_rule, HasInput, HasMadeInputs, IsGraph, IsReached, Leads}
+use Rattle.kt_graph.proofs.Common.{option_and_then, option_or, option_to_list, Contains, filter_map, find, flat_map, list_all, list_any, same_text, and_from, and_parts, not_from_false, Contains-append_cases, Contains-append_left, Contains-append_right, none-some, same_Some, first_or_rest, from_flat_map, in_first, in_flat_map, in_rest, none_in_empty, at_place, Text, Target, is_among, without_repeats, Rule, needs_for, all_needs, is_suffix_rule, suffixes_of, explicit_rules, is_double, is_explicit, is_made, is_phony, patterns_of, rules_of, target_rules, DoubleColon, Explicit, Implicit, Phony, Leaf, Candidate, are_short, candidate_by, candidate_of, candidate_with, candidates_for, fit_of, matching_from, shorter, shortest, size_of, unless_long, without_any, known_names, listed_names, named_by, named_with, choice_of, fitting, is_begun, is_inferred, is_met, is_used, open_candidates, unknown_needs, with_rule, Node, all_inputs, chosen_rule, double_node, implicit_node, inputs_of, is_leaf, joined_needs, kind_without, node_by, node_of, order_only_of, searched, used_rule, HasMadeInputs, IsGraph}
 use Rattle.kt_graph.proofs.lemmas.search.GrowthLemmas.{from_by_size, tree_grows}
 use Rattle.kt_graph.proofs.lemmas.Membership.{any_passes, each_passes, kept_by_filter}
 use Rattle.kt_graph.proofs.lemmas.search.TreeLemmas.{found_as_trees}
 use Rattle.kt_graph.proofs.lemmas.search.UnknownLemmas.{among_from, among_itself, from_without_repeats, in_without_repeats, is_unknown}
-
--- ---- elements of lists that were made of others
-
-module _ {X Y : Type 0} where
-  from_map : (f : X → Y) (xs : List X) (y : Y) → Contains (map f xs) y → (x : X) × Contains xs x × (f x ≡ y)
-  from_map f [] y c = absurd (none_in_empty y c)
-  from_map f (x ∷ xs) y c = by (first_or_rest (f x) y (map f xs) c) (from_map f xs y)
-    where
-      by : (f x ≡ y) ⊎ Contains (map f xs) y → (Contains (map f xs) y → (z : X) × Contains xs z × (f z ≡ y)) → (z : X) × Contains (x ∷ xs) z × (f z ≡ y)
-      by (inl e) later = (x, in_first x xs, e)
-      by (inr rest) later = let found = later rest in (found.0, in_rest x found.0 xs found.1, found.2)
-
-  in_map : (f : X → Y) (xs : List X) (x : X) → Contains xs x → Contains (map f xs) (f x)
-  in_map f [] x c = absurd (none_in_empty x c)
-  in_map f (z ∷ xs) x c =
-      ⊎_elim (λ e. subst (λ w. Contains (f z ∷ map f xs) (f w)) e (in_first (f z) (map f xs))) (λ rest. in_rest (f z) (f x) (map f xs) (in_map f xs x rest)) (first_or_rest z x xs c)
-
-  from_filter_map : (f : X → Option Y) (xs : List X) (y : Y) → Contains (filter_map f xs) y → (x : X) × (f x ≡ Some y)
-  from_filter_map f [] y c = absurd (none_in_empty y c)
-  from_filter_map f (x ∷ xs) y c = by (f x) refl c (from_filter_map f xs y)
-    where
-      by : (o : Option Y) → f x ≡ o → Contains (cons_option o (filter_map f xs)) y → (Contains (filter_map f xs) y → (z : X) × (f z ≡ Some y)) → (z : X) × (f z ≡ Some y)
-      by None e c later = later c
-      by (Some first) e c later = ⊎_elim (λ same. (x, e ∙ ap Some same)) later (first_or_rest first y (filter_map f xs) c)
+use Rattle.kt_graph.proofs.lemmas.MemberLemmas.{Contains-from_map, Contains-map}
+use Rattle.kt_graph.proofs.lemmas.nodes.WholeLemmas.{Contains-from_filter_map}
+use Rattle.kt_graph.proofs.lemmas.nodes.ReachLemmas.{reached_on}
 
 pub found_in : {X : Type 0} (p : X → Bool) (xs : List X) (x : X) → find p xs ≡ Some x → Contains xs x × (p x ≡ true)
 found_in p [] x e = absurd (none-some x e)
@@ -77,9 +56,9 @@ module _ (number : ℕ) where
       by (Some candidate) f e =
           ap (λ (c : Candidate). c.rule) (sym (short candidate (are_short candidate.directory candidate.stem rule.needs) e))
           ∙ shortest_rule (filter_map (candidate_by number rule name) rule.targets) candidate
-          (λ other c. let found = from_filter_map (candidate_by number rule name) rule.targets other c in by_rule rule name found.0 other found.1) f
+          (λ other c. let found = Contains-from_filter_map (candidate_by number rule name) rule.targets other c in by_rule rule name found.0 other found.2) f
 
-in_option : {X : Type 0} (o : Option X) (x : X) → Contains (option_to_list o) x → o ≡ Some x
+pub in_option : {X : Type 0} (o : Option X) (x : X) → Contains (option_to_list o) x → o ≡ Some x
 in_option None x c = absurd (none_in_empty x c)
 in_option (Some y) x c = ⊎_elim (λ e. ap Some e) (λ none. absurd (none_in_empty x none)) (first_or_rest y x [] c)
 
@@ -91,7 +70,7 @@ matching_rule number (rule ∷ rules) name one c =
     (λ later. omega (arith, matching_rule (number + 1) rules name one later))
     (Contains-append_cases (option_to_list (candidate_of number rule name)) (matching_from (number + 1) rules name) one c)
 
-from_without_any : (in_chain : Bool) (candidates : List Candidate) (one : Candidate) → Contains (without_any in_chain candidates) one → Contains candidates one
+pub from_without_any : (in_chain : Bool) (candidates : List Candidate) (one : Candidate) → Contains (without_any in_chain candidates) one → Contains candidates one
 from_without_any in_chain candidates one c = by (in_chain || list_any (λ candidate. not candidate.is_any) candidates) c
   where
     by : (b : Bool) → Contains (if b then filter (λ candidate. not candidate.is_any || candidate.is_last) candidates else candidates) one → Contains candidates one
@@ -143,7 +122,7 @@ module _ (rules : List Rule) (known : List Text) (name : Text) where
   abbrev pub made : List (Rule × Target)
   made = explicit_rules rules name
 
-  searched_choice : (found : Candidate × Rule) → searched rules known name ≡ Some found → choice_of (patterns_of rules) known name ≡ Some found.0
+  pub searched_choice : (found : Candidate × Rule) → searched rules known name ≡ Some found → choice_of (patterns_of rules) known name ≡ Some found.0
   searched_choice found e = by (is_phony rules name) e
     where
       drawn : (one : Candidate) (o : Option Rule) → option_map (λ rule. (one, rule)) o ≡ Some found → one ≡ found.0
@@ -277,7 +256,7 @@ needed_known rules files name one input c needed =
     let plain = kept_by_filter (λ made. not (is_suffix_rule suffixes name made)) (rules_of rules name) one c in
     let named = kept_by_filter (λ (made : Rule × Target). bytes_eq name made.1.name) (flat_map target_rules rules) one plain.0 in
     let from = from_flat_map target_rules rules one named.0 in
-    let target = from_map (λ t. (from.0, t)) (filter (is_made from.0) from.0.targets) one from.2 in
+    let target = Contains-from_map (λ t. (from.0, t)) (filter (is_made from.0) from.0.targets) one from.2 in
     let kept = kept_by_filter (is_made from.0) from.0.targets target.0 target.1 in
     let same : name ≡ one.1.name = same_text name one.1.name (sym named.1) in
     let explicit : is_explicit suffixes one ≡ true
@@ -295,29 +274,17 @@ needed_known rules files name one input c needed =
 
 -- ---- the graph
 
-leads_on : {A : Type 0} (Edge : A → A → Type 0) (from : A) (steps : List A) (to next : A) → Leads Edge from steps to → Edge to next → Leads Edge from (steps ++ next ∷ []) next
-leads_on Edge from [] to next path edge = (subst (λ a. Edge a next) (sym path) edge, refl)
-leads_on Edge from (step ∷ steps) to next path edge = (path.0, leads_on Edge step steps to next path.1 edge)
-
--- what a reached name needs is reached
-pub input_reached : (rules : List Rule) (known goals : List Text) (name input : Text) → IsReached rules known goals name → HasInput rules known name input → IsReached rules known goals input
-input_reached rules known goals name input reached edge = record {
-  goal = reached.goal;
-  named = reached.named;
-  path = (reached.path.0 ++ input ∷ [], leads_on (HasInput rules known) reached.goal reached.path.0 name input reached.path.1 edge);
-}
-
 -- what an implicit node needs is known, or a rule makes it, if the names that the rules mention are known
 pub made_inputs : (rules : List Rule) (known goals : List Text) (nodes : List Node) (files : Text) → IsGraph rules known goals nodes → known ≡ known_names rules files → HasMadeInputs known nodes
 made_inputs rules known goals nodes files graph all = λ node input c kind needed unknown.
     let names = map (λ (one : Node). one.name) nodes in
-    let of_name = from_map (node_of rules known) names node (subst (λ ns. Contains ns node) graph.stored c) in
+    let of_name = Contains-from_map (node_of rules known) names node (subst (λ ns. Contains ns node) graph.stored c) in
     let name = of_name.0 in
     let implicit = implicit_is rules known name (ap (λ (one : Node). one.kind) of_name.2 ∙ kind) in
     let own : Contains (all_inputs (node_of rules known name)) input = subst (λ (one : Node). Contains (all_inputs one) input) (sym of_name.2) needed in
-    let reached = input_reached rules known goals name input ((graph.reached name).0 of_name.1) own in
+    let reached = reached_on rules known goals name input ((graph.reached name).0 of_name.1) own in
     let there : Contains nodes (node_of rules known input)
-    = subst (λ ns. Contains ns (node_of rules known input)) (sym graph.stored) (in_map (node_of rules known) names input ((graph.reached input).1 reached)) in
+    = subst (λ ns. Contains ns (node_of rules known input)) (sym graph.stored) (Contains-map (node_of rules known) names input ((graph.reached input).1 reached)) in
     let no_leaf : is_leaf (node_of rules known input).kind ≡ false
     = ⊎_elim (λ by_chosen. found_no_leaf rules known input (needed_found (patterns_of rules) known name implicit.chosen input implicit.is by_chosen unknown))
     (λ by_made. absurd (true≢false (sym (ap (λ ns. is_among ns input) all ∙ needed_known rules files name by_made.0 input by_made.1 by_made.2) ∙ unknown)))

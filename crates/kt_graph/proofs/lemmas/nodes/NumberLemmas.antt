@@ -1,6 +1,7 @@
 -- Numbers for names: what holds of numbers stays when more names are reached.
-use Rattle.std.proofs.Common.{◌≡◌, ℕ, suc, zero, Bool, true, false, ◌+◌, ◌<◌, ◌≤◌, if◌then◌else◌, List, [], ◌∷◌, ◌++◌, length, map, fold, take, get_or, Some, slice_get, refl, sym, ap, subst, ◌∙◌, arith}
+use Rattle.std.proofs.Common.{◌≡◌, ℕ, suc, zero, false, ◌+◌, ◌<◌, ◌≤◌, List, [], ◌∷◌, ◌++◌, length, map, fold, take, get_or, Some, slice_get, refl, sym, ap, subst, ◌∙◌, arith}
 use Rattle.kt_graph.proofs.Common.{flat_map, append-nil, append_assoc, map-append, take_more, flat_map-append, fold-append, Text, Needs, is_among, with_name, Part, StoredPart, AddsNumbers, StandFor, SaysNeeds, SaysPart, SayParts}
+use Rattle.kt_rules.proofs.FindLemmas.{names_grow}
 
 -- no name is among none
 pub none_among : (names : List Text) (name : Text) → length names ≤ 0 → is_among names name ≡ false
@@ -14,18 +15,6 @@ pub place_kept : {A : Type 0} (xs more : List A) (k : ℕ) (x : A) → slice_get
 place_kept [] more k x h = cc
 place_kept (y ∷ xs) more zero x h = h
 place_kept (y ∷ xs) more (suc k) x h = place_kept xs more k x h
-
-name_added : (names : List Text) (name : Text) (b : Bool) → (more : List Text) × ((if b then names else names ++ name ∷ []) ≡ names ++ more)
-name_added names name true = ([], sym (append-nil names))
-name_added names name false = (name ∷ [], refl)
-
--- names are added at the end
-pub names_grow : (needed names : List Text) → (more : List Text) × (fold with_name names needed ≡ names ++ more)
-names_grow [] names = ([], sym (append-nil names))
-names_grow (name ∷ needed) names =
-    let one = name_added names name (is_among names name) in
-    let rest = names_grow needed (with_name names name) in
-    (one.0 ++ rest.0, rest.1 ∙ ap (λ l. l ++ rest.0) one.1 ∙ append_assoc names one.0 rest.0)
 
 stand_longer : (names more expected : List Text) (numbers : List ℕ) → StandFor names expected numbers → StandFor (names ++ more) expected numbers
 stand_longer names more [] [] h = refl
@@ -42,7 +31,7 @@ stand_longer names more (name ∷ expected) (number ∷ numbers) h =
 pub stand_kept : (names needed expected : List Text) (numbers : List ℕ) → StandFor names expected numbers
     → StandFor (fold with_name names needed) expected numbers
 stand_kept names needed expected numbers h =
-    let grown = names_grow needed names in
+    let grown = names_grow names needed in
     subst (λ l. StandFor l expected numbers) (sym grown.1) (stand_longer names grown.0 expected numbers h)
 
 -- one more number after others

@@ -1,21 +1,19 @@
 -- Names that are reached one after another, and what their nodes need.
-use Rattle.std.proofs.Common.{◌≡◌, Bool, true, false, not, cond, if◌then◌else◌, List, [], ◌∷◌, ◌++◌, filter, fold, Contains, All, nat_eq, refl, sym, ap, subst, arith}
-use Rattle.kt_graph.proofs.Common.{flat_map, pointwise, All-nil, All-cons, All-head, All-tail, All-push, All-append, All-weaker, All-contains, Contains-append_left, Contains-append_right, Contains-push, Contains-get_or, bytes_eq-Decides, Contains-list_any, Text, Rule, is_among, with_name, without_repeats, needed_by, Node, all_inputs, inputs_of, node_of, order_only_of, HasInput, IsReached, Leads}
-use Rattle.kt_graph.proofs.lemmas.nodes.NumberLemmas.{names_grow}
+use Rattle.std.proofs.Common.{◌≡◌, Bool, true, false, not, cond, if◌then◌else◌, List, [], ◌∷◌, ◌++◌, filter, fold, Contains, All, refl, sym, ap, subst, arith}
+use Rattle.kt_graph.proofs.Common.{flat_map, All-nil, All-cons, All-head, All-tail, All-push, All-append, All-weaker, All-contains, Contains-append_left, Contains-append_right, Contains-push, Contains-get_or, Text, Rule, is_among, with_name, without_repeats, needed_by, Node, all_inputs, inputs_of, node_of, order_only_of, HasInput, IsReached, Leads}
+use Rattle.kt_graph.proofs.lemmas.search.UnknownLemmas.{from_among}
+use Rattle.kt_rules.proofs.FindLemmas.{names_grow}
 
 -- ---- names after others
 
-among_names : (names : List Text) (name : Text) → is_among names name ≡ true → Contains names name
-among_names names name h = Contains-list_any (pointwise nat_eq) (λ x y. (bytes_eq-Decides x y).0) names name h
-
 added : (names : List Text) (name : Text) (b : Bool) → is_among names name ≡ b → Contains (if b then names else names ++ name ∷ []) name
-added names name true h = among_names names name h
+added names name true h = from_among names name h
 added names name false h = Contains-push names name
 
 -- a name that was there stays there
 pub reached_stays : (needed names : List Text) (name : Text) → Contains names name → Contains (fold with_name names needed) name
 reached_stays needed names name h =
-    let grown = names_grow needed names in
+    let grown = names_grow names needed in
     subst (λ l. Contains l name) (sym grown.1) (Contains-append_left names grown.0 name h)
 
 -- all that is needed is there
@@ -53,7 +51,7 @@ filter_keeps p (y ∷ xs) =
 
 beside : (inputs others : List Text) (name : Text) (b : Bool) → is_among inputs name ≡ b → Contains others name
     → Contains (inputs ++ filter (λ other. not (is_among inputs other)) others) name
-beside inputs others name true h at = Contains-append_left inputs (filter (λ other. not (is_among inputs other)) others) name (among_names inputs name h)
+beside inputs others name true h at = Contains-append_left inputs (filter (λ other. not (is_among inputs other)) others) name (from_among inputs name h)
 beside inputs others name false h at =
     Contains-append_right inputs (filter (λ other. not (is_among inputs other)) others) name
     (All-contains (λ x. not (is_among inputs x) ≡ true → Contains (filter (λ other. not (is_among inputs other)) others) x) others name
@@ -89,7 +87,7 @@ inputs_all node =
 
 -- ---- paths
 
-leads_on : {A : Type 0} (Edge : A → A → Type 0) (from : A) (steps : List A) (middle to : A) → Leads Edge from steps middle → Edge middle to
+pub leads_on : {A : Type 0} (Edge : A → A → Type 0) (from : A) (steps : List A) (middle to : A) → Leads Edge from steps middle → Edge middle to
     → Leads Edge from (steps ++ to ∷ []) to
 leads_on Edge from [] middle to h e = (subst (λ x. Edge x to) (sym h) e, refl)
 leads_on Edge from (step ∷ steps) middle to h e = (h.0, leads_on Edge step steps middle to h.1 e)

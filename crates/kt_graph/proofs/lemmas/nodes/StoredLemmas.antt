@@ -76,22 +76,20 @@ head_within_more parts more_parts rows more head up_parts up h = record {
 pub longer : {A : Type 0} (old new : List A) → HasMore old new → length old ≤ length new
 longer old new more = omega (arith, ap length more.1, length-append old more.0)
 
--- the invariant, when lists grew
-pub stored_more : (parts new_parts : List HeldPart) (rows new_rows : List (List ℕ)) (heads : List Head) → Grew parts rows new_parts new_rows
-    → AreStored parts rows heads → AreStored new_parts new_rows heads
-stored_more parts new_parts rows new_rows heads grew h = record {
-  parts_within = grew.within h.parts_within;
-  heads_within = All-weaker (IsHeadWithin (length parts) (length rows)) (IsHeadWithin (length new_parts) (length new_rows))
-      (λ head g. head_within_more (length parts) (length new_parts) (length rows) (length new_rows) head (longer parts new_parts grew.more_parts)
-      (longer rows new_rows grew.more_rows) g) heads h.heads_within;
-}
-
-pub stored_push : (parts : List HeldPart) (rows : List (List ℕ)) (heads : List Head) (head : Head) → AreStored parts rows heads
-    → IsHeadWithin (length parts) (length rows) head → AreStored parts rows (heads ++ head ∷ [])
-stored_push parts rows heads head h within = record {
-  parts_within = h.parts_within;
-  heads_within = All-push (IsHeadWithin (length parts) (length rows)) heads head h.heads_within within;
-}
+-- the invariant, when lists grew and a head was added
+pub stored_push : (parts new_parts : List HeldPart) (rows new_rows : List (List ℕ)) (heads more : List Head)
+    (head : Head) → more ≡ heads ++ head ∷ [] → Grew parts rows new_parts new_rows → AreStored parts rows heads
+    → IsHeadWithin (length new_parts) (length new_rows) head → AreStored new_parts new_rows more
+stored_push parts new_parts rows new_rows heads more head pushed grew h within =
+    let Within = IsHeadWithin (length new_parts) (length new_rows) in
+    subst (AreStored new_parts new_rows) (sym pushed) (record {
+      parts_within = grew.within h.parts_within;
+      heads_within = All-push Within heads head
+          (All-weaker (IsHeadWithin (length parts) (length rows)) Within (λ one g.
+          head_within_more (length parts) (length new_parts) (length rows) (length new_rows) one
+          (longer parts new_parts grew.more_parts) (longer rows new_rows grew.more_rows) g) heads h.heads_within)
+          within;
+    })
 
 -- what was stored is the same when lists grew
 pub nodes_same : (parts new_parts : List HeldPart) (rows new_rows : List (List ℕ)) (heads : List Head) → Grew parts rows new_parts new_rows

@@ -352,30 +352,6 @@ module _ (table : NodeTable) (order : List ℕ) (whole : IsWhole table order) wh
 
       -- ---- and back
 
-      on_needed : (number : ℕ) (node : StoredNode) (to : ℕ) → slice_get table.nodes number ≡ Some node → Contains (needed_numbers node) to → LeadsOn edges number to
-      on_needed number node to at has = by node.made_with refl
-        where
-          by : (o : Option ℕ) → node.made_with ≡ o → LeadsOn edges number to
-          by None e = on_step edges number to ((drawn number to).1 (record {
-            number = number;
-            node = node;
-            place = at;
-            way = inl (refl, subst (λ (o : Option ℕ). LeadsTo (length table.nodes) node o to) (sym e) has);
-          }))
-          by (Some making) e = on_more edges number (length table.nodes + making) to
-              (on_step edges number (length table.nodes + making) ((drawn number (length table.nodes + making)).1 (record {
-                number = number;
-                node = node;
-                place = at;
-                way = inl (refl, subst (λ (o : Option ℕ). LeadsTo (length table.nodes) node o (length table.nodes + making)) (sym e) refl);
-              })))
-              ((drawn (length table.nodes + making) to).1 (record {
-                number = number;
-                node = node;
-                place = at;
-                way = inr (making, e, refl, has);
-              }))
-
       on_beside : (number : ℕ) (node : StoredNode) (other : ℕ) (second : StoredNode) (making to : ℕ) → slice_get table.nodes number ≡ Some node → slice_get table.nodes other ≡ Some second
           → node.made_with ≡ Some making → second.made_with ≡ Some making → Contains (needed_numbers second) to → LeadsOn edges number to
       on_beside number node other second making to at there e f has =
@@ -392,6 +368,18 @@ module _ (table : NodeTable) (order : List ℕ) (whole : IsWhole table order) wh
             place = there;
             way = inr (making, f, refl, has);
           }))
+
+      on_needed : (number : ℕ) (node : StoredNode) (to : ℕ) → slice_get table.nodes number ≡ Some node → Contains (needed_numbers node) to → LeadsOn edges number to
+      on_needed number node to at has = by node.made_with refl
+        where
+          by : (o : Option ℕ) → node.made_with ≡ o → LeadsOn edges number to
+          by None e = on_step edges number to ((drawn number to).1 (record {
+            number = number;
+            node = node;
+            place = at;
+            way = inl (refl, subst (λ (o : Option ℕ). LeadsTo (length table.nodes) node o to) (sym e) has);
+          }))
+          by (Some making) e = on_beside number node number node making to at at e e has
 
       edge_on : (number : ℕ) (next : Text) → number < length table.names → HasEdge rules known goals (name_at table.names number) next
           → (to : ℕ) × (to < length table.names) × (name_at table.names to ≡ next) × LeadsOn edges number to

@@ -1,11 +1,11 @@
 -- Candidates of the code, and as those of the definitions.
 use Rattle.std.proofs.Common.{◌≡◌, ℕ, suc, zero, ◌+◌, ◌-◌, ◌<◌, ◌≤◌, Bool, true, false, not, ◌||◌, ◌==◌, if◌then◌else◌, List, [], ◌∷◌, ◌++◌, length, take, drop, get_or, filter, filter_map, flat_map, fold, All, Option, Some, None, option_map, refl, sym, ap, ◌∙◌, subst, arith, slice_get}
-use Rattle.kt_graph.proofs.Common.{cons_option, list_any, range_with_len, slice_range, IsNonDecreasingBy, IsPermutation, IsStableByKey, option_and_then, option_to_list, unwrap_or, nat_cmp, drop_all, drop_more, length-take, length-drop, All-filter, All-head, All-tail, All-weaker, filter_map-append, All-permutation, Text, Needs, Rule, is_terminal, Candidate, are_short, by_size, candidate_by, candidate_of, candidates_for, drops_any, matching_from, shorter, shortest, size_of, unless_long, without_any, AreWithin, IsFitWithin, candidate_at, candidate_view, candidates_view, fit_size, held_by_size, held_without_any, stays}
+use Rattle.kt_graph.proofs.Common.{cons_option, list_any, range_with_len, slice_range, IsNonDecreasingBy, IsPermutation, IsStableByKey, option_and_then, option_to_list, unwrap_or, nat_cmp, drop_all, drop_more, length-take, length-drop, All-filter, All-head, All-tail, All-weaker, filter_map-append, All-permutation, Text, Needs, Rule, is_terminal, Candidate, are_short, by_size, candidate_by, candidate_of, candidates_for, drops_any, matching_from, shorter, shortest, size_of, unless_long, without_any, AreWithin, IsFitWithin, candidate_at, candidate_view, candidates_view, held_by_size, held_without_any, stays}
 use Rattle.kt_graph.proofs.lemmas.search.SizeOrder.{bucket, in_buckets, same_buckets}
 use Rattle.kt_graph.specs.declared.search.candidate.Candidate.{Candidate as HeldCandidate}
 
 -- a stem is as long as its places say
-pub size_at : (name : Text) (rule : Rule) (candidate : HeldCandidate) → IsFitWithin name candidate.fit → size_of (candidate_at name rule candidate) ≡ fit_size candidate.fit
+pub size_at : (name : Text) (rule : Rule) (candidate : HeldCandidate) → IsFitWithin name candidate.fit → size_of (candidate_at name rule candidate) ≡ candidate.fit.size
 size_at name rule candidate within =
     let directory = within.directory in
     let stem = within.stem in
@@ -124,21 +124,21 @@ told_without_any rules name in_chain candidates within =
 -- ---- their order
 
 told_buckets : (rules : List Rule) (name : Text) (candidates : List HeldCandidate) → AreWithin rules name candidates → (sizes : List ℕ)
-    → candidates_view rules name (flat_map (λ size. filter (λ (c : HeldCandidate). fit_size c.fit == size) candidates) sizes)
+    → candidates_view rules name (flat_map (λ size. filter (λ (c : HeldCandidate). c.fit.size == size) candidates) sizes)
     ≡ flat_map (λ size. filter (λ c. size_of c == size) (candidates_view rules name candidates)) sizes
 told_buckets rules name candidates within [] = refl
 told_buckets rules name candidates within (size ∷ sizes) =
-    filter_map-append (candidate_view rules name) (filter (λ (c : HeldCandidate). fit_size c.fit == size) candidates)
-    (flat_map (λ n. filter (λ (c : HeldCandidate). fit_size c.fit == n) candidates) sizes)
-    ∙ ap (λ first. first ++ candidates_view rules name (flat_map (λ n. filter (λ (c : HeldCandidate). fit_size c.fit == n) candidates) sizes))
-    (told_filter rules name (λ c. fit_size c.fit == size) (λ c. size_of c == size) (λ c rule found w. ap (λ n. n == size) (sym (size_at name rule c w))) candidates within)
+    filter_map-append (candidate_view rules name) (filter (λ (c : HeldCandidate). c.fit.size == size) candidates)
+    (flat_map (λ n. filter (λ (c : HeldCandidate). c.fit.size == n) candidates) sizes)
+    ∙ ap (λ first. first ++ candidates_view rules name (flat_map (λ n. filter (λ (c : HeldCandidate). c.fit.size == n) candidates) sizes))
+    (told_filter rules name (λ c. c.fit.size == size) (λ c. size_of c == size) (λ c rule found w. ap (λ n. n == size) (sym (size_at name rule c w))) candidates within)
     ∙ ap (λ rest. filter (λ c. size_of c == size) (candidates_view rules name candidates) ++ rest) (told_buckets rules name candidates within sizes)
 
 pub told_by_size : (rules : List Rule) (name : Text) (candidates : List HeldCandidate) → AreWithin rules name candidates
     → candidates_view rules name (held_by_size (length name) candidates) ≡ by_size name (candidates_view rules name candidates)
 told_by_size rules name candidates within = told_buckets rules name candidates within (range_with_len 0 (length name + 1))
 
-size_within : (name : Text) (candidate : HeldCandidate) → IsFitWithin name candidate.fit → fit_size candidate.fit ≤ length name
+size_within : (name : Text) (candidate : HeldCandidate) → IsFitWithin name candidate.fit → candidate.fit.size ≤ length name
 size_within name candidate within =
     let directory = within.directory in
     let stem = within.stem in
@@ -151,14 +151,14 @@ flat_map-agree f g same [] = refl
 flat_map-agree f g same (n ∷ ns) = ap (λ first. first ++ flat_map f ns) (same n) ∙ ap (λ rest. g n ++ rest) (flat_map-agree f g same ns)
 
 -- candidates that are sorted stably by the sizes of their stems
-pub sorted_by_size : (old new : List HeldCandidate) → IsNonDecreasingBy (λ (c : HeldCandidate). fit_size c.fit) new
-    → IsStableByKey (λ (c : HeldCandidate). fit_size c.fit) nat_cmp old new → IsPermutation old new
-    → (longest : ℕ) → All (λ (c : HeldCandidate). fit_size c.fit ≤ longest) old → new ≡ held_by_size longest old
+pub sorted_by_size : (old new : List HeldCandidate) → IsNonDecreasingBy (λ (c : HeldCandidate). c.fit.size) new
+    → IsStableByKey (λ (c : HeldCandidate). c.fit.size) nat_cmp old new → IsPermutation old new
+    → (longest : ℕ) → All (λ (c : HeldCandidate). c.fit.size ≤ longest) old → new ≡ held_by_size longest old
 sorted_by_size old new up stable moved longest bound =
-    let key : HeldCandidate → ℕ = λ c. fit_size c.fit in
+    let key : HeldCandidate → ℕ = λ c. c.fit.size in
     in_buckets key new (longest + 1) up
-    (All-weaker (λ (c : HeldCandidate). fit_size c.fit ≤ longest) (λ (c : HeldCandidate). fit_size c.fit < longest + 1) (λ c l. omega arith) new
-    (All-permutation (λ (c : HeldCandidate). fit_size c.fit ≤ longest) old new moved bound))
+    (All-weaker (λ (c : HeldCandidate). c.fit.size ≤ longest) (λ (c : HeldCandidate). c.fit.size < longest + 1) (λ c l. omega arith) new
+    (All-permutation (λ (c : HeldCandidate). c.fit.size ≤ longest) old new moved bound))
     ∙ flat_map-agree (bucket key new) (bucket key old) (same_buckets key old new stable) (range_with_len 0 (longest + 1))
 
 -- ---- all of it
@@ -173,14 +173,14 @@ kept_within rules name in_chain candidates within = by (in_chain || list_any (λ
 
 pub candidates_tried : (rules : List Rule) (name : Text) (in_chain : Bool) (candidates kept sorted : List HeldCandidate) → AreWithin rules name candidates
     → candidates_view rules name candidates ≡ matching_from 0 rules name → kept ≡ held_without_any rules in_chain candidates
-    → ((longest : ℕ) → All (λ (c : HeldCandidate). fit_size c.fit ≤ longest) kept → sorted ≡ held_by_size longest kept)
+    → ((longest : ℕ) → All (λ (c : HeldCandidate). c.fit.size ≤ longest) kept → sorted ≡ held_by_size longest kept)
     → candidates_view rules name sorted ≡ candidates_for rules in_chain name
 unfolding candidates_for
 candidates_tried rules name in_chain candidates kept sorted within matching is order =
     let left : AreWithin rules name kept
     = subst (λ cs. AreWithin rules name cs) (sym is) (kept_within rules name in_chain candidates within) in
-    let short : All (λ (c : HeldCandidate). fit_size c.fit ≤ length name) kept
-    = All-weaker (λ (c : HeldCandidate). (c.rule < length rules) × IsFitWithin name c.fit) (λ (c : HeldCandidate). fit_size c.fit ≤ length name)
+    let short : All (λ (c : HeldCandidate). c.fit.size ≤ length name) kept
+    = All-weaker (λ (c : HeldCandidate). (c.rule < length rules) × IsFitWithin name c.fit) (λ (c : HeldCandidate). c.fit.size ≤ length name)
     (λ c w. size_within name c w.1) kept left in
     ap (candidates_view rules name) (order (length name) short)
     ∙ told_by_size rules name kept left

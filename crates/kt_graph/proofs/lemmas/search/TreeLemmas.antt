@@ -66,8 +66,7 @@ module _ (rules : List Rule) (known : List Text) where
       let deeper = fitting rules known left in
       let root = tree.0 in
       let c = in_filter (λ candidate. not (is_used used candidate.rule)) (candidates_for rules (is_begun used) name) root tree.1 (not_from_false (is_used used root.rule) tree.2) in
-      chosen_any left used candidates ∙
-      ⊎_elim (λ met. or_left _ _ (any_passes (is_met known) candidates root c met))
+      chosen_any left used candidates ∙ ⊎_elim (λ met. or_left _ _ (any_passes (is_met known) candidates root c met))
       (λ inferred. or_right (list_any (is_met known) candidates) _ (any_passes (is_inferred known deeper used) candidates root c inferred))
       (or_cases (is_met known root) (is_inferred known deeper used root) (root_passes left same used root tree.3 tree.4))
 

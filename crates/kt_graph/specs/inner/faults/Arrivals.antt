@@ -22,10 +22,8 @@ with_arrival counts vertex = set counts vertex (get_or counts vertex 0 + 1)
 
 -- one edge less, and the vertex goes to the work list if that was the last one
 abbrev pub without_arrival : List ℕ × List ℕ → ℕ → List ℕ × List ℕ
-without_arrival state vertex = (
-  set state.0 vertex (get_or state.0 vertex 0 - 1),
-  work_with (nat_eq (get_or state.0 vertex 0) 1) state.1 vertex,
-)
+without_arrival state vertex =
+    (set state.0 vertex (get_or state.0 vertex 0 - 1), work_with (nat_eq (get_or state.0 vertex 0) 1) state.1 vertex)
 
 -- how often a vertex is in a list
 abbrev pub arrivals_at : ℕ → List ℕ → ℕ

@@ -116,16 +116,14 @@ abbrev pub numbers_after : ℕ → ℕ → List ℕ
 numbers_after names count = map (λ making. names + making) (range_with_len 0 count)
 
 -- an edge from a name, or from a making to what one of its names needs
-abbrev pub IsEdgeOf : ℕ → ℕ → StoredNode → ℕ → ℕ → Type 0
-IsEdgeOf names number node from to =
-    ((from ≡ number) × LeadsTo names node node.made_with to)
-    ⊎ ((making : ℕ) × (node.made_with ≡ Some making) × (from ≡ names + making) × Contains (needed_numbers node) to)
-
 pub record IsEdge (nodes : List StoredNode) (from to : ℕ) : Type 0 where
   pub number : ℕ
   pub node : StoredNode
   pub place : slice_get nodes number ≡ Some node
-  pub way : IsEdgeOf (length nodes) number node from to
+  pub way :
+      ((from ≡ number) × LeadsTo (length nodes) node node.made_with to)
+      ⊎ ((making : ℕ) × (node.made_with ≡ Some making) × (from ≡ length nodes + making)
+      × Contains (needed_numbers node) to)
 
 -- the makings of nodes have numbers below a count
 abbrev pub AreMadeBelow : ℕ → List StoredNode → Type 0

@@ -1,11 +1,11 @@
--- The files of made names, as the code counts them, and the order of names (kati's own).
-use Rattle.std.specs.Prelude.{◌≡◌, ◌↔◌, ℕ, ◌<◌, Bool, nat_eq, nat_lt, List, length, map, filter, bytes_eq, Option, None}
-use Rattle.std.specs.Prelude.{Some, if◌then◌else◌}
-use Rattle.kt_graph.specs.Prelude.{Contains, IsStrictlySortedBy, nat_cmp, slice_cmp, Text, Node}
+-- The files of made names, as the code counts and spells them, and the order of names (kati's own).
+use Rattle.std.specs.Prelude.{◌≡◌, ◌↔◌, ℕ, ◌<◌, Bool, not, ◌||◌, ◌==◌, nat_eq, nat_lt, length, filter, bytes_eq, if◌then◌else◌}
+use Rattle.kt_graph.specs.Prelude.{List, None, Option, Some, map, Contains, IsStrictlySortedBy, list_all, nat_cmp}
+use Rattle.kt_graph.specs.Prelude.{slice_cmp, slice_split, Text, Node}
 use Rattle.std.specs.Map.{lookup}
 use Rattle.kt_graph.specs.declared.faults.files.Files.{Files}
 use Rattle.kt_graph.specs.nodes.Groups.{made_nodes}
-use Rattle.kt_graph.specs.faults.Paths.{canon_of}
+use Rattle.kt_graph.specs.faults.Paths.{above_name, canon_of, is_idle}
 use Rattle.kt_graph.specs.nodes.Views.{name_at, names_at}
 
 -- the number of names that are names of a file
@@ -39,3 +39,13 @@ AreDistinct names = (one other : ℕ) → one < length names → other < length 
 pub record IsByteOrder (names : List Text) (order : List ℕ) : Type 0 where
   pub rises : IsStrictlySortedBy (slice_cmp nat_cmp) (names_at names order)
   pub all : (number : ℕ) → Contains order number ↔ (number < length names)
+
+-- ---- names with plain components only: each is the canonical spelling of its file
+
+-- a component that isn't empty, `.` or `..`
+abbrev pub is_name : Text → Bool
+is_name part = not (is_idle part || bytes_eq part above_name)
+
+-- whether each component of a name is such a one
+unfoldable pub has_names_only : Text → Bool
+has_names_only name = list_all is_name (slice_split (λ byte. byte == 47) name)

@@ -117,5 +117,4 @@ pub record IsDone (rules : List Rule) (known goals : List Text) (names : List Te
 
 -- no node remains to be built
 abbrev pub IsBuilt : List Rule → List Text → List Text → GraphBuilder → Type 0
-IsBuilt rules known goals builder =
-    IsDone rules known goals builder.numbers builder.instances.keys builder.nodes
+IsBuilt rules known goals builder = IsDone rules known goals builder.numbers builder.instances.keys builder.nodes

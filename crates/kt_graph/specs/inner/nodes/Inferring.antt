@@ -1,9 +1,9 @@
 -- What a chosen pattern rule gives to a name, as the code holds it (kati's own).
-use Rattle.std.specs.Prelude.{◌≡◌, nat_lt, List, [], ◌∷◌, ◌++◌, length, Option, Some, None, MatchOption, option_map}
-use Rattle.std.specs.Prelude.{slice_get, if◌then◌else◌}
-use Rattle.kt_graph.specs.Prelude.{Text, Target, Rule, Chosen, Implicit, Candidate, needs_with}
+use Rattle.std.specs.Prelude.{◌≡◌, nat_lt, ◌++◌, length, Some, None, MatchOption, option_map, slice_get, if◌then◌else◌}
+use Rattle.kt_graph.specs.Prelude.{Text, Target, Rule, Chosen, Implicit, Candidate, needs_with, List, Option}
 use Rattle.kt_graph.specs.declared.nodes.inferring.Inferred.{Inferred}
 use Rattle.kt_graph.specs.nodes.Node.{Instance, Node, of_pattern, implicit_node, joined_needs, needs_after}
+use Rattle.kt_graph.specs.inner.nodes.Needed.{single_node}
 use Rattle.kt_graph.specs.inner.nodes.Stems.{stem_in}
 use Rattle.kt_graph.specs.nodes.Views.{instance_view}
 
@@ -27,16 +27,9 @@ Infers name rules chosen inferred =
 
 -- the node of a name, from what the chosen rule gives
 abbrev pub inferred_node : Text → List (Rule × Target) → Inferred → Node
-inferred_node name rules inferred = record {
-  name = name;
-  kind = Implicit;
-  parts = record {
-    recipe = option_map (λ lines. lines.now) inferred.recipe;
-    stem = stem_in name inferred.stem;
-    needs = needs_after inferred.needs (joined_needs rules);
-  } ∷ [];
-  made_with = option_map instance_view inferred.making;
-}
+inferred_node name rules inferred =
+    single_node name Implicit (record { recipe = inferred.recipe; stem = inferred.stem })
+    (needs_after inferred.needs (joined_needs rules)) (option_map instance_view inferred.making)
 
 -- what is given comes from the candidate that the search finds and its rule
 abbrev pub InfersFrom : Text → Option (Candidate × Rule) → Option Inferred → Type 0

@@ -30,13 +30,8 @@ pub record StoredNode : Type 0 where
 
 -- the node with a number; where there is none, a leaf that needs nothing
 abbrev pub stored_at : List StoredNode → ℕ → StoredNode
-stored_at nodes number = get_or nodes number (record {
-  kind = Leaf;
-  parts = [];
-  made_with = None;
-  inputs = [];
-  order_only = [];
-})
+stored_at nodes number =
+    get_or nodes number (record { kind = Leaf; parts = []; made_with = None; inputs = []; order_only = [] })
 
 -- the prerequisites of parts, each once
 abbrev pub input_numbers : List StoredPart → List ℕ

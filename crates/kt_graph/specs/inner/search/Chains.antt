@@ -39,8 +39,7 @@ pub record IsRight (rules : List Rule) (known : List Text) (tried : List Questio
       → IsFound rules question.name (expected_for rules known question) (unwrap_or (slice_get answers place) None)
   pub closed : (place : ℕ) (question : Question) → slice_get tried place ≡ Some question
       → least ≤ length question.used.items
-      → (asked : Sought) → Contains (asking rules known (left_for question) question.used.items question.name)
-      asked
+      → (asked : Sought) → Contains (asking rules known (left_for question) question.used.items question.name) asked
       → list_any (asked_eq asked) (map question_view tried) ≡ true
 
 abbrev pub IsRightFor : List Rule → List Text → Tried → ℕ → Type 0

@@ -1,6 +1,6 @@
 use Rattle.std.proofs.Common.{◌+◌, ◌&&◌, ◌∙◌, take, sym, ap}
 use Rattle.std.proofs.lemmas.List.{take_rest}
-use Rattle.kt_graph.specs.inner.faults.Spelling.{has_names_only, is_name}
+use Rattle.kt_graph.specs.inner.faults.Files.{has_names_only, is_name}
 use Rattle.kt_graph.proofs.lemmas.faults.SpellingLemmas.{cut_at_slash, no_slash}
 use Rattle.kt_graph.proofs.faults.spelling.first_part.Goals as goal
 

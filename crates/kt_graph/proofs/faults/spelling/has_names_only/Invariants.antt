@@ -1,5 +1,5 @@
 use Rattle.std.proofs.Common.{◌≡◌, length}
-use Rattle.kt_graph.specs.inner.faults.Spelling.{has_names_only}
+use Rattle.kt_graph.specs.inner.faults.Files.{has_names_only}
 use Rattle.kt_graph.proofs.faults.spelling.has_names_only.Given as goal
 
 abbrev pub invariant-loop-part : goal.invariant-loop-part

@@ -1,6 +1,6 @@
 use Rattle.std.proofs.Common.{sym, ◌∙◌, ap}
 use Rattle.std.proofs.lemmas.List.{take_rest}
-use Rattle.kt_graph.specs.inner.faults.Spelling.{has_names_only}
+use Rattle.kt_graph.specs.inner.faults.Files.{has_names_only}
 use Rattle.kt_graph.proofs.lemmas.faults.SpellingLemmas.{rooted_spelling, spelled_plainly}
 use Rattle.kt_graph.proofs.faults.spelling.is_canonical.Goals as goal
 

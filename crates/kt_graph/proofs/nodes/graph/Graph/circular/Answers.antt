@@ -15,8 +15,7 @@ returns-in-Some c = λ rules known goals graph.
     rw (c.name_of.ensures, c.names.ensures)
     (first_cyclic held.table held.order.items c.self.invariant rules known goals
     (subst (IsGraph rules known goals) (sym c.self.view_is) graph) c.in_ok-edges.edges
-    (rw c.nodes.ensures.value at c.in_ok-edges.ensures.edges) c.in-Some.number
-    (rw c.as_slice.ensures.value at first))
+    (rw c.nodes.ensures.value at c.in_ok-edges.ensures.edges) c.in-Some.number (rw c.as_slice.ensures.value at first))
 
 pub returns : goal.returns
 returns c = λ rules known goals graph.
@@ -24,5 +23,4 @@ returns c = λ rules known goals graph.
     let none = MatchOption-at_none _ _ c.in-None.is c.in_ok-number.ensures in
     none_cyclic held.table held.order.items c.self.invariant rules known goals
     (subst (IsGraph rules known goals) (sym c.self.view_is) graph) c.in_ok-edges.edges
-    (rw c.nodes.ensures.value at c.in_ok-edges.ensures.edges)
-    (rw c.as_slice.ensures.value at none)
+    (rw c.nodes.ensures.value at c.in_ok-edges.ensures.edges) (rw c.as_slice.ensures.value at none)

@@ -4,5 +4,4 @@ use Rattle.kt_graph.proofs.nodes.graph.Graph.has_plain_names.Given as goal
 
 abbrev pub invariant-loop-number : goal.invariant-loop-number
 invariant-loop-number l = (place : ℕ) → place < l.number
-    → (canon_of (name_at l.names place) ≡ name_at l.names place)
-    × (is_reserved (name_at l.names place) ≡ false)
+    → (canon_of (name_at l.names place) ≡ name_at l.names place) × (is_reserved (name_at l.names place) ≡ false)

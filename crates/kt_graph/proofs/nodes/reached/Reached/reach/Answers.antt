@@ -11,6 +11,5 @@ returns-in-None-clause-reached c =
     let old = c.args.self.now in
     let new = c.push.new.self in
     let number = c.args.number in
-    IfOk-weaker c.push.result (IsPushed old number new)
-    (ReachesNumber old number new)
+    IfOk-weaker c.push.result (IsPushed old number new) (ReachesNumber old number new)
     (λ place pushed names name is at. reached_now names old new name number place c.in-None.ensures pushed is at) c.push.ensures.pushed

@@ -1,16 +1,13 @@
-use Rattle.std.proofs.Common.{◌++◌, ◌∷◌, ◌∙◌, [], None, ap, subst, sym}
-use Rattle.kt_graph.proofs.Common.{DoubleColon, AreStored, stored_with, nodes_stored, parts_held}
-use Rattle.kt_graph.proofs.lemmas.nodes.StoredLemmas.{nodes_push, stored_more, stored_push}
+use Rattle.std.proofs.Common.{◌++◌, ◌∷◌, ◌∙◌, [], None, ap}
+use Rattle.kt_graph.proofs.Common.{DoubleColon, stored_with, nodes_stored, parts_held}
+use Rattle.kt_graph.proofs.lemmas.nodes.StoredLemmas.{nodes_push, stored_push}
 use Rattle.kt_graph.proofs.nodes.stored.StoredNodes.push_double.Goals as goal
 
 pub invariant_of-self-2 : goal.invariant_of-self-2
 invariant_of-self-2 c =
-    let parts = c.put_double.new.held.items in
-    let rows = c.put_double.new.rows in
-    subst (AreStored parts rows) (sym c.in_ok-push.ensures.items)
-    (stored_push parts rows c.self.inside.heads.items c.in_ok-head.head
-    (stored_more c.self.inside.parts.items parts c.self.inside.rows rows c.self.inside.heads.items c.in_ok-head.ensures.grew c.self.invariant)
-    c.in_ok-head.ensures.head.within)
+    stored_push c.self.inside.parts.items c.put_double.new.held.items c.self.inside.rows c.put_double.new.rows
+    c.self.inside.heads.items _ c.in_ok-head.head c.in_ok-push.ensures.items c.in_ok-head.ensures.grew c.self.invariant
+    c.in_ok-head.ensures.head.within
 
 pub returns : goal.returns
 returns c =
