@@ -7,12 +7,11 @@ unfoldable pub use Rattle.kt_eval.specs.State.{innermost, lookup, seen}
 pub use Rattle.kt_eval.specs.declared.macros.Flavour.TheVariants.{Deferred, Immediate}
 pub use Rattle.kt_eval.specs.declared.macros.Macro.{Macro}
 pub use Rattle.kt_eval.specs.declared.stop.Stop.{Stop}
-unfoldable pub use Rattle.kt_eval.specs.expanding.Calls.{arguments_from, arguments_of, asked_by, asked_of, function_of, is_refused_function, naming_of, other_function}
+unfoldable pub use Rattle.kt_eval.specs.expanding.Calls.{arguments_from, arguments_of, asked_by, asked_of, function_of, is_refused_function, names_plainly, naming_of, other_function}
 pub use Rattle.kt_eval.specs.expanding.Expansion.{Evaluator, flavoured}
 unfoldable pub use Rattle.kt_eval.specs.expanding.Expansion.{apply, apply_error, apply_eval, apply_foreach, apply_info, body_of, each_argument, each_term, each_word, expanded, referred, term_of, value_named, value_of}
 unfoldable pub use Rattle.kt_eval.specs.expanding.Levels.{above, evaluator, none_left}
 pub use Rattle.kt_eval.specs.expanding.Pure.{Says}
-pub use Rattle.kt_eval.specs.inner.Plain.{names_plainly}
 unfoldable pub use Rattle.kt_eval.specs.macros.Macros.{find}
 pub use Rattle.kt_list.specs.Prefixes.{IsPrefix}
 pub use Rattle.kt_recipe.specs.Automatic.{MacrosOf, endings, of_mark}

@@ -11,5 +11,6 @@ pub mod DeeperLemmas
 pub mod TermLemmas
 pub mod PlainLemmas
 pub mod PreparedLemmas
+pub mod PreparedCallLemmas
 pub mod CommandLemmas
 mod RowLemmas

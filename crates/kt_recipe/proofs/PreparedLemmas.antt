@@ -1,13 +1,13 @@
 -- Pieces stand for what a text expands to, in each part of each node.
 use Rattle.std.proofs.Common.{◌≡◌, ℕ, zero, suc, ◌-◌, Bool, true, false, List, [], ◌∷◌, ◌++◌, Option, Some, None, option_map, refl, sym, ap, ◌∙◌, arith, true≢false, IfSome, MatchOption, codes}
-use Rattle.kt_recipe.proofs.Common.{append-nil, append_assoc, Text, Token, literal, dollar, reference, terms_of, Place, Deferred, Macro, Outcome, Gave, done, leaving, then_do, World, fixed_or, found_of, frozen_world, innermost, lookup, Evaluator, each_term, expanded, flavoured, term_of, value_of, above, evaluator, names_plainly, Table, find, Node, Form, Subject, automatic_in, names_in, text_of, CommandsOf, expansion}
+use Rattle.kt_recipe.proofs.Common.{append-nil, append_assoc, Text, Token, literal, dollar, reference, terms_of, Place, Macro, Outcome, Gave, done, leaving, then_do, World, fixed_or, found_of, frozen_world, innermost, lookup, Evaluator, each_term, expanded, flavoured, term_of, value_of, above, evaluator, names_plainly, Table, find, Node, Form, Subject, automatic_in, names_in, text_of, CommandsOf, expansion}
 use Rattle.kt_syntax.specs.declared.term.Mark.{Mark}
+use Rattle.kt_eval.specs.Step.{Step}
 use Rattle.kt_eval.proofs.lemmas.expanding.PlainLemmas.{plainly_is}
 use Rattle.kt_recipe.specs.declared.prepared.Gap.{Gap}
 use Rattle.kt_recipe.specs.declared.prepared.Pieces.{Pieces}
 use Rattle.kt_recipe.specs.inner.Asking.{asked_by, macro_in}
-use Rattle.kt_recipe.specs.inner.Kept.{IsFilled}
-use Rattle.kt_recipe.specs.inner.Prepared.{Adds, AddsMacro, AddsText, IsPrepared, filled, filled_gaps}
+use Rattle.kt_recipe.specs.inner.Prepared.{Adds, AddsMacro, AddsText, IsFilled, IsPrepared, filled, filled_gaps}
 use Rattle.kt_recipe.proofs.AskingLemmas.{found_by_name}
 
 -- ---- pieces
@@ -117,16 +117,16 @@ nothing_adds table e name pieces none found node part place said =
       ap (λ found. value_of e found w) (in_table node part name table place said none ∙ ap (option_map found_of) found),
     )
 
--- a value is expanded one level deeper
-pub deeper_adds : (table : Table) (limit : ℕ) (value : Text) (old new : Pieces) → (limit ≡ 0 → ⊥)
-    → Adds table (expanded (evaluator false [] (limit - 1)) value) old new → Adds table (flavoured (evaluator false [] limit) Deferred value) old new
+-- a text is expanded one level deeper
+pub deeper_adds : (table : Table) (limit : ℕ) (text : Text) (old new : Pieces) → (limit ≡ 0 → ⊥)
+    → Adds table (expanded (evaluator false [] (limit - 1)) text) old new → Adds table ((evaluator false [] limit).expand text) old new
 unfolding evaluator above
-deeper_adds table zero value old new some adds node part place said = absurd (some refl)
-deeper_adds table (suc limit) value old new some adds node part place said =
+deeper_adds table zero text old new some adds node part place said = absurd (some refl)
+deeper_adds table (suc limit) text old new some adds node part place said =
     let w = frozen_world table (automatic_in node part) place said in
     let more = adds node part place said in
     let less : suc limit - 1 ≡ limit = omega arith in
-    (more.0, more.1, ap (λ limit. expanded (evaluator false [] limit) value w) (sym less) ∙ more.2)
+    (more.0, more.1, ap (λ limit. expanded (evaluator false [] limit) text w) (sym less) ∙ more.2)
 
 -- ---- the terms of a text, one after another
 
@@ -167,11 +167,12 @@ all_added table e text left old now is before node part place said =
 
 -- ---- a text
 
--- what is added to no pieces is what the text expands to
-pub is_prepared : (table : Table) (limit : ℕ) (text : Text) (none pieces : Pieces) → none.gaps.items ≡ [] → none.end.items ≡ []
-    → Adds table (expanded (evaluator false [] limit) text) none pieces → IsPrepared table limit text pieces
+-- what is added to no pieces is what the step gives
+pub added_to_none : (table : Table) (step : Step Text) (none pieces : Pieces) → none.gaps.items ≡ [] → none.end.items ≡ []
+    → Adds table step none pieces → (node : Node) (part : ℕ) (place : Option Place) (said : List Text)
+    → step (frozen_world table (automatic_in node part) place said) ≡ Gave (frozen_world table (automatic_in node part) place said) (filled node part pieces)
 unfolding filled filled_gaps
-is_prepared table limit text none pieces gaps end adds node part place said =
+added_to_none table step none pieces gaps end adds node part place said =
     let w = frozen_world table (automatic_in node part) place said in
     let more = adds node part place said in
     let is : filled node part pieces ≡ more.0 =

@@ -45,11 +45,10 @@ names_of target stem needs Member = []
 -- the prerequisites of a part of a node, which has those of its own rule alone [Double-Colon Rules]; a part that the
 -- node doesn't have has none
 abbrev pub needs_in : Node → ℕ → Needs
-needs_in node part =
-    record {
-      prerequisites = part_needed (slice_get node.parts part);
-      order_only = part_order_only (slice_get node.parts part);
-    }
+needs_in node part = record {
+  prerequisites = part_needed (slice_get node.parts part);
+  order_only = part_order_only (slice_get node.parts part);
+}
 
 abbrev pub names_in : Node → ℕ → Subject → List Text
 names_in node part subject = names_of node.name (part_stem (slice_get node.parts part)) (needs_in node part) subject
@@ -61,8 +60,7 @@ of_mark node part subject =
 
 -- the automatic macros in the recipe of a part of a node: their names and values
 unfoldable pub automatic_in : Node → ℕ → Store
-automatic_in node part =
-    flat_map (λ mark. map (λ macro. (mark.0 ∷ macro.0, macro.1)) (of_mark node part mark.1)) marks
+automatic_in node part = flat_map (λ mark. map (λ macro. (mark.0 ∷ macro.0, macro.1)) (of_mark node part mark.1)) marks
 
 -- a node's part as its automatic macros are held
 pub record MacrosOf : Type 0 where

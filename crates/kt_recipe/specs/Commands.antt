@@ -15,8 +15,7 @@ pub record Line : Type 0 where
   pub text : Text
 
 abbrev pub line_with : Table → Store → ℕ → RecipeLine → Line
-line_with table automatic limit line =
-    record { at = setting_of table automatic limit line.place; text = line.text }
+line_with table automatic limit line = record { at = setting_of table automatic limit line.place; text = line.text }
 
 -- the lines of a part's recipe, with its automatic macros; without a recipe there is none
 abbrev pub lines_in : Table → ℕ → Node → ℕ → List Line

@@ -73,59 +73,35 @@ pub record RowsOfMacros : Type 0 where
 
 -- commands
 pub record RowsOfCommands : Type 0 where
-  pub quotes :
-      comes_to (with_shell [])
-      (simple (line 1 (codes "echo \"it's $$HOME\"") ∷ []))
+  pub quotes : comes_to (with_shell []) (simple (line 1 (codes "echo \"it's $$HOME\"") ∷ []))
       ≡ Gave [] (Some (codes "/bin/sh -c 'echo \"it'\\''s $HOME\"'"))
-  pub canned :
-      comes_to (with_shell (deferred (codes "go") (codes "@echo one\n-false") ∷ []))
+  pub canned : comes_to (with_shell (deferred (codes "go") (codes "@echo one\n-false") ∷ []))
       (simple (line 1 (codes "$(go)") ∷ []))
       ≡ Gave [] (Some (codes "/bin/sh -c 'echo one' && { /bin/sh -c 'false' || :; }"))
-  pub marked :
-      comes_to (with_shell [])
-      (simple (line 1 (codes "@-a") ∷ []))
+  pub marked : comes_to (with_shell []) (simple (line 1 (codes "@-a") ∷ []))
       ≡ Gave [] (Some (codes "{ /bin/sh -c 'a' || :; }"))
-  pub marked_line :
-      comes_to (with_shell (deferred (codes "X") (codes "a\n @- \nb") ∷ []))
+  pub marked_line : comes_to (with_shell (deferred (codes "X") (codes "a\n @- \nb") ∷ []))
       (simple (line 1 (codes "-$(X)") ∷ []))
       ≡ Gave [] (Some (codes "{ /bin/sh -c 'a' || :; } && { /bin/sh -c 'b' || :; }"))
-  pub three_pieces :
-      comes_to (with_shell (deferred (codes "go") (codes "@echo one\n-false") ∷ []))
+  pub three_pieces : comes_to (with_shell (deferred (codes "go") (codes "@echo one\n-false") ∷ []))
       (simple (line 1 (codes "-a") ∷ line 2 (codes "$(go)") ∷ []))
       ≡ Gave [] (Some (codes "{ /bin/sh -c 'a' || :; } && /bin/sh -c 'echo one' && { /bin/sh -c 'false' || :; }"))
-  pub trailing_blank :
-      comes_to (with_shell [])
-      (simple (line 1 (codes "a ") ∷ line 2 (codes " @ ") ∷ []))
+  pub trailing_blank : comes_to (with_shell []) (simple (line 1 (codes "a ") ∷ line 2 (codes " @ ") ∷ []))
       ≡ Gave [] (Some (codes "/bin/sh -c 'a '"))
-  pub no_piece :
-      comes_to (with_shell [])
-      (simple (line 1 (codes "$(X)") ∷ []))
-      ≡ Gave [] None
-  pub double_colon :
-      comes_to (with_shell [])
-      (doubled)
+  pub no_piece : comes_to (with_shell []) (simple (line 1 (codes "$(X)") ∷ [])) ≡ Gave [] None
+  pub double_colon : comes_to (with_shell []) doubled
       ≡ Gave [] (Some (codes "/bin/sh -c 'one b' && /bin/sh -c 'two c'"))
-  pub message :
-      comes_to (with_shell [])
-      (simple (line 1 (codes "a$(info hi)") ∷ []))
+  pub message : comes_to (with_shell []) (simple (line 1 (codes "a$(info hi)") ∷ []))
       ≡ Gave (codes "hi" ∷ []) (Some (codes "/bin/sh -c 'a'"))
   pub shell_anew :
       comes_to (deferred (codes "SHELL") (codes "$(info s)sh") ∷ deferred (codes ".SHELLFLAGS") (codes "-c") ∷ [])
       (simple (line 1 (codes "$(info 1)a") ∷ line 2 (codes "$(info 2)b") ∷ []))
       ≡ Gave (codes "1" ∷ codes "s" ∷ codes "2" ∷ codes "s" ∷ []) (Some (codes "sh -c 'a' && sh -c 'b'"))
-  pub fault_in_shell :
-      comes_to (deferred (codes "SHELL") (codes "$(error $@)") ∷ [])
-      (simple (line 3 (codes "a") ∷ []))
+  pub fault_in_shell : comes_to (deferred (codes "SHELL") (codes "$(error $@)") ∷ []) (simple (line 3 (codes "a") ∷ []))
       ≡ Stopped [] (fault_at (at_m 3) 19 (codes "t"))
-  pub eval_refused :
-      comes_to (with_shell [])
-      (simple (line 1 (codes "$(eval A = 1)") ∷ []))
+  pub eval_refused : comes_to (with_shell []) (simple (line 1 (codes "$(eval A = 1)") ∷ []))
       ≡ Stopped [] (fault_at (at_m 1) 32 (codes "eval in a recipe"))
-  pub first_fault :
-      comes_to (with_shell [])
-      (simple (line 2 (codes "$(info 1)a") ∷ line 3 (codes "$(x") ∷ []))
+  pub first_fault : comes_to (with_shell []) (simple (line 2 (codes "$(info 1)a") ∷ line 3 (codes "$(x") ∷ []))
       ≡ Stopped (codes "1" ∷ []) (fault_at (at_m 3) 7 (codes "unterminated reference"))
-  pub hidden_table :
-      comes_to (with_shell (deferred (codes "@") (codes "table") ∷ []))
-      (simple (line 1 (codes "$(foreach @,a b,$@) $@") ∷ []))
-      ≡ Gave [] (Some (codes "/bin/sh -c 'a b t'"))
+  pub hidden_table : comes_to (with_shell (deferred (codes "@") (codes "table") ∷ []))
+      (simple (line 1 (codes "$(foreach @,a b,$@) $@") ∷ [])) ≡ Gave [] (Some (codes "/bin/sh -c 'a b t'"))

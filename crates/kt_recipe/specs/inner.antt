@@ -2,4 +2,3 @@
 pub mod Asking
 pub mod Plain
 pub mod Prepared
-pub mod Kept

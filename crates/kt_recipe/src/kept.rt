@@ -1,7 +1,6 @@
 //! The lines of the recipe that was expanded last.
 ghost use Rattle.std.specs.Prelude.{◌≡◌, IfOk, IfSome, MatchOption, false, true};
-ghost use Rattle.kt_recipe.specs.inner.Kept.{IsFilled, IsRightLine};
-ghost use Rattle.kt_recipe.specs.inner.Prepared.{filled};
+ghost use Rattle.kt_recipe.specs.inner.Prepared.{IsFilled, IsRightLine, filled};
 
 use crate::prepared::Pieces;
 use kt_eval::Macros;
@@ -58,7 +57,7 @@ pub(crate) struct KeptLines<'m> {
 
 impl<'m> Model for KeptLines<'m> {
     ghost use Rattle.kt_recipe.specs.Shell.{CommandsOf};
-    ghost use Rattle.kt_recipe.specs.inner.Kept.{IsRightLine};
+    ghost use Rattle.kt_recipe.specs.inner.Prepared.{IsRightLine};
     ghost use Rattle.std.specs.List.{All};
 
     ghost Value = { CommandsOf };

@@ -177,6 +177,74 @@ fn lines_of_other_nodes(rt: HostRuntime) {
     tells(&rt, rt.alloc(), 100, ROWS);
 }
 
+#[test]
+fn calls_that_are_known(rt: HostRuntime) {
+    const ROWS: &[Row] = &[
+        (
+            "a b: s ; x $(if $(filter 1,0),$<,$^ $@) $(if 1,$@,no)$(if ,no)$(if ,no,${@}) $(subst a,[$$],aba)\n",
+            "",
+            "a\nb",
+            "/bin/sh -c 'x s a aa [$]b[$]'\n/bin/sh -c 'x s b bb [$]b[$]'\n",
+        ),
+        (
+            "N = 2\nV = $(word $N,p q r)\nW = $(if $(V),$(addprefix -$(V),c d) $@)\na b: ; : $W $(V:q=z)\nN = 3\n",
+            "",
+            "a\nb",
+            "/bin/sh -c ': -rc -rd a r'\n/bin/sh -c ': -rc -rd b r'\n",
+        ),
+        (
+            "a b: ; $(words $@ $(U)) $(if $@,$(if  ,x,y)) $(or ,$@) $(and $@,1)\n",
+            "",
+            "a\nb",
+            "/bin/sh -c '1 y a 1'\n/bin/sh -c '1 y b 1'\n",
+        ),
+        (
+            "a: ; $(if a)\n",
+            "",
+            "a",
+            "Makefile:1: *** bad argument of if [E18]\n",
+        ),
+        (
+            "a: ; $(word x,a b)\n",
+            "",
+            "a",
+            "Makefile:1: *** bad argument of word [E18]\n",
+        ),
+        (
+            "a: ; $(if $(info i)1,$(word 2,a b),$(error e)) $(sort $(info j)c b)\n",
+            "",
+            "a",
+            "/bin/sh -c 'b b c'\ni\nj\n",
+        ),
+    ];
+    tells(&rt, rt.alloc(), 100, ROWS);
+}
+
+#[test]
+fn counts_levels_of_calls(rt: HostRuntime) {
+    const ROWS: &[Row] = &[
+        (
+            "A = x\nt: ; $(if $(A),$(sort $@ b))\n",
+            "",
+            "t",
+            "/bin/sh -c 'b t'\n",
+        ),
+        (
+            "A = x\nt: ; $(if ,,$(if 1,$(A)))\n",
+            "",
+            "t",
+            "Makefile:2: *** nesting too deep [E08]\n",
+        ),
+        (
+            "A = x\nt: ; $(sort $(sort $(A)))\n",
+            "",
+            "t",
+            "Makefile:2: *** nesting too deep [E08]\n",
+        ),
+    ];
+    tells(&rt, rt.alloc(), 2, ROWS);
+}
+
 // More lines than are kept.
 #[test]
 fn long_recipes(rt: HostRuntime) {

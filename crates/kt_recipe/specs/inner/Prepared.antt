@@ -1,12 +1,17 @@
--- Texts of which all but the automatic macros is known before any node is (the crate's own).
-use Rattle.std.specs.Prelude.{◌≡◌, ℕ, false, List, [], ◌∷◌, ◌++◌, Option}
+-- Texts of which all but the automatic macros is known before any node is, and lines that are kept with them (the
+-- crate's own).
+use Rattle.std.specs.Prelude.{◌≡◌, ℕ, false, List, [], ◌∷◌, ◌++◌, IfSome, Option, Some}
 use Rattle.kt_recipe.specs.Prelude.{Text, Place, Gave, Step, Table, Node, Form, Subject, automatic_in, names_in}
 use Rattle.kt_eval.specs.State.{frozen_world}
 use Rattle.kt_eval.specs.expanding.Expansion.{expanded}
 use Rattle.kt_eval.specs.expanding.Levels.{evaluator}
+use Rattle.kt_eval.specs.expanding.TextFunctions.{text_result}
+use Rattle.kt_text.specs.declared.functions.text_function.TextFunction.{TextFunction}
+use Rattle.kt_recipe.specs.declared.kept.KeptLine.{KeptLine}
 use Rattle.kt_recipe.specs.declared.prepared.Gap.{Gap}
 use Rattle.kt_recipe.specs.declared.prepared.Pieces.{Pieces}
 use Rattle.kt_recipe.specs.Forms.{text_of}
+use Rattle.kt_recipe.specs.Shell.{CommandsOf, expansion, setting_of}
 
 -- the automatic macros of a part of a node, each after the text before it
 unfoldable pub filled_gaps : Node → ℕ → List Gap → Text
@@ -35,9 +40,35 @@ abbrev pub AddsMacro : Subject → Form → Pieces → Pieces → Type 0
 AddsMacro subject form old new =
     (node : Node) (part : ℕ) → filled node part new ≡ filled node part old ++ text_of form (names_in node part subject)
 
+-- a text that a text function gives for its arguments is put after pieces
+abbrev pub AddsResult : TextFunction → List Text → Pieces → Pieces → Type 0
+AddsResult function arguments old new =
+    (text : Text) × (text_result function arguments ≡ Some text) × AddsText text old new
+
+-- pieces are a text in each part of each node
+abbrev pub AreText : Pieces → Text → Type 0
+AreText pieces text = (node : Node) (part : ℕ) → filled node part pieces ≡ text
+
+-- what a step gives in each part of each node, with these macros; it leaves all else as it was
+abbrev pub IsKnown : {A : Type 0} → Table → Step A → A → Type 0
+IsKnown table step value =
+    (node : Node) (part : ℕ) (place : Option Place) (said : List Text)
+    → step (frozen_world table (automatic_in node part) place said)
+    ≡ Gave (frozen_world table (automatic_in node part) place said) value
+
 -- the pieces are what a text expands to in each part of each node
 abbrev pub IsPrepared : Table → ℕ → Text → Pieces → Type 0
 IsPrepared table limit text pieces =
     (node : Node) (part : ℕ) (place : Option Place) (said : List Text)
     → expanded (evaluator false [] limit) text (frozen_world table (automatic_in node part) place said)
     ≡ Gave (frozen_world table (automatic_in node part) place said) (filled node part pieces)
+
+-- the pieces of a line, if it has some, are those of its text
+abbrev pub IsRightLine : Table → ℕ → KeptLine → Type 0
+IsRightLine table limit line = IfSome line.pieces (λ pieces. IsPrepared table limit line.text.items pieces)
+
+-- a text is what a line expands to in a part of a node, at each place, and nothing is said
+abbrev pub IsFilled : CommandsOf → Text → Node → ℕ → Text → Type 0
+IsFilled commands line node part text =
+    (place : Place) (said : List Text)
+    → expansion (setting_of commands.table (automatic_in node part) commands.limit place) line said ≡ Gave said text

@@ -1,5 +1,9 @@
-use Rattle.std.proofs.Common.{◌≡◌, [], false, true, sym, rules}
-use Rattle.kt_recipe.proofs.Common.{IfOk-weaker, dollar, literal, reference, terms_of, token_of, evaluator, names_plainly}
+use Rattle.std.proofs.Common.{◌≡◌, ◌==◌, ◌+◌, ◌∙◌, ℕ, List, [], Bor, false, true, sym, ap, arith, rules, drop, get_or, length, map, option_map}
+use Rattle.std.proofs.lemmas.List.{drop_all, drop_more, length-map}
+use Rattle.kt_recipe.proofs.Common.{IfOk-weaker, Text, dollar, literal, reference, terms_of, token_of, apply, asked_by, evaluator, names_plainly}
+use Rattle.kt_text.specs.TextFunctions.{arity}
+use Rattle.kt_eval.specs.expanding.Calls.{calls}
+use Rattle.kt_recipe.proofs.PreparedCallLemmas.{applied_adds, argument_known, arguments_known, call_adds, chosen_adds, known_is, none_chosen_adds, other_adds, some_weaker, three_are, two_are}
 use Rattle.kt_recipe.proofs.PreparedLemmas.{all_added, deeper_adds, dollar_adds, entry_adds, known_adds, literal_adds, macro_adds, nothing_adds, reference_adds, term_added}
 use Rattle.kt_recipe.proofs.prepared.+prepare.Goals as goal
 
@@ -37,8 +41,8 @@ put_term-returns-in-Ok-Dollar t c =
     (λ known adds yes. dollar_adds c.args.macros.now (evaluator false [] c.args.limit) c.args.pieces.now c.put_known-in-Ok-Dollar.new.pieces adds)
     c.put_known-in-Ok-Dollar.ensures)
 
-pub put_term-returns-else-not-names_plainly : goal.put_term-returns-else-not-names_plainly
-put_term-returns-else-not-names_plainly t c =
+pub put_term-returns-then-names_plainly : goal.put_term-returns-then-names_plainly
+put_term-returns-then-names_plainly t c =
     let plain : names_plainly c.in-Ok-Ref.mark c.in-Ok-Ref.body.now ≡ true = search rules in
     let is : token_of c.args.term ≡ reference c.in-Ok-Ref.mark c.in-Ok-Ref.body.now = search rules in
     rw is
@@ -65,9 +69,105 @@ put_value-returns-in-Immediate t c =
     (λ known adds yes. known_adds c.args.macros.now c.args.value.now c.args.pieces.now c.put_known.new.pieces adds)
     c.put_known.ensures)
 
-pub put_value-returns-else-limit-eq0 : goal.put_value-returns-else-limit-eq0
-put_value-returns-else-limit-eq0 t c =
-    rw c.in-Deferred.is
-    (IfOk-weaker c.put_text.result _ _
-    (λ known adds yes. deeper_adds c.args.macros.now c.args.limit c.args.value.now c.args.pieces.now c.put_text.new.pieces c.if-limit-eq0.false (adds yes))
-    c.put_text.ensures)
+pub put_deeper-returns : goal.put_deeper-returns
+put_deeper-returns t c =
+    IfOk-weaker c.put_text.result _ _
+    (λ known adds yes. deeper_adds c.args.macros.now c.args.limit c.args.text.now c.args.pieces.now c.put_text.new.pieces c.if-limit-eq0.false (adds yes))
+    c.put_text.ensures
+
+pub put_term-returns-else-names_plainly : goal.put_term-returns-else-names_plainly
+put_term-returns-else-names_plainly t c =
+    let is : token_of c.args.term ≡ reference c.in-Ok-Ref.mark c.in-Ok-Ref.body.now = search rules in
+    rw is c.put_asked.ensures
+
+pub put_value-returns-in-Deferred : goal.put_value-returns-in-Deferred
+put_value-returns-in-Deferred t c = rw c.in-Deferred.is c.put_deeper.ensures
+
+pub put_asked-returns-in-Calls : goal.put_asked-returns-in-Calls
+put_asked-returns-in-Calls t c =
+    let texts : List Text = map (λ a. a.now) c.in-Calls.arguments.items in
+    let is : asked_by c.args.mark c.args.body.now ≡ calls c.in-Calls.function texts = sym (rw c.in-Calls.is at c.in_ok-function.ensures) in
+    IfOk-weaker c.put_call.result _ _
+    (λ known adds yes. call_adds c.args.macros.now (evaluator false [] c.args.limit) c.args.mark c.args.body.now c.in-Calls.function texts c.args.pieces.now
+    c.put_call.new.pieces is (adds yes))
+    (rw c.deref.ensures.value at c.put_call.ensures)
+
+pub put_call-returns-in-Text : goal.put_call-returns-in-Text
+unfolding apply
+put_call-returns-in-Text t c = rw c.in-Text.is c.put_applied.ensures
+
+pub put_call-returns-in-len2 : goal.put_call-returns-in-len2
+unfolding apply
+put_call-returns-in-len2 t c =
+    let past : Bor (List ℕ) = record { ref_ptr = (0, 0); now = [] } in
+    let count : length c.args.arguments.now ≡ 2 = omega arith in
+    rw c.in-If.is (rw (two_are c.args.arguments.now past count) c.put_if.ensures)
+
+pub put_call-returns-in-len3 : goal.put_call-returns-in-len3
+unfolding apply
+put_call-returns-in-len3 t c =
+    let past : Bor (List ℕ) = record { ref_ptr = (0, 0); now = [] } in
+    let count : length c.args.arguments.now ≡ 3 = omega arith in
+    rw c.in-If.is (rw (three_are c.args.arguments.now past count) c.put_if-in-len3.ensures)
+
+pub put_applied-returns-in-Some : goal.put_applied-returns-in-Some
+put_applied-returns-in-Some t c =
+    let same : length c.args.texts.now ≡ c.arity.result = search rules in
+    let counted : length (map (λ (a : Bor (List ℕ)). a.now) c.args.texts.now) ≡ arity c.args.function =
+    length-map c.args.texts.now (λ (a : Bor (List ℕ)). a.now) ∙ (same ∙ c.arity.ensures.value) in
+    IfOk-weaker c.put_result.result _ _
+    (λ known result yes. applied_adds c.args.macros.now (evaluator false [] c.args.limit) c.args.function (map (λ a. a.now) c.args.texts.now)
+    c.in-Some.arguments.items c.args.pieces.now c.put_result.new.pieces counted (rw c.in-Some.is at c.in_ok-arguments.ensures) (result yes))
+    (rw c.deref.ensures.value at c.put_result.ensures)
+
+pub known_arguments-arguments-preserved : goal.known_arguments-arguments-preserved
+known_arguments-arguments-preserved t c =
+    let texts = c.args.texts.now in
+    let place = c.arguments.place in
+    let past : Bor (List ℕ) = record { ref_ptr = (0, 0); now = [] } in
+    let left = λ (rest : List (Bor (List ℕ))). map (λ (a : Bor (List ℕ)). a.now) rest in
+    argument_known c.args.macros.now (evaluator false [] c.args.limit) (left texts) (left (drop place texts)) (left (drop (place + 1) texts))
+    c.arguments.values.items c.push.new.self.items (get_or texts place past).now c.in_ok-from_vec-in-Some.field-0 c.in-Some.text.items
+    (ap left (drop_more texts place past c.arguments-test.true)) c.in_ok-push-in-Some.ensures.items c.in_ok-from_vec-in-Some.ensures
+    c.arguments.invariant (rw c.in-Some.is at c.in_ok-text.ensures)
+
+pub known_arguments-returns : goal.known_arguments-returns
+known_arguments-returns t c =
+    let texts = c.args.texts.now in
+    let left = λ (rest : List (Bor (List ℕ))). map (λ (a : Bor (List ℕ)). a.now) rest in
+    arguments_known c.args.macros.now (evaluator false [] c.args.limit) (left texts) (left (drop c.arguments.place texts)) c.arguments.values.items
+    (ap left (drop_all c.arguments.place texts (omega arith))) c.arguments.invariant
+
+pub known_text-returns-then-branch : goal.known_text-returns-then-branch
+known_text-returns-then-branch t c =
+    let yes : c.in_ok-put_deeper.field-0 ≡ true = search rules in
+    some_weaker c.whole.result _ _
+    (λ text whole. known_is c.args.macros.now ((evaluator false [] c.args.limit).expand c.args.text.now) c.none-pieces.result c.put_deeper.new.pieces text.items
+    c.none-pieces.ensures.gaps c.none-pieces.ensures.end (c.in_ok-put_deeper.ensures yes) whole)
+    c.whole.ensures
+
+pub put_if-returns-then-not-is_empty : goal.put_if-returns-then-not-is_empty
+put_if-returns-then-not-is_empty t c =
+    let some : (length c.in-Some.text.items == 0) ≡ false = search rules in
+    IfOk-weaker c.put_deeper.result _ _
+    (λ known adds yes. chosen_adds c.args.macros.now (evaluator false [] c.args.limit) c.args.condition.now c.args.chosen.now c.in-Some.text.items
+    (option_map (λ t. t.now) c.args.other) c.args.pieces.now c.put_deeper.new.pieces
+    (rw c.stripped.ensures at (rw c.in-Some.is at c.in_ok-known_text.ensures)) some (adds yes))
+    c.put_deeper.ensures
+
+pub put_if-returns-in-None-other : goal.put_if-returns-in-None-other
+put_if-returns-in-None-other t c =
+    let empty : (length c.in-Some.text.items == 0) ≡ true = search rules in
+    rw c.in-None-other.is
+    (λ yes. none_chosen_adds c.args.macros.now (evaluator false [] c.args.limit) c.args.condition.now c.args.chosen.now c.in-Some.text.items c.args.pieces.now
+    (rw c.stripped.ensures at (rw c.in-Some.is at c.in_ok-known_text.ensures)) empty)
+
+pub put_if-returns : goal.put_if-returns
+put_if-returns t c =
+    let empty : (length c.in-Some.text.items == 0) ≡ true = search rules in
+    rw c.in-Some-other.is
+    (IfOk-weaker c.put_deeper-in-Some-other.result _ _
+    (λ known adds yes. other_adds c.args.macros.now (evaluator false [] c.args.limit) c.args.condition.now c.args.chosen.now c.in-Some.text.items
+    c.in-Some-other.other.now c.args.pieces.now c.put_deeper-in-Some-other.new.pieces
+    (rw c.stripped.ensures at (rw c.in-Some.is at c.in_ok-known_text.ensures)) empty (adds yes))
+    c.put_deeper-in-Some-other.ensures)

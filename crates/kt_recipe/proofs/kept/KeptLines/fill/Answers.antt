@@ -1,5 +1,5 @@
 use Rattle.kt_recipe.proofs.Common.{subst, IfOk-weaker, Text}
-use Rattle.kt_recipe.specs.inner.Kept.{IsFilled}
+use Rattle.kt_recipe.specs.inner.Prepared.{IsFilled}
 use Rattle.kt_recipe.proofs.PreparedLemmas.{line_fills}
 use Rattle.kt_recipe.proofs.kept.KeptLines.fill.Goals as goal
 

@@ -1,5 +1,5 @@
 use Rattle.kt_recipe.proofs.Common.{subst, rules, Text}
-use Rattle.kt_recipe.specs.inner.Kept.{IsFilled, IsRightLine}
+use Rattle.kt_recipe.specs.inner.Prepared.{IsFilled, IsRightLine}
 use Rattle.kt_recipe.proofs.PreparedLemmas.{line_fills}
 use Rattle.kt_recipe.proofs.kept.KeptLines.fill_anew.Goals as goal
 

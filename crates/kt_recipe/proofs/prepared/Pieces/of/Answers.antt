@@ -1,9 +1,10 @@
-use Rattle.std.proofs.Common.{◌≡◌, true, rules}
-use Rattle.kt_recipe.proofs.PreparedLemmas.{is_prepared}
+use Rattle.std.proofs.Common.{◌≡◌, [], false, true, rules}
+use Rattle.kt_recipe.proofs.Common.{expanded, evaluator}
+use Rattle.kt_recipe.proofs.PreparedLemmas.{added_to_none}
 use Rattle.kt_recipe.proofs.prepared.Pieces.of.Goals as goal
 
 pub returns-then-branch : goal.returns-then-branch
 returns-then-branch c =
     let yes : c.in_ok-put_text.field-0 ≡ true = search rules in
-    is_prepared c.args.macros.now c.args.limit c.args.text.now (record { alloc = c.args.alloc; gaps = c.new.result; end = c.new-2.result })
-    c.put_text.new.pieces c.new.ensures.items c.new-2.ensures.items (c.in_ok-put_text.ensures yes)
+    added_to_none c.args.macros.now (expanded (evaluator false [] c.args.limit) c.args.text.now) c.none-pieces.result
+    c.put_text.new.pieces c.none-pieces.ensures.gaps c.none-pieces.ensures.end (c.in_ok-put_text.ensures yes)

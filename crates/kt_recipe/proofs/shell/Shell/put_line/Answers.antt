@@ -1,6 +1,6 @@
 use Rattle.std.proofs.Common.{◌≡◌, true, rules, subst}
 use Rattle.kt_recipe.proofs.Common.{err_from_is_err_and, Text, after_run, CommandsOf, put_line, command_in, setting_at}
-use Rattle.kt_recipe.specs.inner.Kept.{IsFilled}
+use Rattle.kt_recipe.specs.inner.Prepared.{IsFilled}
 use Rattle.kt_recipe.proofs.PieceLemmas.{says_expanded}
 use Rattle.kt_recipe.proofs.ShellLemmas.{out_of_memory, put_line_front}
 use Rattle.kt_recipe.proofs.shell.Shell.put_line.Goals as goal
