@@ -3,7 +3,7 @@ use Rattle.std.proofs.Common.{◌≡◌, ℕ, List, [], Result, Ok, Err, refl, s
 use Rattle.kati.proofs.Common.{Text, Stop, Store, IsPrefix, ComesBefore, Read, Trace, predefined, read_of, traced, Gives, IfCut, Outcome, Gave, Stopped, left_of, then_do, Plan, front_same, Args, Meaning, MeansAfter, MeansGoals, Wanted, meaning_of, prepared, wanted_by, planned}
 use Rattle.kt_eval.specs.declared.stop.Stop.TheVariants as stops
 use Rattle.kt_eval.proofs.lemmas.reading.MachineLemmas.{before_reading}
-use Rattle.kati.specs.Asked.{NamesAreAsked, names_asked}
+use Rattle.kati.specs.Meaning.{NamesAreAsked, names_asked}
 use Rattle.kati.specs.Listing.{listed}
 use Rattle.kati.specs.Makefile.{command_line_table, makefile_names, makefile_read}
 use Rattle.kati.specs.Steps.{telling}

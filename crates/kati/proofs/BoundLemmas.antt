@@ -1,11 +1,12 @@
 -- A list that holds all names that goals may need: those that rules name, and texts of bounded length.
-use Rattle.std.proofs.Common.{◌≡◌, ◌⊎◌, ◌≤◌, ℕ, Bool, true, false, not, List, [], ◌∷◌, ◌++◌, length, filter, flat_map, Option, Some, None, refl, sym, ap, subst, ⊎_elim, inl, inr, if◌then◌else◌, option_map, slice_get}
-use Rattle.kati.proofs.Common.{Contains, after_last, before_last, last_or, list_any, option_and_then, Contains-append_cases, Contains-append_left, Contains-append_right, none-some, same_Some, Text, Target, Rule, needs_for, is_among, without_repeats, all_needs, is_suffix_rule, suffixes_of, Candidate, Part, bare_part, chosen_rule, double_node, inputs_of, joined_needs, needs_after, node_by, node_of, order_only_of, other_rules, own_part, searched, used_rule, HasInput, first_or_rest, from_flat_map, in_first, in_flat_map, in_rest, chosen_is, Contains-from_map, Contains-none, from_filter, from_without_repeats}
+use Rattle.std.proofs.Common.{◌≡◌, ◌⊎◌, ◌≤◌, ℕ, Bool, true, false, not, List, [], ◌∷◌, ◌++◌, length, filter, flat_map, Option, Some, None, refl, sym, subst, ⊎_elim, inl, inr, if◌then◌else◌}
+use Rattle.kati.proofs.Common.{Contains, after_last, before_last, last_or, list_any, Contains-append_cases, Contains-append_left, Contains-append_right, none-some, same_Some, Text, Target, Rule, needs_for, is_among, without_repeats, all_needs, is_suffix_rule, suffixes_of, Candidate, Part, bare_part, double_node, inputs_of, joined_needs, needs_after, node_by, node_of, order_only_of, other_rules, own_part, searched, used_rule, HasInput, first_or_rest, from_flat_map, in_first, in_flat_map, in_rest, chosen_is, Contains-from_map, Contains-none, kept_by_filter, from_without_repeats}
 use Rattle.kt_rules.specs.declared.entry.Needs.{Needs}
-use Rattle.kt_rules.specs.Book.{explicit_rules, has_recipe, is_double, is_made, is_phony, patterns_of, rules_of, target_rules}
+use Rattle.kt_rules.specs.Book.{explicit_rules, has_recipe, is_double, is_made, patterns_of, rules_of, target_rules}
 use Rattle.kt_graph.specs.search.Search.{choice_of}
 use Rattle.kati.proofs.ClosingLemmas.{IsClosed}
 use Rattle.kati.proofs.FitLemmas.{Below, bound, chosen_fits, from_drop, from_take, from_texts, in_bound, in_texts, least_bound, texts}
+use Rattle.kt_graph.proofs.lemmas.nodes.MadeLemmas.{searched_choice}
 
 -- ---- the inputs of a node
 
@@ -52,7 +53,7 @@ last_in o (first ∷ made) one e = ⊎_elim
     (last_in (Some first) made one e)
 
 used_in : (made : List (Rule × Target)) (one : Rule × Target) → used_rule made ≡ Some one → Contains made one
-used_in made one e = ⊎_elim (λ (h : None ≡ Some one). absurd (none-some one h)) (λ (h : Contains (filter has_recipe made) one). (from_filter has_recipe made one h).0)
+used_in made one e = ⊎_elim (λ (h : None ≡ Some one). absurd (none-some one h)) (λ (h : Contains (filter has_recipe made) one). (kept_by_filter has_recipe made one h).0)
     (last_in None (filter has_recipe made) one e)
 
 others_in : (made : List (Rule × Target)) (one : Rule × Target) → Contains (other_rules made) one → Contains made one
@@ -70,22 +71,6 @@ module _ (rules : List Rule) (known : List Text) (name : Text) where
 
   alone : (part : Part) (one : Part) → Contains (part ∷ []) one → part ≡ one
   alone part one has = ⊎_elim (λ (same : part ≡ one). same) (λ (none : Contains [] one). Contains-none one none) (first_or_rest part one [] has)
-
-  searched_choice : (found : Candidate × Rule) → searched rules known name ≡ Some found → choice_of (patterns_of rules) known name ≡ Some found.0
-  searched_choice found e = by (is_phony rules name) e
-    where
-      drawn : (one : Candidate) (o : Option Rule) → option_map (λ rule. (one, rule)) o ≡ Some found → one ≡ found.0
-      drawn one None e = absurd (none-some found e)
-      drawn one (Some rule) e = ap (λ (pair : Candidate × Rule). pair.0) (same_Some (one, rule) found e)
-
-      chosen : (o : Option Candidate) → option_and_then (chosen_rule (patterns_of rules)) o ≡ Some found → o ≡ Some found.0
-      chosen None e = absurd (none-some found e)
-      chosen (Some one) e = ap (λ (c : Candidate). Some c) (drawn one (slice_get (patterns_of rules) one.rule) e)
-
-      by : (b : Bool) → (if b then None else option_and_then (chosen_rule (patterns_of rules)) (choice_of (patterns_of rules) known name)) ≡ Some found
-          → choice_of (patterns_of rules) known name ≡ Some found.0
-      by true e = absurd (none-some found e)
-      by false e = chosen (choice_of (patterns_of rules) known name) e
 
   part_view : (part : Part) (input : Text) → Contains (node_of rules known name).parts part → Contains (all_needs part.needs) input → IsTold input
   unfolding node_of
@@ -105,7 +90,8 @@ module _ (rules : List Rule) (known : List Text) (name : Text) where
           (subst (λ (one : Part). Contains (all_needs one.needs) input) (sym same) needed))
       node None is (Some found) also h =
           let same = alone _ part h in ⊎_elim
-          (λ (own : Contains (all_needs found.0.needs) input). inr (found.0, searched_choice found also, own))
+          (λ (own : Contains (all_needs found.0.needs) input).
+          inr (found.0, searched_choice rules known name found also, own))
           (λ (rest : Contains (all_needs (joined_needs made)) input). joined rest)
           (after_cases found.0.needs (joined_needs made) input (subst (λ (one : Part). Contains (all_needs one.needs) input) (sym same) needed))
       node None is None also h =
@@ -126,7 +112,7 @@ module _ (rules : List Rule) (known : List Text) (name : Text) where
       (from_without_repeats (flat_map (λ part. part.needs.prerequisites) (node_of rules known name).parts) input h) in
       part_view found.0 input found.1 (Contains-append_left found.0.needs.prerequisites found.0.needs.order_only input found.2))
       (λ (h : Contains (order_only_of (node_of rules known name)) input).
-      let kept = from_filter (λ one. not (is_among (inputs_of (node_of rules known name)) one))
+      let kept = kept_by_filter (λ one. not (is_among (inputs_of (node_of rules known name)) one))
       (without_repeats (flat_map (λ part. part.needs.order_only) (node_of rules known name).parts)) input h in
       let found = from_flat_map (λ (part : Part). part.needs.order_only) (node_of rules known name).parts input
       (from_without_repeats (flat_map (λ part. part.needs.order_only) (node_of rules known name).parts) input kept.0) in
@@ -140,11 +126,11 @@ made_in : (rules : List Rule) (name : Text) (one : Rule × Target) (input : Text
     → Contains (flat_map (λ (rule : Rule). flat_map (λ (target : Target). all_needs (needs_for rule target)) rule.targets) rules) input
 unfolding explicit_rules rules_of
 made_in rules name one input has needed =
-    let plain = from_filter (λ (made : Rule × Target). not (is_suffix_rule (suffixes_of rules) name made)) (rules_of rules name) one has in
-    let named = from_filter (λ (made : Rule × Target). Rattle.std.specs.Prelude.bytes_eq name made.1.name) (flat_map target_rules rules) one plain.0 in
+    let plain = kept_by_filter (λ (made : Rule × Target). not (is_suffix_rule (suffixes_of rules) name made)) (rules_of rules name) one has in
+    let named = kept_by_filter (λ (made : Rule × Target). Rattle.std.specs.Prelude.bytes_eq name made.1.name) (flat_map target_rules rules) one plain.0 in
     let from = from_flat_map target_rules rules one named.0 in
     let target = Contains-from_map (λ (t : Target). (from.0, t)) (filter (is_made from.0) from.0.targets) one from.2 in
-    let kept = from_filter (is_made from.0) from.0.targets target.0 target.1 in
+    let kept = kept_by_filter (is_made from.0) from.0.targets target.0 target.1 in
     in_flat_map (λ (rule : Rule). flat_map (λ (t : Target). all_needs (needs_for rule t)) rule.targets) rules from.0 input from.1
     (in_flat_map (λ (t : Target). all_needs (needs_for from.0 t)) from.0.targets target.0 input kept.0
     (subst (λ (made : Rule × Target). Contains (all_needs (needs_for made.0 made.1)) input) (sym target.2) needed))

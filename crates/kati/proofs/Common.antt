@@ -10,9 +10,10 @@ pub use Rattle.kt_eval.specs.Step.{BlamesBy}
 pub use Rattle.kt_eval.specs.declared.stop.Stop.{Stop}
 pub use Rattle.kt_eval.specs.reading.Machine.{ComesBefore, first_read, first_world, trace_of}
 pub use Rattle.kt_graph.proofs.lemmas.MemberLemmas.{Contains-from_map, Contains-map, Contains-none}
-pub use Rattle.kt_graph.proofs.lemmas.Membership.{all_pass, each_passes}
-pub use Rattle.kt_graph.proofs.lemmas.faults.TroubleLemmas.{comes_first, file_trouble, filter_there, found_nowhere, from_filter, is_reserved_there, none_below}
-pub use Rattle.kt_graph.proofs.lemmas.nodes.MadeLemmas.{chosen_is, input_reached, node_name}
+pub use Rattle.kt_graph.proofs.lemmas.Membership.{all_pass, each_passes, in_filter, kept_by_filter}
+pub use Rattle.kt_graph.proofs.lemmas.faults.TroubleLemmas.{comes_first, file_trouble, found_nowhere, is_reserved_there, none_below}
+pub use Rattle.kt_graph.proofs.lemmas.nodes.MadeLemmas.{chosen_is, node_name}
+pub use Rattle.kt_graph.proofs.lemmas.nodes.ReachLemmas.{reached_on}
 pub use Rattle.kt_graph.proofs.lemmas.nodes.WholeLemmas.{Contains-from_filter_map, group_cases, mapped_itself}
 pub use Rattle.kt_graph.proofs.lemmas.search.UnknownLemmas.{from_without_repeats}
 pub use Rattle.kt_graph.specs.Reach.{AreOneMaking, HasEdge, HasInput, IsCyclic, IsFirst, IsGraph, IsInGroup, IsReached, IsSound, Leads, beside, circular, itself, no_rule, one_file, reserved_name, unmade_goal}

@@ -1,14 +1,15 @@
 -- Each run has a meaning: the result of its goals can be decided, since the names that they may need are in a list.
 use Rattle.std.proofs.Common.{◌≡◌, ◌⊎◌, ℕ, Bool, true, false, List, [], ◌∷◌, ◌++◌, map, filter, find, flat_map, Option, Some, None, refl, sym, ap, ◌∙◌, subst, ⊎_elim, inl, inr}
-use Rattle.kati.proofs.Common.{Contains, list_any, IsStrictlySortedBy, nat_cmp, slice_cmp, false≢true, Text, word_set, Rule, IsSoundGraph, fault_number, fault_words, is_one_making, Instance, Node, all_inputs, node_of, is_reserved, AreOneMaking, ComesFirst, HasEdge, HasInput, IsCyclic, IsFirst, IsGraph, IsInGroup, IsReached, Leads, Reaches, Trouble, beside, itself, circular, no_rule, one_file, reserved_name, unmade_goal, first_or_rest, from_flat_map, in_first, in_flat_map, in_rest, input_reached, node_name, comes_first, file_trouble, filter_there, from_filter, is_reserved_there, none_below, group_cases, Trace, traced, Gave, Outcome, Stopped, fault_at, Meaning, MeansAfter, MeansGoals, Wanted, meaning_of, prepared, planned}
+use Rattle.kati.proofs.Common.{Contains, list_any, IsStrictlySortedBy, nat_cmp, slice_cmp, Text, word_set, Rule, IsSoundGraph, fault_number, fault_words, is_one_making, Instance, Node, all_inputs, node_of, is_reserved, AreOneMaking, ComesFirst, HasEdge, HasInput, IsCyclic, IsFirst, IsGraph, IsInGroup, IsReached, Leads, Reaches, Trouble, beside, itself, circular, no_rule, one_file, reserved_name, unmade_goal, first_or_rest, from_flat_map, in_first, in_flat_map, in_rest, reached_on, node_name, comes_first, file_trouble, in_filter, kept_by_filter, is_reserved_there, none_below, group_cases, Trace, traced, Gave, Outcome, Stopped, fault_at, Meaning, MeansAfter, MeansGoals, Wanted, meaning_of, prepared, planned}
 use Rattle.kt_text.proofs.SortLemmas.{word_set-sorts}
 use Rattle.kt_graph.specs.inner.faults.Files.{is_repeated, made_names}
-use Rattle.kt_graph.proofs.lemmas.nodes.GroupLemmas.{one_itself, one_same}
-use Rattle.kt_graph.proofs.lemmas.nodes.ReachLemmas.{goal_reached}
+use Rattle.kt_graph.proofs.lemmas.nodes.GroupLemmas.{one_itself}
+use Rattle.kt_graph.proofs.lemmas.nodes.ReachLemmas.{goal_reached, leads_on}
 use Rattle.kati.specs.Once.{HasAMeaning}
 use Rattle.kati.specs.Steps.{telling}
 use Rattle.kati.proofs.BoundLemmas.{closed_names}
 use Rattle.kati.proofs.ClosingLemmas.{Closed, Decided, FirstOf, IsClosed, closing, decide_in, first_or_none}
+use Rattle.kt_graph.proofs.lemmas.nodes.GroupLaw.{making_told}
 
 -- the result of goals: the first thing that is wrong, or the graph
 abbrev pub ComesTo : List Rule → List Text → List Text → Type 0
@@ -21,15 +22,6 @@ along : (Edge : Text → Text → Type 0) (names : List Text) → ((one other : 
 along Edge names closed from [] to has same = subst (Contains names) same has
 along Edge names closed from (step ∷ steps) to has path = along Edge names closed step steps to (closed from step has path.0) path.1
 
-leads_on : (Edge : Text → Text → Type 0) (from : Text) (steps : List Text) (to next : Text) → Leads Edge from steps to → Edge to next
-    → Leads Edge from (steps ++ next ∷ []) next
-leads_on Edge from [] to next path edge = (subst (λ (name : Text). Edge name next) (sym path) edge, refl)
-leads_on Edge from (step ∷ steps) to next path edge = (path.0, leads_on Edge step steps to next path.1 edge)
-
-making_of : (one other : Option Instance) → is_one_making one other ≡ true → (making : Instance) × (one ≡ Some making) × (other ≡ Some making)
-making_of None other is = absurd (false≢true is)
-making_of (Some making) other is = (making, refl, sym (one_same (Some making) other is))
-
 one_making : (one other : Option Instance) (making : Instance) → one ≡ Some making → other ≡ Some making → is_one_making one other ≡ true
 one_making one other making first second =
     ap (λ (m : Option Instance). is_one_making m other) first ∙ ap (is_one_making (Some making)) second ∙ one_itself making
@@ -37,7 +29,7 @@ one_making one other making first second =
 module _ (rules : List Rule) (known goals names : List Text) (are : IsClosed rules known goals names) where
   reach : Closed (λ name. all_inputs (node_of rules known name)) goals (IsReached rules known goals)
   reach = closing (λ name. all_inputs (node_of rules known name)) goals names (IsReached rules known goals) are.begun are.closed
-      (goal_reached rules known goals) (input_reached rules known goals)
+      (goal_reached rules known goals) (reached_on rules known goals)
 
   all_reached : (name : Text) → IsReached rules known goals name → Contains reach.names name
   all_reached name reached =
@@ -85,8 +77,8 @@ module _ (rules : List Rule) (known goals names : List Text) (are : IsClosed rul
   grouped name member has = ⊎_elim
       (λ (same : name ≡ member). subst (IsInGroup rules known goals name) same itself)
       (λ (h : Contains (filter (λ other. is_one_making (node_of rules known name).made_with (node_of rules known other).made_with) reach.names) member).
-      let kept = from_filter (λ other. is_one_making (node_of rules known name).made_with (node_of rules known other).made_with) reach.names member h in
-      let making = making_of (node_of rules known name).made_with (node_of rules known member).made_with kept.1 in
+      let kept = kept_by_filter (λ other. is_one_making (node_of rules known name).made_with (node_of rules known other).made_with) reach.names member h in
+      let making = making_told (node_of rules known name).made_with (node_of rules known member).made_with kept.1 in
       beside (reach.met member kept.0) (record { making = making.0; first = making.1; second = making.2 }))
       (first_or_rest name member (filter (λ other. is_one_making (node_of rules known name).made_with (node_of rules known other).made_with) reach.names) has)
 
@@ -94,7 +86,7 @@ module _ (rules : List Rule) (known goals names : List Text) (are : IsClosed rul
   is_member name member in_group = ⊎_elim
       (λ (same : name ≡ member). subst (Contains (members name)) same (in_first name _))
       (λ (p : IsReached rules known goals member × AreOneMaking rules known name member). in_rest name member _
-      (filter_there (λ other. is_one_making (node_of rules known name).made_with (node_of rules known other).made_with) reach.names member (all_reached member p.0)
+      (in_filter (λ other. is_one_making (node_of rules known name).made_with (node_of rules known other).made_with) reach.names member (all_reached member p.0)
       (one_making (node_of rules known name).made_with (node_of rules known member).made_with p.1.making p.1.first p.1.second)))
       (group_cases rules known goals name member in_group)
 

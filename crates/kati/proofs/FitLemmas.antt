@@ -1,8 +1,9 @@
 -- What pattern rules make of names: texts of bounded length, of the symbols that are there.
-use Rattle.std.proofs.Common.{◌≡◌, ◌⊎◌, ◌≤◌, ◌<◌, ◌+◌, ◌-◌, ◌==◌, ◌&&◌, ◌||◌, ℕ, zero, suc, Bool, true, false, not, List, [], ◌∷◌, ◌++◌, length, map, filter, flat_map, take, drop, Option, Some, None, refl, sym, ap, subst, ⊎_elim, arith, if◌then◌else◌, fold, nat_le, option_map, filter_map}
-use Rattle.kati.proofs.Common.{Contains, list_any, slice_range, option_and_then, option_to_list, leb-true, take-append-drop, Contains-append_cases, Contains-append_left, Contains-append_right, none-some, same_Some, Text, name_part, with_stem, Target, Rule, after_dots, without_dots, all_needs, Candidate, are_short, candidate_by, candidate_of, candidate_with, candidates_for, directory_of, fit_of, has_slash, left_out, matched_part, matching_from, needed_name, needed_names, nonempty, shorter, shortest, size_of, spelled_out, stem_of, unless_long, without_any, first_or_rest, from_flat_map, in_first, in_flat_map, in_rest, Contains-from_map, Contains-map, Contains-none, each_passes, from_filter, Contains-from_filter_map}
+use Rattle.std.proofs.Common.{◌≡◌, ◌⊎◌, ◌≤◌, ◌<◌, ◌+◌, ◌-◌, ◌==◌, ◌&&◌, ℕ, zero, suc, Bool, true, false, not, List, [], ◌∷◌, ◌++◌, length, map, flat_map, take, drop, Option, Some, None, refl, sym, ap, subst, ⊎_elim, arith, if◌then◌else◌, fold, nat_le, option_map, filter_map}
+use Rattle.kati.proofs.Common.{Contains, slice_range, option_and_then, option_to_list, leb-true, take-append-drop, Contains-append_cases, Contains-append_left, Contains-append_right, none-some, same_Some, Text, name_part, with_stem, Target, Rule, after_dots, without_dots, all_needs, Candidate, are_short, candidate_by, candidate_of, candidate_with, candidates_for, directory_of, fit_of, has_slash, left_out, matched_part, matching_from, needed_name, needed_names, nonempty, shorter, shortest, size_of, spelled_out, stem_of, unless_long, without_any, first_or_rest, from_flat_map, in_first, in_flat_map, in_rest, Contains-from_map, Contains-map, Contains-none, each_passes, Contains-from_filter_map}
 use Rattle.kt_text.specs.Match.{has_percent, pattern_back, pattern_front}
 use Rattle.kt_graph.proofs.lemmas.search.GrowthLemmas.{from_by_size}
+use Rattle.kt_graph.proofs.lemmas.nodes.MadeLemmas.{from_without_any, in_option}
 
 -- ---- parts of lists
 
@@ -279,11 +280,6 @@ module _ (most : ℕ) (enough : 48 ≤ most) where
       short_one : (directory stem need : Text) → nat_le (length (spelled_out directory stem need)) 4096 ≡ true → length (spelled_out directory stem need) ≤ 4096
       short_one directory stem need e = leb-true (length (spelled_out directory stem need)) 4096 e
 
-  in_option : (o : Option Candidate) (one : Candidate) → Contains (option_to_list o) one → o ≡ Some one
-  in_option None one has = Contains-none one has
-  in_option (Some other) one has = ⊎_elim
-      (λ (same : other ≡ one). ap (λ (c : Candidate). Some c) same) (λ (none : Contains [] one). Contains-none one none) (first_or_rest other one [] has)
-
   matching_is : (number : ℕ) (rules : List Rule) (name : Text) (one : Candidate) → Contains (matching_from number rules name) one
       → (at : ℕ) × (rule : Rule) × Contains rules rule × (candidate_of at rule name ≡ Some one)
   unfolding matching_from
@@ -293,13 +289,6 @@ module _ (most : ℕ) (enough : 48 ≤ most) where
       (λ (later : Contains (matching_from (number + 1) rules name) one).
       let found = matching_is (number + 1) rules name one later in (found.0, found.1, in_rest rule found.1 rules found.2, found.3))
       (Contains-append_cases (option_to_list (candidate_of number rule name)) (matching_from (number + 1) rules name) one has)
-
-  from_without_any : (in_chain : Bool) (candidates : List Candidate) (one : Candidate) → Contains (without_any in_chain candidates) one → Contains candidates one
-  from_without_any in_chain candidates one has = by (in_chain || list_any (λ candidate. not candidate.is_any) candidates) has
-    where
-      by : (b : Bool) → Contains (if b then filter (λ candidate. not candidate.is_any || candidate.is_last) candidates else candidates) one → Contains candidates one
-      by true h = (from_filter (λ candidate. not candidate.is_any || candidate.is_last) candidates one h).0
-      by false h = h
 
   -- the prerequisites of a candidate of some rules fit
   pub chosen_fits : (rules : List Rule) (in_chain : Bool) (name : Text) (one : Candidate) (input : Text) → Below most name

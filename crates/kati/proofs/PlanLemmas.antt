@@ -1,6 +1,6 @@
 -- The plan of what goals need can be written, if its names and commands can.
 use Rattle.std.proofs.Common.{◌≡◌, ◌≢◌, ℕ, ◌+◌, Bool, true, false, not, ◌&&◌, if◌then◌else◌, cond, List, [], ◌∷◌, ◌++◌, map, filter, find, flat_map, Option, Some, None, refl, sym, ap, ◌∙◌, subst, ⊎_elim, append-nil, arith, ◌||◌, IfOk, MatchOption, Result, Ok, Err, slice_get}
-use Rattle.kati.proofs.Common.{option_and_then, option_map_or, All, AllPairs, Contains, list_all, list_any, IsStrictlySortedBy, is_eq, nat_cmp, Ordering, Less, slice_cmp, false≢true, true≢false, append_assoc, map-append, flat_map-cons, All-contains, All-cons, All-nil, Contains-append_cases, flat_map-map, sorted_tail, All-after_first, bytes_eq-Decides, Text, from_flat_map, in_first, in_flat_map, in_rest, Rule, Fault, Stop, Outcome, Gave, Stopped, Table, IsSoundGraph, AreGroups, are_together, groups_among, groups_of, is_leading, leader_name, made_nodes, Node, is_leaf, node_of, canon_of, is_reserved, parts_of, IsGraph, IsReached, unmade_goal, Contains-from_map, Contains-map, Contains-none, filter_there, found_nowhere, from_filter, mapped_itself, Plan, Statement, outputs, IsWritable, HasWritableTexts, Obstacle, bad_name, bad_command, is_empty, is_made, is_name, obstacle_of_statements, always_build, always_built, command_for, first_output, has_implicit, outs_of, plan_groups, plan_of, statement_of, text_fault, unwritable_in, with_always_built, gave_both, none-some, same_Some}
+use Rattle.kati.proofs.Common.{option_and_then, option_map_or, All, AllPairs, Contains, list_all, list_any, IsStrictlySortedBy, is_eq, nat_cmp, Ordering, Less, slice_cmp, false≢true, true≢false, append_assoc, map-append, flat_map-cons, All-contains, All-cons, All-nil, Contains-append_cases, flat_map-map, sorted_tail, All-after_first, bytes_eq-Decides, Text, from_flat_map, in_first, in_flat_map, in_rest, Rule, Fault, Stop, Outcome, Gave, Stopped, Table, IsSoundGraph, AreGroups, are_together, groups_among, groups_of, is_leading, leader_name, made_nodes, Node, is_leaf, node_of, canon_of, is_reserved, parts_of, IsGraph, IsReached, unmade_goal, Contains-from_map, Contains-map, Contains-none, in_filter, found_nowhere, kept_by_filter, mapped_itself, Plan, Statement, outputs, IsWritable, HasWritableTexts, Obstacle, bad_name, bad_command, is_empty, is_made, is_name, obstacle_of_statements, always_build, always_built, command_for, first_output, has_implicit, outs_of, plan_groups, plan_of, statement_of, text_fault, unwritable_in, with_always_built, gave_both, none-some, same_Some}
 use Rattle.std.proofs.lemmas.List.Kept.{AllPairs-cons}
 use Rattle.std.proofs.lemmas.Map.Text.{is_eq-slice_cmp}
 use Rattle.kt_graph.proofs.lemmas.nodes.GroupLaw.{are_groups}
@@ -67,7 +67,7 @@ module _ (rules : List Rule) (known goals : List Text) (nodes : List Node) (grap
   law = are_groups rules known goals nodes graph
 
   pub in_nodes : (node : Node) → Contains (made_nodes nodes) node → Contains nodes node
-  in_nodes node has = (from_filter (λ (one : Node). not (is_leaf one.kind)) nodes node has).0
+  in_nodes node has = (kept_by_filter (λ (one : Node). not (is_leaf one.kind)) nodes node has).0
 
   pub node_is : (node : Node) → Contains nodes node → node_of rules known node.name ≡ node
   node_is node has = mapped_itself (node_of rules known) name_in nodes node graph.stored has
@@ -113,8 +113,8 @@ module _ (rules : List Rule) (known goals : List Text) (nodes : List Node) (grap
       leader = leader_among (made_nodes nodes) group is_group
 
       stands : Contains (filter (are_together leader.0) (made_nodes nodes)) leader.0
-      stands = filter_there (are_together leader.0) (made_nodes nodes) leader.0
-          (from_filter (is_leading (made_nodes nodes)) (made_nodes nodes) leader.0 leader.1).0 (itself_together leader.0)
+      stands = in_filter (are_together leader.0) (made_nodes nodes) leader.0
+          (kept_by_filter (is_leading (made_nodes nodes)) (made_nodes nodes) leader.0 leader.1).0 (itself_together leader.0)
 
   -- a goal is one of the names
   goal_named : unmade_goal rules known goals ≡ None → (goal : Text) → Contains goals goal → Contains (flat_map outs_of (groups_of nodes)) goal
@@ -126,7 +126,7 @@ module _ (rules : List Rule) (known goals : List Text) (nodes : List Node) (grap
       node = Contains-from_map name_in nodes goal ((graph.reached goal).1 (record { goal = goal; named = has; path = ([], refl) }))
 
       made : Contains (made_nodes nodes) node.0
-      made = filter_there (λ (one : Node). not (is_leaf one.kind)) nodes node.0 node.1
+      made = in_filter (λ (one : Node). not (is_leaf one.kind)) nodes node.0 node.1
           (ap (λ (one : Node). not (is_leaf one.kind)) (sym (node_is node.0 node.1))
           ∙ ap (λ (name : Text). not (is_leaf (node_of rules known name).kind)) node.2
           ∙ ap not (found_nowhere (λ (name : Text). is_leaf (node_of rules known name).kind) goals all_made goal has))

@@ -5,7 +5,7 @@ use Rattle.kati.specs.declared.faults.RunFault.TheVariants as faults
 use Rattle.kati.specs.Checking.{AskedAtCheck, HasStatus, IsChecked, names_with_check}
 use Rattle.kati.specs.Exact.{IsGraphOf}
 use Rattle.kati.specs.AfterRun.{HasOutput, IsUntouched, Leaves}
-use Rattle.kati.specs.Messages.{err_text}
+use Rattle.kati.specs.ErrorOutput.{err_text}
 use Rattle.kati.specs.Sound.{IsSoundPlan}
 use Rattle.kati.specs.inner.Delivered.{Writes}
 use Rattle.kati.proofs.ExactLemmas.{are_graphs}
@@ -47,8 +47,7 @@ module _ (args : Args) (store : Store) (said asked : List Text) (plan : Plan) (o
   pub written_leaves : (result : Result Status RunFault) → args.check ≡ None → IsWritable plan → new.files.names ≡ asked → Writes plan result old.out new.out
       → Leaves args store result old new
   written_leaves (Ok status) is fine names w =
-      ended status
-      (subst (λ (checked : Option Text). HasStatus store checked (Ok plan) status) (sym is) w.0)
+      ended status (subst (λ (checked : Option Text). HasStatus store checked (Ok plan) status) (sym is) w.0)
       (names ∙ ap (λ (checked : Option Text). names_with_check checked (Ok plan) asked) (sym is))
       (subst (λ (checked : Option Text). HasOutput checked (Ok plan) old.out new.out) (sym is) (record { taken = w.1; read = printed_is_read plan fine }))
   written_leaves (Err faults.WriteOut) is fine names w = record {
@@ -85,8 +84,7 @@ module _ (args : Args) (store : Store) (said asked : List Text) (plan : Plan) (o
       → OnOk result (new.files.names ≡ asked ++ name ∷ []) → IfErr result (λ fault. AskedAtCheck fault name asked new.files.names) → new.out ≡ old.out
       → Leaves args store result old new
   checked_leaves name (Ok status) is checks names stopped same =
-      ended status
-      (subst (λ (checked : Option Text). HasStatus store checked (Ok plan) status) (sym is) checks)
+      ended status (subst (λ (checked : Option Text). HasStatus store checked (Ok plan) status) (sym is) checks)
       (names ∙ ap (λ (checked : Option Text). names_with_check checked (Ok plan) asked) (sym is))
       (subst (λ (checked : Option Text). HasOutput checked (Ok plan) old.out new.out) (sym is) same)
   checked_leaves name (Err (faults.Read copy)) is checks names stopped same = kept_at_check name (faults.Read copy) is stopped same

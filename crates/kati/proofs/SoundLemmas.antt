@@ -1,6 +1,6 @@
 -- No plan that a run means has a cycle, two outputs of one file or a reserved name.
 use Rattle.std.proofs.Common.{◌≡◌, ◌≢◌, ◌⊎◌, ℕ, Bool, true, false, not, List, [], ◌∷◌, ◌++◌, flat_map, Option, Result, Ok, Err, refl, sym, ap, ◌∙◌, subst, ⊎_elim, inl, inr, IfOk}
-use Rattle.kati.proofs.Common.{Contains, bytes_eq, true≢false, Contains-append_cases, Contains-append_left, Contains-append_right, bytes_eq-Decides, Text, Rule, is_among, without_repeats, Stop, Read, Trace, Ends, groups_of, Node, all_inputs, inputs_of, order_only_of, always_name, canon_of, is_reserved, HasEdge, IsInGroup, IsMade, IsReached, Leads, input_reached, Contains-from_map, Contains-map, Contains-none, from_filter, from_without_repeats, outputs, Plan, Statement, IsWritable, Meaning, MeansGoals, Wanted, always_build, always_built, implicit_of, joined_inputs, joined_order_only, outs_of, statement_of, first_or_rest, from_flat_map, in_flat_map}
+use Rattle.kati.proofs.Common.{Contains, bytes_eq, true≢false, Contains-append_cases, Contains-append_left, Contains-append_right, bytes_eq-Decides, Text, Rule, is_among, without_repeats, Stop, Read, Trace, Ends, groups_of, Node, all_inputs, inputs_of, order_only_of, always_name, canon_of, is_reserved, HasEdge, IsInGroup, IsMade, IsReached, Leads, reached_on, Contains-from_map, Contains-map, Contains-none, kept_by_filter, from_without_repeats, outputs, Plan, Statement, IsWritable, Meaning, MeansGoals, Wanted, always_build, always_built, implicit_of, joined_inputs, joined_order_only, outs_of, statement_of, first_or_rest, from_flat_map, in_flat_map}
 use Rattle.kati.specs.Exact.{IsAlwaysBuilt, IsOfGroup, TellsGraph}
 use Rattle.kati.specs.Sound.{IsSoundPlan, IsUnreserved, NeedsInput, NeedsItself, PlansAreSound}
 use Rattle.kati.specs.inner.Views.{GoalsEnd}
@@ -23,7 +23,7 @@ joined_needed group input has =
 
 order_only_needed : (group : List Node) (input : Text) → Contains (joined_order_only group) input → IsNeededBy group input
 order_only_needed group input has =
-    let kept = from_filter (λ name. not (is_among (joined_inputs group) name)) (without_repeats (flat_map order_only_of group)) input has in
+    let kept = kept_by_filter (λ name. not (is_among (joined_inputs group) name)) (without_repeats (flat_map order_only_of group)) input has in
     let from = from_flat_map order_only_of group input (from_without_repeats (flat_map order_only_of group) input kept.0) in
     record { member = from.0; among = from.1; needs = Contains-append_right (inputs_of from.0) (order_only_of from.0) input from.2 }
 
@@ -186,7 +186,7 @@ module _ (read : Read) (limit : ℕ) (known goals : List Text) (plan : Plan) (te
       → IsReached read.book known goals input
   needed_reached group is_group input needed =
       let made = (law read.book known goals tells.nodes tells.graph.1).made group needed.member is_group needed.among in
-      input_reached read.book known goals needed.member.name input
+      reached_on read.book known goals needed.member.name input
       (of_group read.book known goals tells.nodes tells.graph.1 needed.member.name group is_group
       (Contains-map name_in group needed.member needed.among)).reached
       (subst (λ (one : Node). Contains (all_inputs one) input)

@@ -1,6 +1,6 @@
 -- All texts of a plan can be written, if the names of its graph and its commands can.
 use Rattle.std.proofs.Common.{◌≡◌, ℕ, Bool, true, false, not, ◌&&◌, cond, List, [], ◌∷◌, ◌++◌, flat_map, Option, None, refl, sym, ap, subst, is_some}
-use Rattle.kati.proofs.Common.{Contains, list_all, list_any, option_and_then, and_from, and_parts, Contains-append_left, Contains-append_right, Text, Rule, is_among, without_repeats, Gave, Table, HasInput, IsGraph, IsReached, groups_of, Node, all_inputs, inputs_of, order_only_of, all_pass, each_passes, Contains-from_map, Contains-map, from_filter, input_reached, from_without_repeats, Plan, Statement, names_of, HasWritableTexts, is_made, is_name, texts_unobstructed, always_built, command_for, has_implicit, has_phony, implicit_of, joined_inputs, joined_order_only, made_by, outs_of, plan_groups, plan_of, statement_of, text_fault, unwritable_in, with_always_built, gave_both, from_flat_map, in_first, in_rest}
+use Rattle.kati.proofs.Common.{Contains, list_all, list_any, option_and_then, and_from, and_parts, Contains-append_left, Contains-append_right, Text, Rule, is_among, without_repeats, Gave, Table, HasInput, IsGraph, IsReached, groups_of, Node, all_inputs, inputs_of, order_only_of, all_pass, each_passes, Contains-from_map, Contains-map, kept_by_filter, reached_on, from_without_repeats, Plan, Statement, names_of, HasWritableTexts, is_made, is_name, texts_unobstructed, always_built, command_for, has_implicit, has_phony, implicit_of, joined_inputs, joined_order_only, made_by, outs_of, plan_groups, plan_of, statement_of, text_fault, unwritable_in, with_always_built, gave_both, from_flat_map, in_first, in_rest}
 use Rattle.kt_ninja_reader.proofs.PrintedPieces.{all_both}
 use Rattle.kati.specs.inner.Drawn.{Drawn, statements_drawn}
 use Rattle.kati.proofs.PlanLemmas.{in_nodes, law, name_in, node_is, statements_in}
@@ -20,7 +20,7 @@ module _ (rules : List Rule) (known goals : List Text) (nodes : List Node) (grap
       let edge : HasInput rules known node.name input
       = subst (λ (one : Node). Contains (all_inputs one) input) (sym (node_is rules known goals nodes graph node has)) needed in
       let reached : IsReached rules known goals input
-      = input_reached rules known goals node.name input ((graph.reached node.name).0 (Contains-map name_in nodes node has)) edge in
+      = reached_on rules known goals node.name input ((graph.reached node.name).0 (Contains-map name_in nodes node has)) edge in
       let made = Contains-from_map name_in nodes input ((graph.reached input).1 reached) in
       subst (λ (name : Text). is_name name ≡ true) made.2 (own_passes made.0 made.1)
 
@@ -49,7 +49,7 @@ module _ (rules : List Rule) (known goals : List Text) (nodes : List Node) (grap
         (all_both is_name (implicit_of (is_some command && has_phony rules group)) _ (implicit_pass (is_some command && has_phony rules group))
         (all_pass is_name (joined_order_only group) (λ name has.
         needed_passes order_only_of (λ node input has. Contains-append_right (inputs_of node) (order_only_of node) input has) name
-        (from_filter (λ one. not (is_among (joined_inputs group) one)) (without_repeats (flat_map order_only_of group)) name has).0))))
+        (kept_by_filter (λ one. not (is_among (joined_inputs group) one)) (without_repeats (flat_map order_only_of group)) name has).0))))
 
 -- ---- statements one after another
 

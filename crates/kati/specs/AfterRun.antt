@@ -7,14 +7,12 @@ use Rattle.kati_args.specs.Args.{AnswersWords}
 use Rattle.kati.specs.declared.faults.RunFault.TheVariants as faults
 use Rattle.kati.specs.declared.outcome.Outcome.{Outcome}
 use Rattle.kati.specs.declared.status.Status.TheVariants as statuses
-use Rattle.kati.specs.Asked.{names_asked}
 use Rattle.kati.specs.Checking.{AskedAtCheck, HasStatus, IsReadAs, names_with_check}
 use Rattle.kati.specs.Exact.{IsGraphOf}
 use Rattle.kati.specs.Exits.{exit_code}
-use Rattle.kati.specs.Meaning.{Meaning, Means}
-use Rattle.kati.specs.Messages.{err_text}
+use Rattle.kati.specs.Meaning.{Meaning, Means, names_asked}
 use Rattle.kati.specs.Sound.{IsSoundPlan}
-use Rattle.kati.specs.ErrorOutput.{RefusesBy, ReportsEnd}
+use Rattle.kati.specs.ErrorOutput.{RefusesBy, ReportsEnd, err_text}
 
 -- the output has taken the plan's text, which is read by Ninja's rules as the plan
 pub record WritesPlan (plan : Plan) (old new : SinkSeen) : Type 0 where

@@ -1,9 +1,27 @@
--- What the outputs get besides a plan's text, the messages and the makefile's fault (kati's own).
-use Rattle.std.specs.Prelude.{◌≡◌, ℕ, ◌++◌, ◌⊎◌, Result, Ok, Err, codes, string_bytes}
-use Rattle.kati.specs.Prelude.{Rises, Text, GrowsByFront, SinkSeen, Takes, ArgFault, RunFault, Status, Devices}
+-- What goes to the error output, and what the output gets besides a plan's text (kati's own).
+use Rattle.std.specs.Prelude.{◌≡◌, ℕ, List, [], ◌++◌, ◌⊎◌, Result, Ok, Err, codes, string_bytes}
+use Rattle.kati.specs.Prelude.{flat_map, Rises, Text, Fault, fault_line, Plan, GrowsByFront, SinkSeen, Takes, ArgFault}
+use Rattle.kati.specs.Prelude.{RunFault, Status, Devices}
 use Rattle.kati_args.specs.declared.fault.ArgFault.TheVariants as refusals
 use Rattle.kati.specs.declared.faults.RunFault.TheVariants as faults
 use Rattle.kati.specs.Exits.{fault_code, usage_code}
+use Rattle.kati.specs.Meaning.{Meaning}
+
+-- ---- messages, and the makefile's fault
+
+abbrev pub fault_text : Result Plan Fault → Text
+fault_text (Ok plan) = []
+fault_text (Err fault) = fault_line fault ++ codes "\n"
+
+-- each message on a line of its own
+abbrev pub messages_text : List Text → Text
+messages_text messages = flat_map (λ message. message ++ codes "\n") messages
+
+-- what a run writes to the error output
+abbrev pub err_text : Meaning → Text
+err_text m = messages_text m.messages ++ fault_text m.result
+
+-- ---- how a program ends
 
 -- why a run didn't come to its end
 abbrev pub fault_words : RunFault → Text

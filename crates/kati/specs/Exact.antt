@@ -68,5 +68,4 @@ pub record IsGraphOf (args : Args) (store : Store) (asked : List Text) (plan : P
 -- each plan that a run means is exactly that graph
 abbrev pub PlansAreGraphs : Type 0
 PlansAreGraphs = (args : Args) (store : Store) (asked : List Text) (m : Meaning) (plan : Plan)
-    → Means args store asked m → m.result ≡ Ok plan
-    → IsGraphOf args store asked plan
+    → Means args store asked m → m.result ≡ Ok plan → IsGraphOf args store asked plan

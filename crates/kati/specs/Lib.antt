@@ -5,8 +5,6 @@ pub mod Makefile
 pub mod Goals
 pub mod Planning
 pub mod Meaning
-pub mod Asked
-pub mod Messages
 pub mod Checking
 pub mod Devices
 pub mod Exits

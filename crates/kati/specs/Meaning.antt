@@ -2,7 +2,7 @@
 use Rattle.std.specs.Prelude.{◌≡◌, ℕ, List, [], Some, None, ◌⊎◌, Result, Ok, Err}
 use Rattle.kati.specs.Prelude.{Text, Fault, Store, Read, Trace, traced, fault_at, known_names, Node, Trouble}
 use Rattle.kati.specs.Prelude.{ComesFirst, IsSoundGraph, fault_number, fault_words, Plan, Args}
-use Rattle.kt_eval.specs.Outcome.{Outcome, Gave, Stopped, StepOver, ◌>>=◌, done}
+use Rattle.kt_eval.specs.Outcome.{Outcome, Gave, Stopped, StepOver, ◌>>=◌, done, left_of}
 use Rattle.kati.specs.Steps.{telling}
 use Rattle.kati.specs.Listing.{listed}
 use Rattle.kati.specs.Makefile.{makefile_read}
@@ -63,3 +63,14 @@ MeansAfter limit (Stopped trace fault) m = m ≡ meaning_of (Stopped trace fault
 -- a run with these arguments over these files, after these names were asked for
 abbrev pub Means : Args → Store → List Text → Meaning → Type 0
 Means args store asked m = MeansAfter args.limit (prepared args store (traced [] asked)) m
+
+-- ---- the names that a run asks for
+
+-- after the goals are chosen no name is asked for but the file to be checked; these names were asked for before
+abbrev pub names_asked : Args → Store → List Text → List Text
+names_asked args store asked = (left_of (prepared args store (traced [] asked))).asked
+
+-- a run asks for exactly these names, whatever its goals need
+abbrev pub NamesAreAsked : Type 0
+NamesAreAsked = (args : Args) (store : Store) (asked : List Text) (m : Meaning) → Means args store asked m
+    → m.asked ≡ names_asked args store asked

@@ -15,5 +15,4 @@ HasAMeaning = (args : Args) (store : Store) (asked : List Text) → (m : Meaning
 -- each plan that a run means can be written, and its text is read as exactly this plan
 abbrev pub PlansReadBack : Type 0
 PlansReadBack = (args : Args) (store : Store) (asked : List Text) (m : Meaning) (plan : Plan)
-    → Means args store asked m → m.result ≡ Ok plan
-    → IsWritable plan × (ninja_read (plan_text plan) ≡ Ok plan)
+    → Means args store asked m → m.result ≡ Ok plan → IsWritable plan × (ninja_read (plan_text plan) ≡ Ok plan)

@@ -28,13 +28,11 @@ pub record IsUnreserved (statement : Statement) : Type 0 where
 pub record IsSoundPlan (plan : Plan) : Type 0 where
   pub uncircled : (name : Text) → ¬ NeedsItself plan.statements name
   pub files_differ : (one other : Text) → Contains (outputs plan.statements) one
-      → Contains (outputs plan.statements) other
-      → canon_of one ≡ canon_of other → one ≡ other
+      → Contains (outputs plan.statements) other → canon_of one ≡ canon_of other → one ≡ other
   -- `always_build` is the output of its own statement and among implicit inputs, and nowhere else
   pub unreserved : (statement : Statement) → Contains plan.statements statement
       → IsUnreserved statement ⊎ (statement ≡ always_built)
 
 abbrev pub PlansAreSound : Type 0
 PlansAreSound = (args : Args) (store : Store) (asked : List Text) (m : Meaning) (plan : Plan)
-    → Means args store asked m → m.result ≡ Ok plan
-    → IsSoundPlan plan
+    → Means args store asked m → m.result ≡ Ok plan → IsSoundPlan plan

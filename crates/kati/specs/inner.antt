@@ -2,6 +2,5 @@
 pub mod Stops
 pub mod Views
 pub mod Drawn
-pub mod Shared
 pub mod Shown
 pub mod Delivered

@@ -1,5 +1,5 @@
 //! Laws of the meaning. These functions do nothing: only their contracts matter.
-ghost use Rattle.kati.specs.Asked.{NamesAreAsked};
+ghost use Rattle.kati.specs.Meaning.{NamesAreAsked};
 ghost use Rattle.kati.specs.Exact.{PlansAreGraphs};
 ghost use Rattle.kati.specs.Limits.{OnlyCuts, OnlyCutsRuns};
 ghost use Rattle.kati.specs.Names.{LinesTellNames};

@@ -11,8 +11,7 @@ ghost use Rattle.kt_ninja.specs.Writable.{HasWritableTexts, IsWritable, is_made,
 ghost use Rattle.kt_eval.specs.Outcome.{AsksNothing, Gives, done, then_do};
 ghost use Rattle.kati.specs.Planning.{command_for, least_output, made_by, plan_groups, plan_of, planned, text_fault};
 ghost use Rattle.kati.specs.Planning.{unwritable_in, written};
-ghost use Rattle.kati.specs.inner.Drawn.{AlwaysFirst, drawn_of, statements_drawn};
-ghost use Rattle.kati.specs.inner.Shared.{MayShare};
+ghost use Rattle.kati.specs.inner.Drawn.{AlwaysFirst, MayShare, drawn_of, statements_drawn};
 ghost use Rattle.kati.specs.inner.Shown.{plan_view};
 ghost use Rattle.kati.specs.inner.Stops.{IsFaultOf};
 ghost use Rattle.kati.specs.inner.Views.{is_text_trouble};

@@ -5,8 +5,7 @@ ghost use Rattle.kt_rules.specs.Names.{is_among, with_name, without_repeats};
 ghost use Rattle.kt_graph.specs.nodes.Node.{inputs_of, order_only_of};
 ghost use Rattle.kt_recipe.specs.Views.{command_in};
 ghost use Rattle.kati.specs.Planning.{has_phony, joined_inputs, joined_order_only};
-ghost use Rattle.kati.specs.inner.Drawn.{joined_of, joined_view};
-ghost use Rattle.kati.specs.inner.Shared.{MayShare};
+ghost use Rattle.kati.specs.inner.Drawn.{MayShare, joined_of, joined_view};
 
 use crate::sketch::Joined;
 use kt_graph::{Inputs, Node};

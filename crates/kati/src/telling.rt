@@ -1,7 +1,7 @@
 //! What a run writes to the error output.
 ghost use Rattle.std.specs.Prelude.{◌≡◌, ◌≤◌, ◌++◌, codes, IfOk, OnOk, option_map};
 ghost use Rattle.kt_eval.specs.Faults.{fault_line};
-ghost use Rattle.kati.specs.Messages.{messages_text};
+ghost use Rattle.kati.specs.ErrorOutput.{messages_text};
 ghost use Rattle.kati.specs.inner.Delivered.{TellsText, TextBlames, fault_view};
 
 use crate::faults::RunFault;

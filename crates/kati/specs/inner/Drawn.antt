@@ -1,11 +1,10 @@
 -- A plan that is read from the graph (kati's own).
-use Rattle.std.specs.Prelude.{◌≡◌, ◌&&◌, Bool, List, [], ◌∷◌, Option, Some, None, is_some, false, length, true}
-use Rattle.std.specs.Prelude.{if◌then◌else◌}
+use Rattle.std.specs.Prelude.{◌≡◌, ◌&&◌, List, [], ◌∷◌, Option, Some, None, is_some, false, length, true, if◌then◌else◌}
+use Rattle.kati.specs.Prelude.{list_any, Text, Rule, Node, ShareInputs, inputs_of, order_only_of, Statement, Bool}
 use Rattle.std.specs.List.{list_all}
 use Rattle.std.specs.declared.alloc.Global.{Global}
 use Rattle.std.specs.declared.boxed.Box.{Box}
 use Rattle.kt_ninja.specs.Writable.{is_made}
-use Rattle.kati.specs.Prelude.{list_any, Text, Rule, Node, inputs_of, order_only_of, Statement}
 use Rattle.kt_recipe.specs.Views.{command_in}
 use Rattle.kati.specs.declared.sketch.Joined.{Joined as HeldJoined}
 use Rattle.kati.specs.Planning.{always_built, has_phony, implicit_of, joined_inputs, joined_order_only}
@@ -15,6 +14,10 @@ use Rattle.kati.specs.Planning.{made_by, outs_of, with_always_built}
 pub record Joined : Type 0 where
   pub inputs : List Text
   pub order_only : List Text
+
+-- members that are told to share their inputs do
+abbrev pub MayShare : List Node → Bool → Type 0
+MayShare group shares = shares ≡ true → ShareInputs group
 
 -- what is stored for a group besides its nodes: whether it is always made, the joined prerequisites, if it has several
 -- members, and its command

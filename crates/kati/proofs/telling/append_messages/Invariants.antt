@@ -1,5 +1,5 @@
 use Rattle.std.proofs.Common.{◌≡◌, ◌++◌, drop}
-use Rattle.kati.specs.Messages.{messages_text}
+use Rattle.kati.specs.ErrorOutput.{messages_text}
 use Rattle.kati.proofs.telling.append_messages.Given as goal
 
 abbrev pub invariant-loop-message : goal.invariant-loop-message
