@@ -14,7 +14,7 @@ A line for each makefile says:
 
 RESULT is `same`: ported, and kati's commands are make's, blanks aside; `ported`: kati takes it, and some commands
 differ; `stuck`; `make fails`, where make doesn't take the makefile as it is. After each port make is asked again, and
-`make changed` is told where its commands aren't those of before.
+`make changed` is told where its commands aren't those of before, those of inner makes among them.
 
 Then comes a table. The exit status is 0.
 
@@ -78,6 +78,11 @@ def make_commands(folder, name):
     return run(["make", "-n", "-B", "--no-print-directory", "-f", name, f"SHELL={noop}"], folder)
 
 
+def all_commands(folder, name):
+    """What make would do, and the inner makes that it runs; where one of these fails, up to that."""
+    return run(["make", "-n", "--no-print-directory", "-f", name], folder)
+
+
 def make_includes(folder, name):
     """Has make make the makefiles that it reads, as any run of it does."""
     nothing = Path(folder).parent / "nothing.mk"
@@ -104,18 +109,25 @@ class Surveyed:
         self.result, self.detail, self.lines = "make fails", "", 0
         self.as_it_is = self.is_changed = False
         with tempfile.TemporaryDirectory(prefix="kati-survey-") as room:
-            tree = Path(room) / program.name
-            shutil.copytree(program, tree, symlinks=True)
-            self.port(tree / makefile.parent, makefile.name, program / makefile.parent)
+            self.program, self.tree, self.folder = program, Path(room) / program.name, makefile.parent
+            self.port(makefile.name)
         self.seconds = time.monotonic() - start
 
-    def port(self, folder, name, before):
-        """Asks make, ports, and asks make again."""
+    def unpacked(self):
+        """The makefile's folder in a copy of the tree as it was unpacked."""
+        shutil.rmtree(self.tree, ignore_errors=True)
+        shutil.copytree(self.program, self.tree, symlinks=True)
+        return self.tree / self.folder
+
+    def port(self, name):
+        """Asks make, ports what was unpacked, and asks make again."""
+        folder = self.unpacked()
         made = make_includes(folder, name)
-        first = make_commands(folder, name)
+        first, first_all = make_commands(folder, name), all_commands(folder, name)
         if made[0] or first[0]:
             self.detail = last(made[2] if made[0] else first[2])
             return
+        folder = self.unpacked()
         status, out, said = run([sys.executable, TOP / "tools/kati-port", "--write", name], folder)
         if status:
             self.result, self.detail = "stuck", " / ".join(said.strip().split("\n")[:3])
@@ -123,9 +135,10 @@ class Surveyed:
         self.as_it_is = "takes it as it is" in out
         self.result = "same" if "kati's commands are make's" in out else "ported"
         self.detail = next((line for line in out.split("\n") if "commands differ" in line), "")
-        self.lines = changed_lines(before, folder)
-        second = make_commands(folder, name)
-        self.is_changed = second[:2] != first[:2]
+        self.lines = changed_lines(self.program / self.folder, folder)
+        make_includes(folder, name)
+        second, second_all = make_commands(folder, name), all_commands(folder, name)
+        self.is_changed = second[:2] != first[:2] or second_all[:2] != first_all[:2]
 
     def told(self):
         """The line that tells of it."""

@@ -42,6 +42,8 @@ ASKED = [
     ("kati-build l", ["lib"]),
     ("kati-port --", ["--write", "--diff", "--values", "--macros", "--builtin", "--files-from", "--kati"]),
     ("kati-port o", ["other.mk"]),
+    ("kati-port -f o", ["other.mk"]),
+    ("kati-port --write -f other.mk o", ["other"]),
     ("kati-compare --", ["--build", "--builtin", "--files-from", "--kati", "--depth"]),
 ]
 COMMANDS = "kati kati-asked kati-build kati-port kati-compare"

@@ -1,7 +1,11 @@
 """Files outside the folder: kati's list has those of the folders that makefiles name."""
 import shutil
+import time
+import unittest
 
 from support import TOOLS, Ran, Tree, needs
+
+from kati_tools import makefile_text, paths_outside
 
 RULE = "a.o:\n%.o: %.c {}\n\tcc -c -o $@ $<\n"
 
@@ -134,3 +138,32 @@ class Outside(Tree):
             record.write_text(damaged)
             self.assertEqual(self.listed(), [*inc, "Makefile", "a.c"])
             self.assertEqual(record.read_text(), kept)
+
+
+class Texts(unittest.TestCase):
+    """Makefiles as texts, which may be large."""
+
+    def test_lines_that_go_on(self):
+        for text, wanted in (("a\\\n  b", "a b"), ("a\\\\\nb", "a\\\\\nb"), ("a\\\\\\\r\n\tb\n", "a\\\\ b\n"),
+                             ("a\\", "a\\")):
+            self.assertEqual(makefile_text.without_continuations(text), wanted)
+
+    def found(self, names):
+        """The folders outside that a rule with these names means."""
+        text = paths_outside.Text(())
+        text.add(f"all: {' '.join(names)}\n".encode())
+        return paths_outside.folders(text.with_paths(), lambda folder: ([], []))
+
+    def test_paths_that_go_up_again(self):
+        for name, wanted in (("../a/../../b", "../a/../.."), ("../a/..", "../a/.."), ("../a/../b/../c", "../a/../b/.."),
+                             ("../a/../", "../a/.."), ("../a/..b", "../a")):
+            self.assertEqual(self.found([name]), [wanted])
+        self.assertEqual(self.found(["../b.h", "../a/../b.h", "../a/c.h"]), ["..", "../a", "../a/.."])
+
+    def test_the_time_grows_with_the_folders(self):
+        def takes(count):
+            names, begin = [f"../d{one}/a.h" for one in range(count)], time.process_time()
+            self.assertEqual(len(self.found(names)), count)
+            return time.process_time() - begin
+
+        self.assertLess(min(takes(16_000) for _ in range(3)), 8 * min(takes(4_000) for _ in range(3)))

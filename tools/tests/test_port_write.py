@@ -1,5 +1,7 @@
 """kati-port --write: each construct is ported, make does what it did, and what ninja builds is what make builds."""
+import errno
 import os
+import resource
 import shutil
 import signal
 import subprocess
@@ -7,8 +9,9 @@ import time
 
 from support import TOOLS, Tree, needs
 
-from kati_tools import write_command
+from kati_tools import programs, write_command
 
+INCLUDE = "include $(dir $(lastword $(MAKEFILE_LIST)))kati-values.mk"
 # Of each construct: the files, and words that stand in the makefile or in kati-values.mk afterwards.
 CONSTRUCTS = {
     "shell": ({"Makefile": "N := $(shell cat n.txt)\nall: ; echo $(N) > out\n", "n.txt": "7\n"},
@@ -90,6 +93,9 @@ CONSTRUCTS = {
                         ["SHELL := A=\"$(A)\" B=\"$(B)\" $(SHELL)"]),
     "export of all": ({"Makefile": "A = 1\nB = 2\nexport\nall: ; sh x.sh $$A > out\n", "x.sh": "echo $1 $B\n"},
                       ["SHELL := A=\"$(A)\" B=\"$(B)\" $(SHELL)"]),
+    "export of all but values":
+        ({"Makefile": "export\nN := $(shell echo 1)\nall: ; env | grep -c ^V_ > out; echo $(N) >> out\n"},
+         ["unexport V_N\n"]),
     "export to an inner make":
         ({"Makefile": "export\nA = 1\nB = -x -y\nC = 'c'\nall: ; $(MAKE) -C sub\n",
           "sub/Makefile": "ifdef A\nF = yes\nendif\nall: ; echo $(F) $(B) $(C) > out\n"}, []),
@@ -202,6 +208,7 @@ class Writing(Tree):
                 text = self.read("Makefile") + "".join(path.read_text() for path in self.top.glob("kati-values.mk"))
                 self.assertEqual([word for word in words if word not in text], [], text)
                 self.assertEqual(self.makes_commands(), wanted, text)
+                self.assertEqual(self.built_by_make(), built, text)
                 ran = self.tool("kati-build", "--builtin", *(["--depth", "400"] if "--depth 400" in said else []))
                 self.assertEqual(ran.status, 0, ran.all + text)
                 self.assertEqual(tree_of(self.top), built, text)
@@ -232,7 +239,7 @@ class Writing(Tree):
         self.put_all({"Makefile": "N := $(shell echo 1)\nall: ; echo $(N)\n"})
         before = self.made()
         ran = self.port("--diff")
-        self.assertIn("-N := $(shell echo 1)\n+include kati-values.mk\n+N := $(V_N)\n", ran.out)
+        self.assertIn(f"-N := $(shell echo 1)\n+{INCLUDE}\n+N := $(V_N)\n", ran.out)
         self.assertIn("+++ b/kati-values.mk\n", ran.out)
         self.assertIn("make's commands are as before: 1\n", ran.said)
         self.assertEqual(self.made(), before)
@@ -312,7 +319,7 @@ class Writing(Tree):
         self.assertTrue((self.top / "Makefile").is_symlink())
         self.assertEqual((self.top / "real.mk").stat().st_mode & 0o777, 0o640)
         self.assertEqual((self.top / "real.mk").read_bytes(),
-                         b"include kati-values.mk\r\nN := $(V_N)\r\nall: ; echo $(N)\r\n")
+                         f"{INCLUDE}\r\nN := $(V_N)\r\nall: ; echo $(N)\r\n".encode())
 
     def test_makefiles_and_values_above(self):
         self.put_all({"lib/v.h": "7\n", "mk/a.mk": "A := $(shell cat ../lib/v.h)\n",
@@ -321,8 +328,8 @@ class Writing(Tree):
         ran = subprocess.run([TOOLS / "kati-port", "--write", "Makefile"], cwd=prog, stdout=subprocess.PIPE, text=True,
                              check=True)
         self.assertIn("kati's commands are make's", ran.stdout)
-        self.assertEqual(self.read("mk/a.mk").split("\n")[-2], "A := $(V_A)")
-        self.assertIn("V_A := 7\n", self.read("prog/kati-values.mk"))
+        self.assertEqual(self.read("mk/a.mk").split("\n")[-2], "A := $(V_a_A)")
+        self.assertIn("V_a_A := 7\n", self.read("prog/kati-values.mk"))
         self.assertIn("V_wildcard := ../lib/v.h\n", self.read("prog/kati-values.mk"))
 
     def test_a_rule_that_needs_a_file_outside_by_a_value(self):
@@ -333,12 +340,6 @@ class Writing(Tree):
         self.assertEqual(self.built_by_make()["a.o"], "c\nh\n")
         self.assertEqual(self.tool("kati-build", "--builtin").status, 0)
         self.assertEqual(self.read("a.o"), "c\nh\n")
-
-    def test_an_include_has_makes_calls_for_others_that_read_it(self):
-        self.put_all({"a.mk": "A := $(shell echo 1)\n", "Makefile": "include a.mk\nall: ; echo $(A)\n",
-                      "other.mk": "include a.mk\nall: ; echo other $(A)\n"})
-        self.port()
-        self.assertEqual(self.run_in("make", "-n", "-f", "other.mk").out, "echo other 1\n")
 
     def test_a_makefile_that_make_reads_in_another_folder(self):
         for named, how in (("$(CURDIR)/Makefile", "-f $(F)"), ("../$(lastword $(MAKEFILE_LIST))", "-f $(F)"),
@@ -355,6 +356,33 @@ class Writing(Tree):
             self.assertEqual(self.tool("kati-build", "--builtin").status, 0)
             self.assertEqual(tree_of(self.top), wanted)
             self.assertEqual(self.tool("kati-port", "Makefile").out.count("MAKEFILE_LIST"), 0)
+
+    def test_a_makefile_that_others_read(self):
+        self.put_all({"sub/Makefile": "N := $(shell echo 1)\nout: ; echo $(N) > out\n",
+                      "Makefile": "all: ; $(MAKE) -f sub/Makefile\n", "more.mk": "include sub/Makefile\n"})
+        wanted = self.built_by_make()
+        self.assertEqual(self.run_in("env", "-C", "sub", self.tool_path("kati-port"), "--write", "Makefile").status, 0)
+        self.assertEqual(self.built_by_make(), wanted)
+        self.assertEqual(self.run_in("make", "-n", "-f", "more.mk").out, "echo 1 > out\n")
+        self.assertIn("kati's commands are make's", self.tool("kati-port", "--write", "more.mk").out)
+
+    def test_makefiles_that_make_writes_anew(self):
+        text = "N := $(shell echo 1)\n{} = 1\nall: ; echo $(N) $(X) > out\n" \
+            "{}: conf\n\t@sed 's/^X = .*/X = 2/' $@ > new && mv new $@ && touch made && echo more > conf.old\n"
+        for name, makefile, more in (("Makefile", text.format("X", "Makefile"), {}),
+                                     ("x.mk", "include x.mk\n" + text.format("Y", "x.mk"), {"x.mk": "X = 1\n"})):
+            self.put_all({"Makefile": makefile, "conf": "", "conf.old": "", **more})
+            os.utime(self.top / name, (1, 1))
+            wanted = self.built_by_make()
+            self.assertEqual(self.tool("kati-build", "--port").status, 0)
+            self.assertEqual(tree_of(self.top), {**wanted, "conf.old": ""})
+            self.assertEqual(self.read("Makefile"), makefile)
+            (self.top / "made").unlink()
+            said = self.port().out
+            self.assertIn(f"made first, as make does: {' '.join(sorted([name, 'conf.old']))} made\n", said)
+            self.assertIn("kati's commands are make's", said)
+            self.assertIn("X = 2\n", self.read(name))
+            self.assertEqual(self.built_by_make(), wanted)
 
     def test_the_rule_of_default(self):
         # Under -B make would make its makefile by such a rule.
@@ -377,6 +405,17 @@ class Writing(Tree):
         self.assertEqual(self.tool("kati-build", "--builtin").status, 0)
         self.assertEqual(tree_of(self.top), wanted)
 
+    def test_the_command_that_builds_sees_headers(self):
+        self.put_all({"Makefile": "CFLAGS = -MMD\nprog: a.o\n\t$(CC) -o $@ $^\n-include *.d\n", "a.h": "",
+                      "a.c": "#include \"a.h\"\nint main(void) { return 0; }\n"})
+        line = self.port().out.splitlines()[-1]
+        self.assertEqual(line, "Makefile: kati-build --builtin --deps builds it")
+        ran = self.tool(*line.split()[1:-2])
+        self.assertEqual(ran.status, 0, ran.all)
+        self.ninja()
+        self.touch("a.h")
+        self.assertIn("-c -o a.o a.c", self.ninja())
+
     def test_where_make_fails(self):
         self.put_all({"Makefile": "all: absent ; echo $(shell echo)\n"})
         self.assertIn("make itself ends with status 2: ", self.port(status=1).said)
@@ -388,11 +427,39 @@ class Writing(Tree):
         self.assertEqual(self.read("Makefile"), "before\n")
         self.assertEqual(sorted(path.name for path in self.top.iterdir()), ["Makefile", "file"])
 
+    def test_the_file_that_cant_be_written_is_told(self):
+        self.put_all({"Makefile": "before\n"})
+        name, limits = str(self.top / "Makefile"), resource.getrlimit(resource.RLIMIT_FSIZE)
+        resource.setrlimit(resource.RLIMIT_FSIZE, (10, limits[1]))
+        try:
+            with self.assertRaises(OSError) as raised:
+                write_command.write_files({name: "after" * 10})
+        finally:
+            resource.setrlimit(resource.RLIMIT_FSIZE, limits)
+        self.assertEqual(programs.told(raised.exception), f"{name}: File too large")
+        # Of a copy the one that is written.
+        error = OSError(errno.ENOSPC, "No space left on device", "from", None, "to")
+        self.assertEqual(programs.told(error), "to: No space left on device")
+        self.assertEqual([path.name for path in self.top.iterdir()], ["Makefile"])
+        self.assertEqual(self.read("Makefile"), "before\n")
+
     def test_wrong_usage(self):
         self.put_all({})
         self.assertEqual(self.tool("kati-port", "--write").status, 64)
         self.assertEqual(self.tool("kati-port", "--write", "A=b").status, 64)
         self.assertEqual(self.tool("kati-port", "--write", "absent").status, 3)
+
+    def test_the_makefile_by_make_s_option(self):
+        self.put_all({"other.mk": "N := $(shell echo 1)\nall: ; echo $(N)\nmore: ; echo $(N) $(X) more\n"})
+        ran = self.tool("kati-port", "--write", "more", "X=2", "-f", "other.mk")
+        self.assertEqual(ran.status, 0, ran.all)
+        self.assertIn("kati-build --builtin -f other.mk more X=2 builds it\n", ran.out)
+        self.assertEqual(self.tool("kati-port", "--values", "-fother.mk", "more").out, "kati-values.mk: as before\n")
+        self.assertEqual(self.tool("kati-port", "-f", "other.mk").out.splitlines()[-1], "kati takes other.mk")
+        self.assertEqual(self.tool("kati-port", "--macros", "-f", "other.mk").out, "V_N=1\n")
+        for mode in ("--write", "--values", "--macros", "--builtin"):
+            self.assertEqual(self.tool("kati-port", mode, "-f", "absent.mk").status, 3)
+            self.assertEqual(self.tool("kati-port", mode, "-f", "other.mk", "-f", "other.mk").status, 64)
 
     def test_an_interrupt_changes_nothing(self):
         self.put_all({"Makefile": "X := $(shell touch started; sleep 5)\nall: ; echo $(X)\n"})

@@ -1,7 +1,31 @@
 """The copies in which make is asked: values are those of this folder, and of what stands above it."""
 import shutil
+import unittest
 
 from support import Tree, needs
+
+from kati_tools import above, scratch_builds
+
+
+class Levels(unittest.TestCase):
+    """How far up a copy begins in which a build is tried."""
+
+    LEVELS = {
+        "all: ; cat ../a ../../b": 2, "TOP = ..\nall: ; cat $(TOP)/../a": 2, "all: ; $(MAKE) -C lib": 0,
+        "all: ; $(MAKE) -C man/man1 ../../po/$@": 0, "all: ; $(MAKE) -C man $(subst man/,../../,$@)": 1,
+        "all: ; mkdir -p build && cd build && cmake ..": 0, "all: ; (cd lib && ./configure) && cp ../a .": 1,
+        "all: ; cd lib && (cat ../a; cat ../../b)": 1, "all: ; cd $(D) && cat ../a": 1,
+        "all: ; cd ../lib && cat ../a": 1,
+    }
+
+    def test_levels(self):
+        for text, wanted in self.LEVELS.items():
+            self.assertEqual(above.levels([text]), wanted, text)
+
+    def test_what_a_build_that_failed_said(self):
+        said = ["make: *** [Makefile:1: a] Error 1", *(f"note {number}" for number in range(99))]
+        self.assertEqual(scratch_builds.end_of("\n".join(said)).split("\n")[:2], [said[0], "note 79"])
+        self.assertEqual(scratch_builds.end_of("one\ntwo\n"), "one\ntwo")
 
 
 @needs("kati", "kati-asked", "make", "ninja")

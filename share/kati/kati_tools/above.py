@@ -9,6 +9,8 @@ from . import files, includes, sources
 UP = re.compile(r"(?<![\w.~-])\.\.(?:/+\.\.)*(?![\w.~-])")
 BEHIND_VALUE = re.compile(r"[)}]/*$")
 BEGINNING = re.compile(r"(?<![\w./)}~-])(?:\./+)*$")
+# A command goes into a folder below this one.
+INTO = re.compile(r"(?:-C[ \t]*|--directory[ =]|\bcd[ \t]+)([\w+@-][\w.+@/-]*)")
 OF_THIS_FOLDER = re.compile(r"CURDIR|MAKEFILE_LIST|\bPWD\b|\bpwd\b")
 
 
@@ -29,11 +31,22 @@ def ups(text):
         for match in UP.finditer(line):
             count, before = match.group().count(".."), line[:match.start()]
             is_behind, most = BEHIND_VALUE.search(before), max(most, count)
+            count = max(count - levels_down(before), 0)
             if BEGINNING.search(before) or is_behind and OF_THIS_FOLDER.search(line):
                 alone = max(alone, count)
             elif is_behind:
                 behind = max(behind, count)
     return alone, behind, most
+
+
+def levels_down(before):
+    """How far down a command is that stands behind this text, as one behind `cd DIR &&`; not where that is behind the
+    bracket of a shell of its own."""
+    found = list(INTO.finditer(before))
+    if not found or ")" in includes.REFERENCE.sub("", before[found[-1].end():]):
+        return 0
+    parts = [part for part in found[-1].group(1).split("/") if part not in ("", ".")]
+    return 0 if ".." in parts else len(parts)
 
 
 def levels(texts):

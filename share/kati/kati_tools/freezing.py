@@ -28,12 +28,12 @@ def names_macro(text, name):
 
 
 def wanted_name(line, text):
-    """The name that a macro for a part of a line is to have."""
+    """What a macro for a part of a line is to be named for."""
     name = re.sub(r"[-.]+", "_", (line.assignment() or ("",))[0]).strip("_")
     if not re.fullmatch(r"\w+", name):
         function = scanning.FUNCTION.match(text) or PLAIN.fullmatch(text)
         name = function.group(1) if function else "value"
-    return f"V_{name}"
+    return name
 
 
 class Freezer:
@@ -97,7 +97,7 @@ class Freezer:
     def named(self, line, makes, value, is_told):
         """The name of a macro that is this text for make and this value for kati; where no probe told it, that is
         kept."""
-        name = self.port.values.add(wanted_name(line, makes), makes, value, joined(makes))
+        name = self.port.values.add(line, wanted_name(line, makes), makes, value, joined(makes))
         self.untold.update([] if is_told else [name])
         return name
 
@@ -127,7 +127,7 @@ class Freezer:
             return False
         makes = joined(call.text())
         command = joined(found.group(1)).strip()
-        name = self.port.values.add("V_shell", makes, f"$$({command})", "for the recipe's shell", True)
+        name = self.port.values.add(call.line, "shell", makes, f"$$({command})", "for the recipe's shell", True)
         edits[start, end] = f"$({name})"
         return True
 
@@ -138,7 +138,7 @@ class Freezer:
         if table is None or not key or not scanning.FUNCTION.match(call.text()):
             return False
         makes = joined(call.text())
-        name = self.port.values.add(wanted_name(line, makes), makes, None, "by what it depends on", True)
+        name = self.port.values.add(line, wanted_name(line, makes), makes, None, "by what it depends on", True)
         value = next(one for one in self.port.values.all if one.name == name)
         value.katis, value.table = f"$({name}_{key})", {f"{name}_{one}": told for one, told in table.items()}
         patterns = {one: pattern for one, pattern in self.port.probes.asked_by(call).items()

@@ -18,11 +18,9 @@ from .programs import bytes_of
 NAME = translating.VALUES
 TITLE = "# Written by kati-port, anew by kati-port --values: what make asks the machine for, and what it was told.\n"
 RUN, NAMES = "tells of the run", "names: "
+# kati's shell itself, where SHELL gives commands exported variables too.
+KATIS_SHELL = "$(or $(KATI_SHELL),$(SHELL))"
 HIDING = f"MAKEFILE_LIST := $(filter-out %{NAME},$(MAKEFILE_LIST))"
-INCLUDE = f"include {NAME}"
-# The same for a makefile that make may read in another folder than its own.
-INCLUDE_ELSEWHERE = (ported_text.MAKES_ALONE, f"include $(dir $(lastword $(MAKEFILE_LIST))){NAME}", "else", INCLUDE,
-                     "endif")
 READS = re.compile(r"# .* reads (\S+ (?:none|[0-9a-f]{8})(?:, \S+ (?:none|[0-9a-f]{8}))*)$", re.MULTILINE)
 # A word of a command that names a file, though none is there.
 ABSENT = re.compile(r"(?:[\w+@.-]+/)*(?:[\w+@][\w+@.-]*|)\.[A-Za-z][\w-]*")
@@ -123,11 +121,11 @@ def assigned(name, operator, text):
 class Value:
     """A macro of the file: make's text, kati's value, and what it came from. A deferred one is text that kati expands
     where it stands, and may have a table of values by their names; `sources` says of some where they came from, so
-    that they stand by themselves."""
+    that they stand by themselves. The lines that name it have its prefix."""
 
     def __init__(self, name, makes, katis, source, is_deferred=False):
         self.name, self.makes, self.katis, self.source, self.is_deferred = name, makes, katis, source, is_deferred
-        self.table, self.sources = {}, {}
+        self.table, self.sources, self.prefix = {}, {}, ported_text.PREFIX
 
     def lines(self):
         """What stands of it in kati's branch."""
@@ -141,35 +139,46 @@ class Value:
 
 
 class Values:
-    """The macros of the file, in the order in which they came; `kept` is the file as it stood, if it did."""
+    """The macros of the file, in the order in which they came; `kept` is the file as it stood, if it did. `prefixes`
+    are those of the files that are ported."""
 
     def __init__(self, kept=None):
-        self.all, self.kept, self.taken = [], kept, ""
+        self.all, self.kept, self.taken, self.prefixes = [], kept, "", set()
 
-    def add(self, wanted, makes, katis, source, is_deferred=False):
-        """The name of a macro for these two texts: the wanted one, or one with a number where that is taken."""
-        number, name = 1, wanted
-        for one in self.all:
-            if (one.makes, one.katis, one.is_deferred) == (makes, katis, is_deferred) and not one.table:
+    def add(self, line, wanted, makes, katis, source, is_deferred=False):
+        """The name of a macro of a line for these two texts: the wanted one behind the line's prefix, with a number
+        where that is taken."""
+        for one in [one for one in self.all if one.prefix == line.prefix and not one.table]:
+            if (one.makes, one.katis, one.is_deferred) == (makes, katis, is_deferred):
                 return one.name
+        number, first = 1, self.free_of_others(line.prefix, wanted)
+        name = first
         while name in {one.name for one in self.all} or re.search(rf"\b{re.escape(name)}\b", self.taken):
             number += 1
-            name = f"{wanted}_{number}"
+            name = f"{first}_{number}"
         self.all.append(Value(name, makes, katis, source, is_deferred))
+        self.all[-1].prefix = line.prefix
         return name
 
-    def head(self, text):
-        """What make needs at the beginning of a makefile with this text, where another makefile may include it."""
-        named = [one for one in self.all if f"$({one.name})" in text]
-        return [ported_text.MAKES_ALONE, *(f"{one.name} = {one.makes}" for one in named), "endif"] if named else []
+    def free_of_others(self, prefix, wanted):
+        """A name behind a prefix; where it begins as those of another file do, one more `_` parts it from them."""
+        others = tuple(one for one in self.prefixes if len(one) > len(prefix))
+        return f"{prefix}_{wanted}" if f"{prefix}{wanted}".startswith(others) else f"{prefix}{wanted}"
+
+    def head(self, file):
+        """What make needs at the beginning of an include, which other makefiles may read too, if it isn't there."""
+        text, there = file.text(), {line.text for line in file.lines}
+        lines = [f"{one.name} = {one.makes}" for one in self.all if f"$({one.name})" in text]
+        lines = [line for line in lines if line not in there]
+        return [ported_text.MAKES_ALONE, *lines, "endif"] if lines else []
 
     def text(self, run, hiding):
-        """The text of the file; `run` has what tells of the run. Where makefiles ask for the list of makefiles, this
-        one isn't in it, by the line `hiding`."""
+        """The text of the file; `run` has what tells of the run, and `hiding` the lines by which make hands on nothing
+        of the file."""
         kept = self.kept.entries if self.kept else []
         lines = [ported_text.MAKES_ALONE, *(self.kept.makes_lines if self.kept else [])]
         lines += [f"{one.name} = {one.makes}" for one in self.all]
-        lines += [hiding] if hiding and hiding not in lines else []
+        lines += [line for line in hiding if line not in lines]
         lines += ["else", *(line for one in [*kept, *self.all] for line in one.lines())]
         told = {name: value for name, value in run.items() if name not in {one.name for one in kept}}
         lines += [line for name, value in told.items() for line in (f"# {RUN}", assigned(name, ":=", escaped(value)))]

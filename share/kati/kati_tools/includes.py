@@ -7,14 +7,14 @@ import os
 import re
 
 from . import files
+from .makefile_text import INCLUDES, without_continuations
 from .programs import Stop
 
-LINE = re.compile(r"^[ \t]*(?:-include|sinclude|include)[ \t]+(.*)$")
-IN_EVAL = re.compile(r"\$[({]eval[ \t]+(?:-include|sinclude|include)[ \t]+(.*)[)}]")
+WORDS = "|".join(sorted(INCLUDES))
+LINE = re.compile(rf"^[ \t]*(?:{WORDS})[ \t]+(.*)$")
+IN_EVAL = re.compile(rf"\$[({{]eval[ \t]+(?:{WORDS})[ \t]+(.*)[)}}]")
 REFERENCE = re.compile(r"\$(?:\([^()]*\)|\{[^{}]*\}|[^({])")
 ENDING = re.compile(r"(?::[^=]*=|[ ,])%?([^ ,%(){}$:=]+)[)}]$")
-# What continues a line: a backslash that no other one quotes.
-CONTINUED = re.compile(r"(?<!\\)((?:\\\\)*)\\\r?\n[ \t]*")
 MOST = 2**20
 # What names a makefile has.
 MAKEFILES = re.compile(r"(^|/)(GNUmakefile|[Mm]akefile[^/]*|[Mm]ake\.[^/]*|[^/]*\.(mk|mak|make))$")
@@ -26,11 +26,6 @@ def absent(makefile):
     others = [os.path.join(folder, name) for name in ("GNUmakefile", "makefile", "Makefile")]
     found = next((f"; {name} is there" for name in others if os.path.isfile(name)), "")
     return Stop(f"no file {makefile}{found}")
-
-
-def without_continuations(text):
-    """A makefile's text with continued lines joined."""
-    return text if "\\" not in text else CONTINUED.sub(r"\1 ", text)
 
 
 def joined(text):
@@ -68,7 +63,8 @@ def words_of(text):
 def named_in(text):
     """The names and patterns after `include` in a makefile's text."""
     found = []
-    for line in joined(text):
+    # A look at each line first takes a tenth of the time of the forms.
+    for line in [line for line in joined(text) if "include" in line]:
         for match in filter(None, (LINE.match(line), IN_EVAL.search(line))):
             found += words_of(match.group(1).split("#")[0])
     return [pattern_of(name) for name in found]

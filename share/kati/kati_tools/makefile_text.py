@@ -10,6 +10,8 @@ CLOSING = {"(": ")", "{": "}"}
 OPENING = {closing: opening for opening, closing in CLOSING.items()}
 BRACKET = re.compile(r"[(){}]")
 MOST_LEVELS = 400
+# What may continue a line: backslashes at its end, of which the last one isn't quoted where their number is odd.
+CONTINUED = re.compile(r"(\\+)\r?\n[ \t]*")
 
 
 class Line:
@@ -36,6 +38,14 @@ def lines(text):
         number += 1
         found.append(Line(start + 1, "\n".join(rest[start:number])))
     return found
+
+
+def without_continuations(text):
+    """A makefile's text with continued lines joined."""
+    def blank(found):
+        count = len(found.group(1))
+        return "\\" * (count - 1) + " " if count % 2 else found.group()
+    return text if "\\" not in text else CONTINUED.sub(blank, text)
 
 
 def end_of_reference(text, at):

@@ -101,7 +101,7 @@ def freeze_words(port, line, name):
         at = line.text.index(word)
         if name in map(plain_name, (names or "").split()) and (at, at + len(word)) not in line.edits:
             source = f"{frozen_values.NAMES}{names}"
-            macro = port.values.add("V_names", word, frozen_values.with_fitting(names), source)
+            macro = port.values.add(line, "names", word, frozen_values.with_fitting(names), source)
             line.edits[at, at + len(word)] = f"$({macro})"
             port.tell("frozen", "names with wildcards")
     return len(line.edits) > before
@@ -118,7 +118,7 @@ def freeze_name(port, line, name):
     if not found or found.span() in line.edits:
         return False
     names = port.run.value(f"$(wildcard {name})") or ""
-    macro = port.values.add(freezing.wanted_name(line, ""), name, names, f"$(wildcard {name})")
+    macro = port.values.add(line, freezing.wanted_name(line, ""), name, names, f"$(wildcard {name})")
     line.edits[found.span()] = f"$({macro})"
     port.tell("frozen", "names with wildcards")
     return True

@@ -2,7 +2,7 @@
 import os
 import re
 
-from . import files, makefile_text
+from . import files, frozen_values, makefile_text, shared_includes
 
 NAME = re.compile(r"[A-Za-z_]\w*")
 SCRIPTS = re.compile(r"\.(sh|pl|py|awk)$|(^|/)configure$")
@@ -79,17 +79,18 @@ def tail(port):
     if not words:
         return []
     keep_shell(port)
-    kept = ["KATI_SHELL := $(SHELL)"] if port.keeps_shell else []
+    is_named = any(one.katis == frozen_values.KATIS_SHELL for one in port.values.all)
+    kept = ["KATI_SHELL := $(SHELL)"] if is_named else []
     return [*quoted, *kept, f"SHELL := {' '.join(words)} $(SHELL)"]
 
 
 def keep_shell(port):
     """Gives references to SHELL the shell alone."""
-    for line in port.lines():
+    heads = [line for file in port.ported.values() for line in shared_includes.heads(file)]
+    for line in [line for line in port.lines() if line not in heads]:
         for found in re.finditer(r"\$(\(SHELL\)|\{SHELL\})", line.text[:line.expanded_length()]):
             is_escaped = line.text[:found.start()].endswith("$") and not line.text[:found.start()].endswith("$$")
             if is_escaped or any(start <= found.start() < end for start, end in line.edits):
                 continue
-            port.keeps_shell = True
-            name = port.values.add("V_SHELL", "$(SHELL)", "$(or $(KATI_SHELL),$(SHELL))", "the shell itself", True)
+            name = port.values.add(line, "SHELL", "$(SHELL)", frozen_values.KATIS_SHELL, "the shell itself", True)
             line.edits[found.span()] = f"$({name})"

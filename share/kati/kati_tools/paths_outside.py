@@ -4,7 +4,7 @@ import functools
 import re
 from collections import Counter
 
-from . import files, includes, outside
+from . import files, includes, makefile_text, outside
 from .programs import bytes_of, text_of
 
 ASSIGNMENT = re.compile(r"[ \t]*(?:override[ \t]+|export[ \t]+)*([^\s:#=?+!$]+)[ \t]*(?::{0,3}|[?+!])=[ \t]*(.*)")
@@ -50,7 +50,7 @@ class Text:
     def add(self, data):
         """Takes in a makefile, as bytes."""
         others = []
-        for piece in pieces(bytes_of(includes.without_continuations(text_of(data))) if b"\\" in data else data):
+        for piece in pieces(bytes_of(makefile_text.without_continuations(text_of(data))) if b"\\" in data else data):
             lines = LINE.findall(b"\n" + piece)
             joined = b"\n".join(lines)
             if b"=" in joined or b"$" in joined:
@@ -143,7 +143,7 @@ class Paths:
     def named(self, folder, below):
         """Of a folder those of the names below it that are named themselves, and itself where something else in it
         is."""
-        if not below and bytes_of(f"{folder}..") not in self.text:
+        if not below and folder not in self.before_up:
             return [folder]
         named = [folder + name for name in ("..", *below) if folder + name in self.all]
         return named if self.counts[folder] == len(named) else [folder, *named]
@@ -153,6 +153,17 @@ class Paths:
         """The words that may be paths, which takes as long to find as the folders, and mostly isn't needed."""
         words = {word.partition(b"\t")[0] for word in set(self.text.split(b" "))}
         return {text_of(word) for word in words if b"/" in word or b".." in word}
+
+    @functools.cached_property
+    def before_up(self):
+        """What stands before `..` in a path, up to the slash between them."""
+        found, path = set(), b""
+        for piece in self.text.split(b"/..")[:-1]:
+            at = max(piece.rfind(b" "), piece.rfind(b"\t")) + 1
+            # A piece without a blank goes on with the path before it.
+            path = (b"" if at else path + b"/..") + piece[at:]
+            found.add(text_of(path + b"/"))
+        return found
 
     @functools.cached_property
     def counts(self):

@@ -4,13 +4,13 @@ kati itself says what is to be done: it is run, the line that its fault names is
 kati meets is changed. What make makes of a makefile is asked before anything is changed (make_probes.py)."""
 import argparse
 import contextlib
-import functools
 import os
 import re
 from collections import Counter
 
 from . import (default_rule, files, folder_search, freezing, frozen_values, includes, make_probes, make_run,
-               makefile_text, mending, mending_exports, ported_text, target_macros, translating, values_file)
+               makefile_text, mending, mending_exports, ported_text, shared_includes, target_macros, translating,
+               values_file)
 from .programs import Stop
 
 FAULT = re.compile(r"^(.*?)(?::(\d+))?: \*\*\* (.*) \[(E\d\d)\]$", re.MULTILINE)
@@ -18,10 +18,6 @@ DEPENDENCIES = re.compile(r"\.(d|dep|deps|P|depend)$|(^|/)\.?(deps?|depends?|dep
 WRITES_DEPENDENCIES = re.compile(r"(?<![\w-])-MM?D\b")
 # What make says where a file isn't there that a configure would write.
 LACKS = re.compile(r"No rule to make target|No such file|No targets")
-# An inner make; one that is given a makefile; and the option that does so with a makefile's name, as a macro has it.
-INNER_MAKE = re.compile(r"\$[({]MAKE[)}]")
-INNER_BY_FILE = re.compile(r"\$[({]MAKE[)}].*[ \t](-f|--file|--makefile)\b", re.DOTALL)
-NAMES_MAKEFILE = re.compile(r"(?<![\w-])(-f|--file|--makefile)[ \t=]*[^\s;|&]*([Mm]ake|MAKE)")
 # What tells of the run, and is asked for where a makefile names it.
 RUN = ("CURDIR", "MAKECMDGOALS", "MAKELEVEL", "MAKE_COMMAND", "MAKE_HOST", "HOME", "PATH", "PWD", "USER", "LOGNAME",
        "TMPDIR")
@@ -72,7 +68,7 @@ class Port:
     def __init__(self, asked, copy, room):
         self.asked, self.copy, self.room = asked, copy, room
         self.makefile = os.path.normpath(asked.makefile)
-        self.ported, self.made, self.hidden = {}, [], []
+        self.ported, self.made, self.remade, self.hidden = {}, [], [], []
         self.did, self.notes, self.cleared = Counter(), [], []
         self.run = make_run.MakeRun(self.makefile, asked.goals, asked.macros, room, copy.control.environment())
         kept = files.read(frozen_values.NAME)
@@ -83,7 +79,7 @@ class Port:
         self.values = frozen_values.Values(values_file.ValuesFile(kept) if kept is not None else None)
         self.of_the_run, self.depth, self.listing = {}, asked.depth, None
         self.freezer = freezing.Freezer(self)
-        self.exports, self.exported, self.keeps_shell = [], {}, False
+        self.exports, self.exported = [], {}
         self.target_macros = target_macros.TargetMacros(self)
         self.search, self.default_rule = folder_search.Search(self), default_rule.DefaultRule(self)
 
@@ -100,7 +96,9 @@ class Port:
         """The file of this name, which may be rewritten; None where it may not."""
         name = os.path.normpath(name)
         if name != frozen_values.NAME and name not in self.ported and os.path.isfile(name) and self.copy.own(name):
-            self.ported[name] = ported_text.PortedFile(name, files.read(name))
+            prefix = ported_text.PREFIX if name == self.makefile else ported_text.prefix_of(name)
+            self.values.prefixes.add(prefix)
+            self.ported[name] = ported_text.PortedFile(name, files.read(name), prefix)
         return self.ported.get(name)
 
     def lines(self):
@@ -110,21 +108,22 @@ class Port:
     def look(self):
         """Has make make its includes, finds the makefiles, and asks for the values of what kati refuses."""
         self.load(self.makefile)
-        before = self.copy.files()
+        first = self.copy.times()
         self.shell = make_run.shell_in(self.lines())
         self.run.use_shell(self.shell)
         self.run.values(["$(MAKE)"])
-        self.by_shell = sorted(self.copy.files() - before)
-        before = self.copy.files()
+        before = self.copy.times()
+        self.by_shell = sorted(set(before) - set(first))
+        by_shell = changed(first, before)
         status, _, said = self.run.make_includes()
         if status:
             raise MakeFails(status, said)
         told = self.run.value("$(MAKEFILE_LIST)")
         named = {os.path.normpath(os.path.relpath(name)) for name in (told or "").split()}
         self.read = named - {os.path.relpath(self.run.extra)}
-        for name in sorted(self.read):
-            self.load(name)
-        self.sort_made(sorted(self.copy.files() - before))
+        self.load_read()
+        self.times = self.copy.times()
+        self.sort_made(sorted(set(self.times) - set(before)), sorted(changed(before, self.times) - by_shell))
         self.before = self.run.commands()
         if self.before[0]:
             raise MakeFails(self.before[0], self.before[2])
@@ -132,6 +131,12 @@ class Port:
         texts = [file.before for file in self.ported.values()]
         self.values.taken = "\n".join([*texts, files.read(frozen_values.NAME) or ""])
         self.ask_of_the_run(self.values.taken)
+
+    def load_read(self):
+        """Loads what make reads, as it is once make has written anew what has a rule and is out of date."""
+        self.ported.clear()
+        for name in [self.makefile, *sorted(self.read)]:
+            self.load(name)
 
     def asked_probes(self):
         """The probes, of which make told the values. Where a macro has several, each reference to it gets a probe."""
@@ -144,11 +149,13 @@ class Port:
                 return probes
             unsettled = more
 
-    def sort_made(self, new):
-        """Of the files that make made before anything: those that the makefiles need, and the dependencies, which
-        aren't there when kati reads."""
-        if any(name in self.read and not DEPENDENCIES.search(name) for name in new):
-            self.made = [name for name in new if not DEPENDENCIES.search(name)]
+    def sort_made(self, new, others):
+        """Of the files that make made before anything, or wrote anew: those that the makefiles need, and the
+        dependencies, which aren't there when kati reads."""
+        new_ones, remade = ([name for name in names if not DEPENDENCIES.search(name)] for names in (new, others))
+        remade = [name for name in remade if files.content(name) != files.content(os.path.join(self.copy.real, name))]
+        if not self.read.isdisjoint([*new_ones, *remade]):
+            self.made, self.remade = new_ones, remade
         self.hidden = [name for name in new if name not in self.made]
         for name in self.hidden:
             self.ported.pop(name, None)
@@ -186,40 +193,25 @@ class Port:
         main = self.ported[self.makefile]
         main.tail = self.tail()
         has_values = bool(self.values.all or any(self.of_the_run.values()))
-        is_new = has_values and not main.before.startswith((frozen_values.INCLUDE, *self.head_elsewhere()))
-        include = self.head_elsewhere() if self.is_read_elsewhere() else [frozen_values.INCLUDE]
-        main.head = [*(include if is_new else []), *self.search.head()]
+        is_new = has_values and not main.before.startswith(translating.INCLUDE_VALUES)
+        main.head = [*([translating.INCLUDE_VALUES] if is_new else []), *self.search.head()]
         if has_values:
-            files.replace(frozen_values.NAME, self.values.text(self.of_the_run, self.line_that_hides()), self.room)
+            text = self.values.text(self.of_the_run, list(self.lines_that_hide()))
+            files.replace(frozen_values.NAME, text, self.room)
         for file in self.ported.values():
-            if file is not main and has_values and self.is_shared(file.name):
-                file.head = self.values.head(file.text())
+            if file is not main and has_values:
+                file.head = self.values.head(file)
             files.replace(file.name, file.text(), self.room)
 
-    @staticmethod
-    def head_elsewhere():
-        """How a makefile that make may read in another folder includes the values."""
-        return ["\n".join(frozen_values.INCLUDE_ELSEWHERE)]
-
-    @functools.lru_cache(None)
-    def is_read_elsewhere(self):
-        """Whether make may read the makefile in another folder, as one that looks for its own folder, or names itself
-        to an inner make."""
-        texts = [line.joined for line in self.lines() if frozen_values.NAME not in line.text]
-        is_inner = any(map(INNER_MAKE.search, texts)) and any(map(NAMES_MAKEFILE.search, texts))
-        return is_inner or any("MAKEFILE_LIST" in text or INNER_BY_FILE.search(text) for text in texts)
-
-    def line_that_hides(self):
-        """The line that keeps the file of values out of the list of makefiles, where they ask for that; else None."""
-        if not any("MAKEFILE_LIST" in line.text for line in self.lines() if frozen_values.NAME not in line.text):
-            return None
-        return frozen_values.HIDING
-
-    @functools.lru_cache(None)
-    def is_shared(self, name):
-        """Whether another makefile may include this one, and so needs make's own calls in it."""
-        others = [other for other in self.copy.files(True) if self.is_other_makefile(other)]
-        return any(os.path.basename(name) in files.read(other) for other in others)
+    def lines_that_hide(self):
+        """The lines that keep the file of values out of the list of makefiles, where they ask for that, and its macros
+        out of the environment, where they export all."""
+        lines = [line.joined for line in self.lines() if frozen_values.NAME not in line.text]
+        if any("MAKEFILE_LIST" in line for line in lines):
+            yield frozen_values.HIDING
+        exports_all = any(line.split() == ["export"] or line.startswith(".EXPORT_ALL_VARIABLES") for line in lines)
+        if exports_all and self.values.all:
+            yield f"unexport {' '.join(one.name for one in self.values.all)}"
 
     def is_other_makefile(self, name):
         """Whether a file has a makefile's name, and isn't read by this one."""
@@ -289,6 +281,7 @@ class Port:
     def rewrite(self):
         """Rewrites the files until kati takes them; answers its translation."""
         self.look()
+        shared_includes.add_values(self)
         self.freeze_lists_of_makefiles()
         if self.asked.has_deps and any(WRITES_DEPENDENCIES.search(file.before) for file in self.ported.values()):
             # Or each file that a compiler writes would have the makefile read again.
@@ -303,6 +296,11 @@ class Port:
                 self.save()
                 return translation
         raise Stop("no end of faults", 1)
+
+
+def changed(before, after):
+    """The files of which the times, by their names, aren't those of before."""
+    return {name for name, time in before.items() if after.get(name, time) != time}
 
 
 def last_line(text):

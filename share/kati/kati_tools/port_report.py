@@ -54,8 +54,8 @@ def did(port):
     if needed:
         count = comparing.counted(len(needed), "target-specific macro")
         yield f"{count} asked for by the target's name, at the end of the makefile"
-    if port.made:
-        yield f"made first, as make does: {' '.join(port.made)}"
+    if port.made or port.remade:
+        yield f"made first, as make does: {' '.join([*port.remade, *port.made])}"
     if port.by_shell:
         yield f"$(shell ..) writes {' '.join(port.by_shell)} while make reads the makefile; kati doesn't"
     yield from port.notes

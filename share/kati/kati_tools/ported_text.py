@@ -3,12 +3,22 @@
 What kati refuses stays for make. A line is mended in one of two ways: parts of it are replaced, for both programs, by
 references to macros that give each its own; or the whole line stands under `ifdef MAKE_VERSION`, and what kati gets in
 its place under `else`."""
+import os
 import re
 
 from . import makefile_text
 
 MAKES_ALONE = "ifdef MAKE_VERSION"
 KATIS_ALONE = "ifndef MAKE_VERSION"
+# What the names of macros of kati-values.mk begin with.
+PREFIX = "V_"
+
+
+def prefix_of(include):
+    """What they begin with where an include names them: with its name, as makefiles of other folders may read it that
+    have macros of their own."""
+    stem = re.sub(r"[^A-Za-z0-9_]", "_", re.sub(r"\.mk$", "", os.path.basename(include)))
+    return f"{PREFIX}{stem.lstrip('_')}_"
 
 
 class PortedLine(makefile_text.Line):
@@ -16,11 +26,11 @@ class PortedLine(makefile_text.Line):
 
     `edits` has what stands in the place of parts of it, by where they begin and end. Where it is wrapped, make has the
     line and kati what `for_kati` makes of it, or nothing. What stands in `before` comes before the line. A line that
-    is gone stands in the one that took it in."""
+    is gone stands in the one that took it in. `prefix` begins the names of macros that it gets."""
 
-    def __init__(self, number, text, is_body):
+    def __init__(self, number, text, is_body, prefix):
         super().__init__(number, text)
-        self.is_body = is_body
+        self.is_body, self.prefix = is_body, prefix
         self.edits, self.before = {}, None
         self.is_wrapped, self.for_kati, self.is_gone = False, None, False
 
@@ -70,14 +80,14 @@ class PortedLine(makefile_text.Line):
 class PortedFile:
     """A makefile as such lines, with what is put before and after them."""
 
-    def __init__(self, name, text):
+    def __init__(self, name, text, prefix=PREFIX):
         self.name, self.before = name, text
         self.ending = "\r\n" if "\r\n" in text and text.count("\r\n") == text.count("\n") else "\n"
         self.head, self.tail, self.lines, depth = [], [], [], 0
         for line in makefile_text.lines(text.replace(self.ending, "\n")):
             words = line.joined.split()[:3]
             is_end = depth > 0 and words[:1] == ["endef"]
-            self.lines.append(PortedLine(line.number, line.text, depth > 0 and not is_end))
+            self.lines.append(PortedLine(line.number, line.text, depth > 0 and not is_end, prefix))
             depth += ("define" in words and is_define(words)) - is_end
 
     def text(self):

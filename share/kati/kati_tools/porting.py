@@ -68,10 +68,10 @@ def parser():
     """The command line of kati-port."""
     made = words.Parser(prog="kati-port", description=ABOUT, epilog=MORE,
                         usage="kati-port [--macros] [--builtin] [--files-from git|find|FILE] [--kati PROGRAM]\n"
-                              "                 MAKEFILE.. [NAME=VALUE]..\n"
+                              "                 [-f] MAKEFILE.. [NAME=VALUE]..\n"
                               "       kati-port --write [--diff] [--files-from ..] [--kati PROGRAM]\n"
-                              "                 MAKEFILE [GOAL|NAME=VALUE]..\n"
-                              "       kati-port --values [MAKEFILE] [GOAL|NAME=VALUE]..")
+                              "                 [-f] MAKEFILE [GOAL|NAME=VALUE]..\n"
+                              "       kati-port --values [[-f] MAKEFILE] [GOAL|NAME=VALUE]..")
     made.add_argument("--write", action="store_true",
                       help="rewrites the makefile and its includes until kati takes them, for these goals and macros, "
                            "with make's usual macros and rules as kati-build --builtin has them")
@@ -85,41 +85,51 @@ def parser():
     words.add_builtin(made)
     words.add_files_from(made)
     words.add_kati(made)
+    made.add_argument("-f", dest="makefiles", metavar="FILE", action="append", default=[],
+                      help="the makefile, as make and kati-build take it; it stands before the other words then")
     made.add_argument("words", nargs="*", metavar="MAKEFILE|GOAL|NAME=VALUE",
                       help="a makefile; a goal; a macro that is given to kati")
     return made
 
 
-def all_findings(makefile, asked, macros):
-    """What stands in the way in a makefile and its includes, file by file, from the first line to the last."""
-    scan = scanning.Scan(word.split("=", 1)[0] for word in macros)
-    scan.file_of(makefile)
-    with tempfile.TemporaryDirectory(prefix="kati-port-") as room:
-        copy = branches.write_copies(scan, room)[makefile]
-        scan.is_idle_place = branches.not_taken(translation(copy, asked, macros, room).said)
-    found = scan.findings + leaning.findings(scan, asked.builtin)
-    for one in found:
-        one.is_idle = scan.is_idle(one.file, one.number)
-    order = {name: number for number, name in enumerate(dict.fromkeys(one.file for one in found))}
-    found = {(one.file, one.number, one.form, one.kind): one for one in found}
-    return sorted(found.values(), key=lambda one: (one.file != makefile, order[one.file], one.number))
+class Makefile:
+    """A makefile that is looked through, with the macros that are given, and the files that exist for it."""
 
+    def __init__(self, name, asked, macros):
+        self.name, self.asked, self.macros = name, asked, macros
+        self.listing = translating.listing(self.words_for(name))
 
-def translation(makefile, asked, macros, room):
-    """kati's translation of a makefile."""
-    told = argparse.Namespace(kati=asked.kati, makefile=makefile, builtin=asked.builtin, depth=None, words=macros,
-                              files_from=asked.files_from)
-    return translating.Translator(told, room).translate(translating.listing(told))
+    def words_for(self, name):
+        """What kati is asked, for this makefile or a copy of it."""
+        return argparse.Namespace(kati=self.asked.kati, makefile=name, builtin=self.asked.builtin, depth=None,
+                                  words=self.macros, files_from=self.asked.files_from)
 
+    def translation(self, name, room):
+        """kati's translation of the makefile, or of a copy of it."""
+        return translating.Translator(self.words_for(name), room).translate(self.listing)
 
-def first_fault(makefile, asked, macros):
-    """What kati says of the makefile: its first fault, or None where it takes it."""
-    with tempfile.TemporaryDirectory(prefix="kati-port-") as room:
-        found = translation(makefile, asked, macros, room)
-        if found.status == 0:
-            return None
-        lines = [line for line in found.said.split("\n") if line]
-        return lines[-1] if lines else f"status {found.status}"
+    def findings(self):
+        """What stands in the way in it and its includes, file by file, from the first line to the last."""
+        scan = scanning.Scan(word.split("=", 1)[0] for word in self.macros)
+        scan.file_of(self.name)
+        with tempfile.TemporaryDirectory(prefix="kati-port-") as room:
+            copy = branches.write_copies(scan, room)[self.name]
+            scan.is_idle_place = branches.not_taken(self.translation(copy, room).said)
+        found = scan.findings + leaning.findings(scan, self.asked.builtin)
+        for one in found:
+            one.is_idle = scan.is_idle(one.file, one.number)
+        order = {name: number for number, name in enumerate(dict.fromkeys(one.file for one in found))}
+        found = {(one.file, one.number, one.form, one.kind): one for one in found}
+        return sorted(found.values(), key=lambda one: (one.file != self.name, order[one.file], one.number))
+
+    def first_fault(self):
+        """What kati says of it: its first fault, or None where it takes it."""
+        with tempfile.TemporaryDirectory(prefix="kati-port-") as room:
+            found = self.translation(self.name, room)
+            if found.status == 0:
+                return None
+            lines = [line for line in found.said.split("\n") if line]
+            return lines[-1] if lines else f"status {found.status}"
 
 
 def counted(found, fault):
@@ -133,12 +143,11 @@ def counted(found, fault):
     return f"{sum(counts.values())} in the way: {told}{rest}"
 
 
-def port(makefile, asked, macros):
+def port(makefile):
     """Tells what stands in the way of one makefile; answers whether something does."""
-    found = all_findings(makefile, asked, macros)
-    fault = first_fault(makefile, asked, macros)
-    lines = [*(one.told() for one in found), f"{makefile}: {counted(found, fault)}",
-             f"kati takes {makefile}" if fault is None else f"kati's first fault: {fault}"]
+    found, fault = makefile.findings(), makefile.first_fault()
+    lines = [*(one.told() for one in found), f"{makefile.name}: {counted(found, fault)}",
+             f"kati takes {makefile.name}" if fault is None else f"kati's first fault: {fault}"]
     write_text("".join(f"{line}\n" for line in lines))
     return any(not one.is_idle for one in found) or fault is not None
 
@@ -154,6 +163,9 @@ def ask_macros(makefile, macros):
 
 def run_port(asked):
     """Answers the exit status."""
+    if len(asked.makefiles) > 1:
+        raise Stop("one makefile stands after -f", words.WRONG_USAGE)
+    asked.words = [*asked.makefiles, *asked.words]
     if asked.write or asked.diff:
         return write_command.run(asked)
     if asked.values:
@@ -165,7 +177,7 @@ def run_port(asked):
         for makefile in makefiles:
             ask_macros(makefile, macros)
         return 0
-    return 1 if any([port(makefile, asked, macros) for makefile in makefiles]) else 0
+    return 1 if any([port(Makefile(makefile, asked, macros)) for makefile in makefiles]) else 0
 
 
 def main(line):

@@ -164,8 +164,8 @@ def write_text(text):
 
 def told(error):
     """What to say of an error of a file."""
-    what = error.strerror or str(error)
-    return what if error.filename is None else f"{os.fsdecode(error.filename)}: {what}"
+    what, name = error.strerror or str(error), error.filename2 or error.filename
+    return what if name is None else f"{os.fsdecode(name)}: {what}"
 
 
 def close_output():

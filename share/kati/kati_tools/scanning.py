@@ -3,7 +3,7 @@ expansion."""
 import os
 import re
 
-from . import branches, files, includes, makefile_text
+from . import branches, files, includes, makefile_text, translating
 from .advice import Finding
 from .forms import CALL, FUNCTION, MEMBER, WILD, has_continued_comment, has_wildcard, members_in, without_references
 
@@ -243,6 +243,8 @@ class Scan:
 
     def include(self, line, word, text):
         """An include; answers its plain names."""
+        if line.text == translating.INCLUDE_VALUES:
+            return [translating.VALUES]
         names = makefile_text.words(text.strip()[len(word):])
         self.expanded(line, " ".join(names))
         for name in names:

@@ -1,6 +1,7 @@
 """A build by make and one by ninja, each in a scratch copy of this folder, and what came into being in them."""
 import hashlib
 import os
+import re
 import subprocess
 
 from . import files, ninja_text
@@ -12,8 +13,15 @@ from .translating import default_makefile
 # What a compiler writes of the day of the build is the same in both.
 DAY = {"SOURCE_DATE_EPOCH": "0"}
 SHOWN = 20
+FAILED = re.compile(r"^make.*: \*\*\* |^FAILED: ")
 # A time before that of any file, in seconds.
 OLD = 86400
+
+
+def end_of(said):
+    """The end of what a build said; before it the lines that tell what failed, which other commands may follow."""
+    lines = said.rstrip().split("\n")
+    return "\n".join([*filter(FAILED.search, lines[:-SHOWN]), *lines[-SHOWN:]])
 
 
 def content(path):
@@ -56,7 +64,7 @@ class Built:
         ran = subprocess.run([name, *words], executable=need(name), cwd=copy.folder, env=environment(**DAY),
                              stdin=subprocess.DEVNULL, stdout=subprocess.PIPE, stderr=subprocess.STDOUT)
         self.status = ran.returncode
-        self.said = "\n".join(text_of(ran.stdout).rstrip().split("\n")[-SHOWN:])
+        self.said = end_of(text_of(ran.stdout))
         self.files = {name: one for name, one in snapshot(copy).items() if before.get(name) != one}
         copy.remove()
 

@@ -136,6 +136,10 @@ class Copy:
             found.update(os.path.relpath(os.path.join(at, name), self.top) for name in names)
         return found
 
+    def times(self):
+        """When the files in the copy were written, by their names."""
+        return {name: os.lstat(name).st_mtime_ns for name in self.files() if os.path.lexists(name)}
+
     @contextlib.contextmanager
     def entered(self):
         """Makes the copy this process's folder for a while."""

@@ -8,8 +8,10 @@ from .programs import NO_FILE, SHARE, Stop, bytes_of, find_kati, run, run_into, 
 from .words import WRONG_USAGE, goals_of, macros_of
 
 MACROS, RULES, WITH_BUILTIN = "builtin-macros.mk", "builtin-rules.mk", "with-builtin.mk"
-# What kati-port writes beside a makefile.
+# What kati-port writes beside a makefile, and how the makefile includes it: make may read it in another folder, and
+# kati has no list of makefiles.
 VALUES, GOALS = "kati-values.mk", "MAKECMDGOALS"
+INCLUDE_VALUES = f"include $(dir $(lastword $(MAKEFILE_LIST))){VALUES}"
 # What a folder has in which another tool makes the makefile, or a Ninja file, and how.
 MAKERS = (("configure", "run ./configure first"), ("configure.ac", "run autoreconf -i and ./configure first"),
           ("CMakeLists.txt", "cmake -G Ninja writes a Ninja file itself"),

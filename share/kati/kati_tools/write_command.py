@@ -21,11 +21,17 @@ class Written:
     def __init__(self, ported):
         real = ported.copy.real_text
         self.texts = {name: real(file.text()) for name, file in ported.ported.items()
-                      if file.text() != file.before or name in ported.made}
+                      if file.text() != file.before or name in ported.made or name in ported.remade}
         values = files.read(frozen_values.NAME)
         if values is not None and real(values) != files.read(os.path.join(ported.copy.real, frozen_values.NAME)):
             self.texts[frozen_values.NAME] = real(values)
-        self.made = {name: files.read(name) for name in ported.made if name not in self.texts}
+        made = {name: files.read(name) for name in [*ported.made, *ported.remade] if name not in self.texts}
+        self.made = {name: text if "\0" in text else real(text) for name, text in made.items()}
+        self.times = ported.times
+
+    def all(self):
+        """All of them, those that make wrote first before others, so that none is out of date."""
+        return dict(sorted({**self.texts, **self.made}.items(), key=lambda one: self.times.get(one[0], 0)))
 
 
 @contextlib.contextmanager
@@ -47,9 +53,7 @@ def write_files(texts):
         for name, text in texts.items():
             place = os.path.realpath(name)
             os.makedirs(os.path.dirname(place) or ".", exist_ok=True)
-            handle, new[place] = tempfile.mkstemp(prefix=".kati-port-", dir=os.path.dirname(place))
-            with open(handle, "wb") as file:
-                file.write(bytes_of(text))
+            write_beside(place, text, new)
             mode = os.stat(place).st_mode & 0o7777 if os.path.exists(place) else 0o666 & ~umask()
             os.chmod(new[place], mode)
         with uninterrupted():
@@ -60,6 +64,16 @@ def write_files(texts):
         for name in new.values():
             with contextlib.suppress(OSError):
                 os.unlink(name)
+
+
+def write_beside(place, text, new):
+    """Writes a text into a new file beside a place, which the names `new` then have; an error names the place."""
+    try:
+        handle, new[place] = tempfile.mkstemp(prefix=".kati-port-", dir=os.path.dirname(place))
+        with open(handle, "wb") as file:
+            file.write(bytes_of(text))
+    except OSError as error:
+        raise OSError(error.errno, error.strerror, place) from error
 
 
 def umask():
@@ -85,6 +99,7 @@ def told(ported, comparison):
     yield from (f"{name}: {line}" for line in comparison.told())
     given = [] if name in ("makefile", "Makefile") else ["-f", name]
     given += ["--depth", str(ported.depth)] if ported.depth is not None else []
+    given += ["--deps"] if any(kind == "dependencies" for kind, _ in ported.did) else []
     words_for_build = ["kati-build", "--builtin", *given, *ported.run.goals, *ported.run.macros]
     yield f"{name}: {' '.join(map(shlex.quote, words_for_build))} builds it"
 
@@ -137,10 +152,10 @@ def write(asked):
         written, lines = ported_in_copy(asked, room)
         lines = lines if written.texts else [f"{asked.makefile}: kati takes it as it is", *lines]
         if asked.diff:
-            write_text("".join(differences({**written.texts, **written.made})))
+            write_text("".join(differences(written.all())))
             sys.stderr.write("".join(f"{line}\n" for line in lines))
             return 0
-        write_files({**written.texts, **written.made})
+        write_files(written.all())
     write_text("".join(f"{line}\n" for line in lines))
     return 0
 
@@ -159,7 +174,7 @@ def run(given):
 
 def run_values(given):
     """--values for the words of the command line."""
-    makefiles = [word for word in given.words[:1] if "=" not in word and os.path.isfile(word)]
+    makefiles = given.makefiles or [word for word in given.words[:1] if "=" not in word and os.path.isfile(word)]
     makefile = makefiles[0] if makefiles else translating.default_makefile()
     if makefile is None or not os.path.isfile(frozen_values.NAME):
         raise Stop(f"no {frozen_values.NAME if makefile else 'makefile'} here")

@@ -1,0 +1,76 @@
+"""kati-port --write where several programs, each ported in its folder, read one include."""
+from support import Tree, needs
+
+
+@needs("kati", "kati-asked", "make")
+class Including(Tree):
+    """A tree of programs."""
+
+    def put_all(self, files):
+        """Writes files."""
+        for name, text in files.items():
+            self.put(name, text)
+
+    def port(self, folder):
+        """What a port says that changes no command."""
+        ran = self.run_in("env", "-C", folder, self.tool_path("kati-port"), "--write", "Makefile")
+        self.assertEqual(ran.status, 0, ran.all)
+        self.assertIn("kati's commands are make's\n", ran.out)
+        return ran.out
+
+    def makes_commands(self, folder):
+        """What make would do in a folder."""
+        ran = self.run_in("make", "-n", "-s", "-C", folder)
+        self.assertEqual(ran.status, 0, ran.all)
+        return ran.out
+
+    def test_an_include_has_makes_calls_for_others_that_read_it(self):
+        other = "include ../mk/a.mk\nall: ; echo other $(A)\n"
+        self.put_all({"mk/a.mk": "A := $(shell echo $(F))\n", "other/Makefile": f"F = 2\n{other}",
+                      "one/Makefile": "F = 1\ninclude ../mk/a.mk\nall: ; echo $(A)\n", "one/rules": other})
+        self.port("one")
+        for name, said in (("one/rules", "echo other \n"), ("other/Makefile", "echo other 2\n")):
+            ran = self.run_in("make", "-n", "--no-print-directory", "-C", name.split("/")[0], "-f", name.split("/")[1])
+            self.assertEqual(ran.out, said)
+        text = self.read("mk/a.mk")
+        self.assertIn("Makefile: 1 value in kati-values.mk: 1 shell\n", self.port("other"))
+        self.assertEqual(self.read("mk/a.mk"), text)
+
+    def test_what_another_port_adds_to_an_include_changes_no_program(self):
+        own = "N = $(shell echo own)\ncommon_N = $(shell echo too)\ninclude ../common.mk\n" \
+            "all: ; echo $(common_N) $(N) $(shell echo one) $(M)\n"
+        include = "ifdef B\nN := $(shell echo b)\nifeq ($(shell echo one),one)\nM = 1\nendif\nendif\n"
+        self.put_all({"common.mk": include, "a/Makefile": own, "b/Makefile": f"B = 1\n{own}"})
+        self.port("a")
+        self.assertEqual(self.makes_commands("a"), "echo too own one \n")
+        self.port("b")
+        self.assertEqual(self.makes_commands("a"), "echo too own one \n")
+        self.assertEqual(self.makes_commands("b"), "echo too b one 1\n")
+        # A value of both is two macros.
+        text = self.read("common.mk")
+        self.assertEqual(text.split("ifdef B\n")[0], "ifdef MAKE_VERSION\nV_common_N = $(shell echo b)\n"
+                         "V_common_shell = $(shell echo one)\nendif\n")
+        for line in ("V_shell = $(shell echo one)", "V__common_N = $(shell echo too)"):
+            self.assertIn(f"\n{line}\n", self.read("b/kati-values.mk"))
+        self.assertIn("Makefile: 2 values in kati-values.mk: 2 shell\n", self.port("a"))
+        self.assertEqual(self.makes_commands("a"), "echo too own one \n")
+        self.assertIn("Makefile: kati takes it as it is\n", self.port("a"))
+        self.assertEqual(self.read("common.mk"), text)
+
+    def test_the_shell_that_an_include_names_where_two_programs_export(self):
+        own = "export A = 1\ninclude ../mk/a-b.mk\n"
+        self.put_all({"mk/a-b.mk": "all: ; '$(SHELL)' -c 'echo $$A'\n", "one/Makefile": own, "two/Makefile": own})
+        text = "ifdef MAKE_VERSION\nV_a_b_SHELL = $(SHELL)\nendif\nall: ; '$(V_a_b_SHELL)' -c 'echo $$A'\n"
+        for folder in ("one", "two", "one"):
+            self.port(folder)
+            self.assertEqual(self.read("mk/a-b.mk"), text)
+            self.assertEqual(self.makes_commands(folder), "'/bin/sh' -c 'echo $A'\n")
+        self.assertEqual(self.read("two/kati-values.mk"), self.read("one/kati-values.mk"))
+
+    def test_a_port_keeps_the_names_that_an_include_has(self):
+        text = "ifdef MAKE_VERSION\nV_A = $(shell echo 1)\nendif\nA := $(V_A)\n"
+        self.put_all({"mk/a-b.mk": text + "B := $(shell echo 1)\n",
+                      "one/Makefile": "include ../mk/a-b.mk\nall: ; echo $(A) $(B) $(shell echo 1)\n"})
+        self.port("one")
+        self.assertEqual(self.read("mk/a-b.mk"), text + "B := $(V_A)\n")
+        self.assertIn("\nV_shell = $(shell echo 1)\n", self.read("one/kati-values.mk"))
