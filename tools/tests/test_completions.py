@@ -102,7 +102,7 @@ class Completing(unittest.TestCase):
         self.addCleanup(shell.close)
         shell.send(f"fpath=({SHARE}/zsh/site-functions $fpath); autoload -Uz compinit; compinit -u -D\n")
         shell.send("bindkey '^X' list-choices; LISTMAX=1000; PS1='> '; print re''ady\n")
-        shell.read_until("ready\r\n", 20)
+        shell.read_until("ready\r\n")
         shell.read_until("> ")
         self.ask(shell.offered)
 
@@ -121,7 +121,7 @@ class Terminal:
     def send(self, text):
         os.write(self.end, text.encode())
 
-    def read_until(self, mark, seconds=5):
+    def read_until(self, mark, seconds=60):
         """What is shown up to the mark; what comes after it is left for the next call."""
         last = time.monotonic() + seconds
         while mark not in self.shown and time.monotonic() < last:

@@ -166,4 +166,9 @@ class Texts(unittest.TestCase):
             self.assertEqual(len(self.found(names)), count)
             return time.process_time() - begin
 
-        self.assertLess(min(takes(16_000) for _ in range(3)), 8 * min(takes(4_000) for _ in range(3)))
+        # By the square it would be 256 times as much, in any round; the least of several isn't far above 16 times.
+        few, many = [], []
+        while len(many) < 3 or min(many) >= 64 * min(few) and len(many) < 10:
+            few.append(takes(1_000))
+            many.append(takes(16_000))
+        self.assertLess(min(many), 64 * min(few))

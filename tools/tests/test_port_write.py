@@ -5,9 +5,8 @@ import resource
 import shutil
 import signal
 import subprocess
-import time
 
-from support import TOOLS, Tree, needs
+from support import LONG, TOOLS, Tree, needs
 
 from kati_tools import programs, write_command
 
@@ -462,17 +461,15 @@ class Writing(Tree):
             self.assertEqual(self.tool("kati-port", mode, "-f", "other.mk", "-f", "other.mk").status, 64)
 
     def test_an_interrupt_changes_nothing(self):
-        self.put_all({"Makefile": "X := $(shell touch started; sleep 5)\nall: ; echo $(X)\n"})
+        self.put_all({"Makefile": "X := $(shell touch started; sleep 600)\nall: ; echo $(X)\n"})
         before = self.made()
         words = [TOOLS / "kati-port", "--write", "Makefile"]
         process = subprocess.Popen(words, cwd=self.top, stdout=subprocess.PIPE, stderr=subprocess.STDOUT, text=True,
                                    start_new_session=True, env={**os.environ, "TMPDIR": str(self.top.parent)},
                                    preexec_fn=lambda: signal.signal(signal.SIGINT, signal.SIG_DFL))
-        end = time.monotonic() + 100
-        while not list(self.top.parent.rglob("started")) and time.monotonic() < end:
-            time.sleep(0.05)
+        self.wait_for(lambda: list(self.top.parent.rglob("started")))
         os.killpg(process.pid, signal.SIGINT)
-        said = process.communicate(timeout=100)[0]
+        said = process.communicate(timeout=LONG)[0]
         self.assertEqual(process.returncode, 130, said)
         self.assertEqual(said, "kati-port: interrupted; no file was changed\n")
         self.assertEqual(self.made(), before)

@@ -5,7 +5,6 @@ The seed is fixed. KATI_RANDOM_TREES says how many trees are tried, and KATI_RAN
 import os
 import random
 import shutil
-import time
 
 from support import Tree, needs
 
@@ -177,7 +176,7 @@ class RandomEdits(Tree):
         with self.subTest(seed=seed, edits=done):
             self.after_edit(state, False)
             for _ in range(EDITS):
-                time.sleep(0.01)
+                self.let_time_pass()
                 done.append(state.edit())
                 self.lay(state, self.top)
                 self.after_edit(state, state.fault)
