@@ -1,4 +1,5 @@
 """Large files are read in pieces: what is told of them is what their bytes say."""
+import os
 import tempfile
 import unittest
 from pathlib import Path
@@ -40,6 +41,23 @@ class Pieces(unittest.TestCase):
             for changed in (text + b"\n", text[:-1] or b"y", text[:-1] + b"y", b"y" + text[1:]):
                 self.other.write_bytes(changed)
                 self.assertFalse(files.same(self.one, self.other))
+
+    def test_a_file_s_content_is_its_bytes(self):
+        for length in (0, 1, *(files.SMALL * count + more for count in (1, 2, 99) for more in (-1, 0, 1))):
+            self.one.write_bytes(b"x" * length)
+            self.assertEqual(files.content(self.one), b"x" * length)
+        # The size of such a file is said to be 0.
+        self.assertEqual(files.content("/proc/version"), Path("/proc/version").read_bytes())
+
+    def test_what_is_no_plain_file_has_no_content(self):
+        os.mkfifo(self.one)
+        # With a writer there is something to read, and without one nothing to wait for.
+        self.assertIsNone(files.content(self.one))
+        writer = os.open(self.one, os.O_RDWR)
+        self.addCleanup(os.close, writer)
+        os.write(writer, b"text")
+        for path in (self.one, self.other, self.one.parent, "/dev/null", "/dev/zero", "/dev/full", "a\0b"):
+            self.assertIsNone(files.content(path), path)
 
     def test_a_file_that_is_not_there_is_the_same_as_none(self):
         self.one.write_bytes(b"")

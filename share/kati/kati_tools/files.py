@@ -7,6 +7,8 @@ from .programs import bytes_of, text_of
 # So much of a large file is read at once, which stays in the processor's cache; memory for all of it would take longer
 # than its reading.
 PIECE = 2**18
+# A file of fewer bytes is read at once.
+SMALL = 2**12
 
 
 def nearest_folder(name):
@@ -64,19 +66,27 @@ def content(path):
         handle = os.open(path, os.O_RDONLY | os.O_CLOEXEC | os.O_NONBLOCK)
     except (OSError, ValueError):
         return None
-    # Without the objects of `open`, which take twice the time.
+    # Without the objects of `open`, and without asking what a small file is, which take half the time each. What has no
+    # places to read at, as a pipe, fails here.
     try:
-        found = os.fstat(handle)
-        if not S_ISREG(found.st_mode):
-            return None
-        size, parts = found.st_size, [os.read(handle, found.st_size + 1)]
-        while parts[-1] and len(parts[0]) != size:
-            parts.append(os.read(handle, PIECE))
-        return parts[0] if len(parts) == 1 else b"".join(parts)
+        data = os.pread(handle, SMALL, 0)
+        is_all = 0 < len(data) < SMALL and not os.pread(handle, 1, len(data))
+        return data if is_all else all_of(handle)
     except OSError:
         return None
     finally:
         os.close(handle)
+
+
+def all_of(handle):
+    """The bytes of an open file; None of one that isn't a plain one."""
+    found = os.fstat(handle)
+    if not S_ISREG(found.st_mode):
+        return None
+    size, parts = found.st_size, [os.read(handle, found.st_size + 1)]
+    while parts[-1] and len(parts[0]) != size:
+        parts.append(os.read(handle, PIECE))
+    return parts[0] if len(parts) == 1 else b"".join(parts)
 
 
 def pieces(path):
