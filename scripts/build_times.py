@@ -97,7 +97,8 @@ def main():
     parser.add_argument("--runs", type=int, default=5, metavar="N", help="runs of each, 5 without it")
     parser.add_argument("--small", action="store_true", help="a hundredth of each size")
     asked = parser.parse_args()
-    asked.kati, asked.kati_asked = os.path.abspath(asked.kati), os.path.abspath(asked.kati_asked)
+    # They run in other folders.
+    asked.kati, asked.kati_asked, asked.tools = map(os.path.abspath, (asked.kati, asked.kati_asked, asked.tools))
     print("| Case | N | kati | kati-build first | again | changed | first to kati | again | changed |")
     print("|---|---|---|---|---|---|---|---|---|")
     for name in asked.cases or CASES:
