@@ -73,6 +73,11 @@ class Tree(unittest.TestCase):
         path.parent.mkdir(parents=True, exist_ok=True)
         path.write_text(text)
 
+    def put_all(self, texts):
+        """Writes files by their names."""
+        for name, text in texts.items():
+            self.put(name, text)
+
     def program(self, name, text):
         """The path of a program beside the folder, a shell's with this text."""
         path = self.top.parent / name

@@ -116,6 +116,22 @@ class Comparing(Tree):
         self.differ("ifndef MAKE_VERSION\nB = b.d\nendif\n" + makefile.replace("a.d ;", "a.d $(B) ;")
                     + "b.d: ; @echo b\n", [], ["echo b"])
 
+    def test_the_environment_of_commands(self):
+        export = "ifdef MAKE_VERSION\nexport A = 1\n{}endif\nall: ; echo $$A\n"
+        for more, lines in (("", ["- A=1"]), ("else\nSHELL := A=\"2\" $(SHELL)\n", ["- A=1", "+ A=2"]),
+                            ("else\nSHELL := B=\"1\" A=\"1\" $(SHELL)\n", ["+ B=1"])):
+            self.write(Makefile=export.format(more))
+            self.assertEqual(self.compared(1).splitlines(),
+                             [*(f"{line} in the environment of commands" for line in lines),
+                              "differ: the environment of commands; 1 command the same"])
+        self.same(export.format("else\nSHELL := A=\"1\" $(SHELL)\n"), 1)
+
+    def test_the_environment_of_commands_where_all_is_exported(self):
+        export = "A = 1\nifdef MAKE_VERSION\nexport\nendif\n"
+        self.same(f"{export}all: ; echo $(A)\n", 1)
+        self.write(Makefile=f"{export}all: ; sh x.sh\n", x_sh="echo $A\n")
+        self.assertIn("- A=1 in the environment of commands\n", self.compared(1))
+
     def test_words_of_which_make_knows_nothing(self):
         self.write(Makefile="ifdef MAKE_VERSION\nA := $(shell echo one)\nendif\nall: ; echo $(A)\n")
         self.assertEqual(self.run_in("make", "-n").out, "echo one\n")

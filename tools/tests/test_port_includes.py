@@ -6,11 +6,6 @@ from support import Tree, needs
 class Including(Tree):
     """A tree of programs."""
 
-    def put_all(self, files):
-        """Writes files."""
-        for name, text in files.items():
-            self.put(name, text)
-
     def port(self, folder):
         """What a port says that changes no command."""
         ran = self.run_in("env", "-C", folder, self.tool_path("kati-port"), "--write", "Makefile")

@@ -3,7 +3,8 @@ import re
 import tempfile
 from collections import Counter
 
-from . import files, make_commands, scratch_builds, shell_text, translating, words
+from . import (command_environment, exported_names, files, includes, make_commands, scratch_builds, shell_text,
+               translating, words)
 from .command_lists import Compared, alone
 from .programs import Stop, ending, need, run, say, write_text
 
@@ -28,7 +29,11 @@ what is said:
   nothing to compare    neither has a command
   not compared          make would first make an include that isn't there or is out of date, and the
                         commands that do so: what it then reads, kati doesn't. `make -n` makes them
-  else                  lines with - are make's alone, lines with + kati's alone, and a count
+  else                  lines with - are make's alone, lines with + kati's alone, and a count. Such lines
+                        may tell of variables in the environment of commands: those that make
+                        exports, as `export A` under `ifdef MAKE_VERSION`, and those that kati has
+                        by SHELL. Where make exports all, those count that lines with `export` name,
+                        and that commands, scripts or inner makefiles ask for
   With --build, a line with ! is a file that has other bytes.
 
 how make is asked:
@@ -120,8 +125,23 @@ def counted(number, noun):
     return f"{number} {noun}{'' if number == 1 else 's'}"
 
 
-def verdict(found, are_words_shared):
+def in_environment(asking, asked, commands, listing):
+    """The lines that say where the commands of make and of kati have another environment."""
+    macros = [] if asked.words_for_kati else words.macros_of(asked.words)
+    added = asking.added_to_environment(words.goals_of(asked.words), macros)
+    read = includes.asked([asking.makefile], listing.names)
+    lines = exported_names.lines_of(read)
+    names = exported_names.chosen(added, exported_names.named(lines), macros, lines,
+                                  lambda: exported_names.asked_for(lines, listing.names, read))
+    return command_environment.differences(added, [name for found in names for name in found],
+                                           command_environment.of_commands(commands),
+                                           set(exported_names.macros_of_targets(lines)))
+
+
+def verdict(found, are_words_shared, has_other_environment):
     """The line that says how the commands of both compare."""
+    if found.is_same and has_other_environment:
+        return f"differ: the environment of commands; {counted(found.count, 'command')} the same"
     if not found.is_same:
         return f"differ: {counted(len(found.makes), 'command')} of make's alone, {len(found.katis)} of kati's alone, " \
                f"{found.count - len(found.katis)} the same"
@@ -131,8 +151,9 @@ def verdict(found, are_words_shared):
     return f"same: {counted(found.count, 'command')}{blanks}{SHARED if are_words_shared else ''}"
 
 
-def compare_commands(asking, asked, by_kati, said):
-    """Tells whether make and kati have the same commands; answers whether they do."""
+def compare_commands(asking, asked, by_kati, said, environment):
+    """Tells whether make and kati have the same commands; answers whether they do. `environment` are the lines that
+    tell of it."""
     goals, macros = words.goals_of(asked.words), words.macros_of(asked.words)
     makes_macros = [] if asked.words_for_kati else macros
     by_make, before = asking.commands(goals, makes_macros)
@@ -146,9 +167,10 @@ def compare_commands(asking, asked, by_kati, said):
         silent = asking.before_with_silent(makes_macros)
         by_make += alone(found.katis, alone(found.katis, silent))
         found = Compared(by_make, besides(before, said), by_kati)
+    write_text("".join(f"{line}\n" for line in environment))
     write_text("".join([*(f"- {line}\n" for line in found.makes), *(f"+ {line}\n" for line in found.katis)]))
-    write_text(verdict(found, bool(makes_macros)) + "\n")
-    return found.is_same
+    write_text(verdict(found, bool(makes_macros), bool(environment)) + "\n")
+    return found.is_same and not environment
 
 
 def compare_builds(asked, translation, room):
@@ -170,7 +192,8 @@ def compare(asked):
     translating.tell_of_other(TOOL, asked.makefile)
     with tempfile.TemporaryDirectory(prefix="kati-compare-") as room:
         translator = translating.Translator(asked, room)
-        translation = translator.translate(translating.listing(asked))
+        listing = translating.listing(asked)
+        translation = translator.translate(listing)
         if translation.status:
             say(TOOL, f"kati ended with status {translation.status}:\n{translation.said.rstrip()}")
             return translation.status
@@ -178,7 +201,8 @@ def compare(asked):
         by_kati = [text.strip() for command in commands for text in unwrapped(command)]
         asking = make_commands.Asking(asked.makefile or translating.default_makefile(), asked.builtin,
                                       shell_of(commands), room)
-        is_same = compare_commands(asking, asked, by_kati, translation.said)
+        environment = list(in_environment(asking, asked, commands, listing))
+        is_same = compare_commands(asking, asked, by_kati, translation.said, environment)
         if asked.build:
             is_same = compare_builds(asked, translation, room) and is_same
         return 0 if is_same else 1

@@ -1,8 +1,9 @@
 """The commands that make would run, asked in such a way that nothing is run."""
 import os
 import re
+import shlex
 
-from . import files
+from . import command_environment, files
 from .programs import Stop, bytes_of, need, run
 
 # The suffixes that kati begins with: `make -r` begins with none. What is made on the way stays, as with kati:
@@ -12,9 +13,27 @@ SUFFIXES = ".SUFFIXES: .o .c .cc .cpp .s .S .y .l .h .sh .a .f\n.SECONDARY:\n"
 # it.
 NO_GOAL = "kati_compare_makes_nothing"
 NO_RULE = f".PHONY: {NO_GOAL}\n{NO_GOAL}: ;\n.DEFAULT_GOAL :=\n"
-# A shell that runs no line of a recipe. make reads what $(shell ..) prints from a pipe, and leaves its own output,
-# which is a file, to recipes.
-NOOP = '#!/bin/sh\ntest -p /dev/stdout && exec {shell} "$@"\nexit 0\n'
+# A shell that runs no line of a recipe, but tells its environment for two. make reads what $(shell ..) prints from a
+# pipe, and leaves its own output, which is a file, to recipes.
+NOOP = """\
+#!/bin/sh
+test -p /dev/stdout && exec {shell} "$@"
+case "$*" in
+*kati_tells_its_environment_1) /usr/bin/env -0 > {told}1;;
+*kati_tells_its_environment_2) /usr/bin/env -0 > {told}2;;
+esac
+exit 0
+"""
+# Two targets that have it told, by another shell too where the makefile overrides SHELL; and a macro that is there
+# where make exports all.
+TELLING = ("kati_tells_1", "kati_tells_2")
+TELLING_RULES = f"""\
+.PHONY: {' '.join(TELLING)}
+{TELLING[0]}: ; /usr/bin/env -0 > {{told}}1 # kati_tells_its_environment_1
+{TELLING[1]}: ; /usr/bin/env -0 > {{told}}2 # kati_tells_its_environment_2
+.SECONDARY:
+{command_environment.OF_ALL} = 1
+"""
 # How make names the makefile that it reads as standard input, of which it makes a file of its own.
 OF_THIS_MAKEFILE = re.compile(r"(^|\[)(?:-|[^\s:]*/Gm\w{6}):(\d+):", re.MULTILINE)
 # A line before the makefile, by which it has its name in make too.
@@ -27,6 +46,33 @@ def environment(**more):
     """The environment of a run that is to be compared: kati takes no macros from it."""
     kept = {name: os.environ[name] for name in ("PATH", "HOME", "TMPDIR") if name in os.environ}
     return {**kept, "LC_ALL": "C", **more}
+
+
+def write_noop(name, shell, room):
+    """Writes the shell that runs no recipe; for $(shell ..) it is this one."""
+    files.replace(name, NOOP.format(shell=shell, told=shlex.quote(told_by(name))), room)
+    os.chmod(name, 0o755)
+
+
+def told_by(noop):
+    """How the names of the files begin in which such a shell tells its environment."""
+    return f"{noop}-environment-"
+
+
+def added_to_environment(noop, given, goals, ask):
+    """What make adds to the environment that it is given, for its commands. `ask` has it read the makefile, and a file
+    behind that, for some words and in an environment: no options, by which values may differ, and MAKECMDGOALS as for
+    the goals. Without LC_ALL, which isn't there where a user runs make: make exports what is there."""
+    names = [f"{told_by(noop)}{number}" for number in (1, 2)]
+    for name in names:
+        files.remove(name)
+    rules = f"{noop}-telling.mk"
+    files.write(rules, bytes_of(TELLING_RULES.format(told=shlex.quote(told_by(noop)).replace("$", "$$"))))
+    given = {**{name: value for name, value in given.items() if name != "LC_ALL"}, "MAKECMDGOALS": " ".join(goals)}
+    ask(rules, [*TELLING, f"SHELL={noop}"], given)
+    texts = [files.read(name) for name in names]
+    told = [text and dict(one.split("=", 1) for one in text.split("\0") if "=" in one) for text in texts]
+    return command_environment.Added(told, given, noop)
 
 
 def lines_of(text):
@@ -50,8 +96,7 @@ class Asking:
         name = makefile.replace("$", "$$").replace("#", "\\#")
         files.write(self.given, bytes_of(NAMED.format(name=name)) + (files.content(makefile) or b""))
         files.replace(self.suffixes, SUFFIXES + NO_RULE, room)
-        files.replace(self.noop, NOOP.format(shell=shell), room)
-        os.chmod(self.noop, 0o755)
+        write_noop(self.noop, shell, room)
 
     def run(self, words, has_builtin, always, more=()):
         """make's status for these words, with what it prints, which `noop` must find to be no pipe; `more` are options
@@ -79,6 +124,15 @@ class Asking:
         kati doesn't, so those commands are the ones that a goal without any needs."""
         before = self.ask([NO_GOAL, *macros])
         return self.ask([*goals, *macros]), before
+
+    def added_to_environment(self, goals, macros):
+        """What make adds to the environment of its commands."""
+        def ask(rules, more, has):
+            call = ["make", *([] if self.has_builtin else ["-r", "-R"]), "-f", self.suffixes, "-f", "-", "-f", rules]
+            with open(self.given, "rb") as given, open(self.printed, "wb") as printed:
+                run([*call, *macros, *more], executable=need("make"), stdin=given, stdout=printed, env=has)
+
+        return added_to_environment(self.noop, environment(), goals, ask)
 
     def before_with_silent(self, macros):
         """The commands that make runs before it makes the goals, with those that a recipe's `@` has it not print, since

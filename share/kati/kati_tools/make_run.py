@@ -40,21 +40,21 @@ class MakeRun:
 
     def use_shell(self, shell):
         """Makes this shell the one that answers $(shell ..)."""
-        files.replace(self.noop, make_commands.NOOP.format(shell=shell), self.room)
-        os.chmod(self.noop, 0o755)
+        make_commands.write_noop(self.noop, shell, self.room)
 
     def environment(self):
         """The environment that a makefile is asked in: what kati doesn't have isn't there either."""
         told = {name: os.environ[name] for name in ("USER", "LOGNAME") if name in os.environ}
         return make_commands.environment(PWD=os.getcwd(), **told, **self.more)
 
-    def run(self, words):
-        """What make says to these words: its status, standard output and standard error."""
+    def run(self, words, given=None):
+        """What make says to these words: its status, standard output and standard error; `given` is its environment,
+        where it is another one."""
         try:
             # By a file, as the shell that runs no recipe must find it to be no pipe.
             with open(self.printed, "wb") as printed:
                 status, _, said = run(["make", *words], executable=need("make"), stdout=printed,
-                                      env=self.environment(), timeout=SECONDS)
+                                      env=given or self.environment(), timeout=SECONDS)
         except subprocess.TimeoutExpired:
             raise Stop(f"make takes more than {SECONDS} seconds to read {self.makefile}", 1) from None
         return status, files.read(self.printed), said
@@ -66,6 +66,13 @@ class MakeRun:
             files.replace(self.extra, question, self.room)
             words += ["-f", self.extra]
         return self.run([*words, *(self.goals if goals is None else goals), *self.macros, f"SHELL={self.noop}"])
+
+    def added_to_environment(self):
+        """What make adds to the environment of its commands."""
+        def ask(rules, more, given):
+            self.run(["-f", self.makefile, "-f", rules, *self.macros, *more], given)
+
+        return make_commands.added_to_environment(self.noop, self.environment(), self.goals, ask)
 
     def make_includes(self):
         """Has make make the makefiles that it reads, as it does before anything."""

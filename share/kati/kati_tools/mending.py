@@ -2,7 +2,7 @@
 import os
 import re
 
-from . import freezing, frozen_values, makefile_text, mending_exports, mending_lines, second_expansion
+from . import freezing, frozen_values, makefile_text, mending_lines, second_expansion
 
 
 def mend(port, fault):
@@ -144,7 +144,6 @@ def refused_target(port, fault):
     if line is None or line.is_body:
         return False
     if fault.last == ".EXPORT_ALL_VARIABLES":
-        mending_exports.export_all(port)
         return for_make_alone(port, line, "export")
     if fault.last == ".DEFAULT":
         return port.default_rule.add(line)

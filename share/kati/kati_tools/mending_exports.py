@@ -1,87 +1,110 @@
-"""Exported variables: the shell of kati's commands gets them, and each command from it."""
-import os
+"""Exported variables: make is asked which its commands have, and the shell of kati's commands gets those they lack."""
 import re
 
-from . import files, frozen_values, makefile_text, shared_includes
+from . import command_environment, exported_names, frozen_values, shared_includes
 
-NAME = re.compile(r"[A-Za-z_]\w*")
-SCRIPTS = re.compile(r"\.(sh|pl|py|awk)$|(^|/)configure$")
-# What the shell itself has, or gives its own meaning.
-SHELLS_OWN = {"SHELL", "MAKE", "MAKEFLAGS", "MAKELEVEL", "PWD", "HOME", "IFS"}
 QUOTED = "\\\"$`"
 QUOTING = "KATI_QUOTED = $(subst `,\\`,$(subst $$,\\$$,$(subst \",\\\",$(subst \\,\\\\,$(1)))))"
 
 
-def export(port, line):
+def export(line):
     """A line that begins with `export` or `unexport`: for make alone but for what it assigns."""
-    found, word = line.assignment(), line.first_word()
-    if word == "export" and found:
-        add(port, found[0])
+    if line.first_word() == "export" and line.assignment():
         line.wrap(lambda text: re.sub(r"^[ \t]*export[ \t]+((override|private)[ \t]+)*", "", text))
-        return
-    line.wrap()
-    names = makefile_text.words(makefile_text.without_comment(line.joined))[1:]
-    told = port.run.value(" ".join(names)) if any("$" in name for name in names) else " ".join(names)
-    if word == "unexport":
-        port.exports = [name for name in port.exports if name not in (told or "").split()]
-    for name in (told or "").split() if word == "export" else []:
-        add(port, name)
-    if word == "export" and not names:
-        export_all(port)
+    else:
+        line.wrap()
 
 
-def add(port, name):
-    """Exports a macro by its name; what can't be a variable of the shell is none."""
-    if NAME.fullmatch(name) and name not in port.exports and name not in SHELLS_OWN:
-        port.exports.append(name)
+class Exports:
+    """What make's commands have in their environment, and how far kati's have it.
+
+    `wanted` are the names that kati's commands are to have, `handed` those that they get at the end of the makefile,
+    and `frozen` those of them which get make's value, since kati's own is another one."""
+
+    def __init__(self, port):
+        self.port, self.added, self.wanted, self.handed, self.frozen = port, None, [], [], {}
+        # Those to which lines give a value for targets; and macros of the command line, which are told alone.
+        self.of_targets, self.of_words = set(), []
+
+    def look(self):
+        """Asks make. Where all variables are exported, those count that lines name, or that something asks for."""
+        self.added = self.port.run.added_to_environment()
+        lines, read = list(self.port.lines()), set(self.port.ported)
+        texts = exported_names.named(lines)
+        told = self.port.run.values([one for one in texts if "$" in one])
+        named = [name for text in [*(one for one in texts if "$" not in one), *told] for name in (text or "").split()]
+        self.wanted, self.of_words = exported_names.chosen(
+            self.added, named, self.port.run.macros, lines,
+            lambda: exported_names.asked_for(lines, self.port.copy.files(), read))
+        self.of_targets = set(exported_names.macros_of_targets(lines))
+
+    def settle(self, translation):
+        """Hands on what kati's commands lack; answers whether that changes the makefile."""
+        if not self.wanted:
+            return False
+        katis = command_environment.of_commands(commands_of(translation))
+        lacking = [name for name in command_environment.lacking(self.added, self.wanted, katis, self.of_targets)
+                   if "\n" not in (self.added.values[name] or "")]
+        new = [name for name in lacking if name not in self.handed]
+        others = [name for name in lacking if name in self.handed and name not in self.frozen
+                  and self.added.values[name] is not None and name not in self.of_targets]
+        self.handed = sorted([*self.handed, *new])
+        line = self.port.ported[self.port.makefile].lines[0]
+        for name in others:
+            value = self.added.values[name]
+            self.frozen[name] = self.port.values.add(line, name, f"$({name})", value, f"$({name})")
+        return bool(new or others)
+
+    def differences(self, translation):
+        """The lines that say where make's commands and kati's have another environment."""
+        katis = command_environment.of_commands(commands_of(translation))
+        return list(command_environment.differences(self.added, [*self.wanted, *self.of_words], katis,
+                                                    self.of_targets))
+
+    def for_targets(self):
+        """The target-specific macros that are exported for their targets."""
+        return [one for one in self.port.target_macros.all if one.names and "export" in one.words]
+
+    def is_deferred(self, name):
+        """Whether a variable has another value for another target that is made."""
+        return self.added.values[name] is None or any(
+            one.macro == name for one in self.port.target_macros.all if one.names)
+
+    def word(self, name):
+        """The words before the shell that hand on a variable, quoted where its value needs it."""
+        value, macro = self.added.values.get(name), self.frozen.get(name, name)
+        is_plain = value is not None and not set(value) & set(QUOTED) and not self.is_deferred(name)
+        return f'{name}="$({macro})" ' if is_plain else f'{name}="$(call KATI_QUOTED,$({macro}))" '
+
+    def words(self):
+        """The same for all, those that targets alone have too."""
+        found = [self.word(name) for name in self.handed]
+        own = [one for one in self.for_targets() if one.macro not in self.handed]
+        for name in dict.fromkeys(one.macro for one in own):
+            lines = [one for one in own if one.macro == name]
+            targets = " ".join(f"$({one.names['TARGETS']})" for one in lines)
+            is_of_all = any(one.reach is None for one in lines)
+            found.append(self.word(name) if is_of_all else f"$(if $(filter {targets},$@),{self.word(name)})")
+        return found
+
+    def tail(self):
+        """What kati gets at the end of the makefile: a shell with these variables. Where a value hangs on the target,
+        it is deferred."""
+        words = self.words()
+        if not words:
+            return []
+        keep_shell(self.port)
+        is_deferred = bool(self.for_targets()) or any(map(self.is_deferred, self.handed))
+        is_named = any(one.katis == frozen_values.KATIS_SHELL for one in self.port.values.all)
+        quoting = [QUOTING] if any("KATI_QUOTED" in word for word in words) else []
+        kept = ["KATI_SHELL := $(SHELL)"] if is_named or is_deferred else []
+        shell = f"SHELL = {''.join(words)}$(KATI_SHELL)" if is_deferred else f"SHELL := {''.join(words)}$(SHELL)"
+        return [*quoting, *kept, shell]
 
 
-def of_the_shell(text):
-    """The variables of the environment that a script asks for."""
-    return set(re.findall(r"(?:\$\{?|environ\W{1,3}|getenv\W{1,2})([A-Za-z_]\w*)", text))
-
-
-def asked_for(port):
-    """The variables that the commands, and what stands beside them, take from the environment."""
-    found = set()
-    for line in port.lines():
-        found.update(re.findall(r"\$\$\{?([A-Za-z_]\w*)", line.text))
-    for name in sorted(port.copy.files()):
-        if port.is_other_makefile(name):
-            found.update(re.findall(r"(?:\$[({]|\bifn?def[ \t]+)([A-Za-z_]\w*)", files.read(name)))
-        elif os.path.isfile(name) and SCRIPTS.search(name):
-            found.update(of_the_shell(files.read(name)))
-    return found
-
-
-def export_all(port):
-    """Exports what the commands and the makefiles of inner makes take from the environment."""
-    assigned = {name for file in port.ported.values() for name, _ in file.definitions() if NAME.fullmatch(name)}
-    for name in sorted(assigned & asked_for(port)):
-        add(port, name)
-
-
-def tail(port):
-    """What kati gets at the end of the makefile: a shell with these variables, quoted where their values need it."""
-    unknown = [name for name in port.exports if name not in port.exported]
-    told = port.run.values([text for name in unknown for text in (f"$(origin {name})", f"$({name})")])
-    port.exported.update(zip(unknown, zip(told[::2], told[1::2])))
-    words, quoted = [], []
-    for name in port.exports:
-        origin, value = port.exported[name]
-        if origin in (None, "undefined", "environment") or "\n" in (value or ""):
-            continue
-        if set(value or "") & set(QUOTED):
-            quoted = [QUOTING]
-            words.append(f'{name}="$(call KATI_QUOTED,$({name}))"')
-        else:
-            words.append(f'{name}="$({name})"')
-    if not words:
-        return []
-    keep_shell(port)
-    is_named = any(one.katis == frozen_values.KATIS_SHELL for one in port.values.all)
-    kept = ["KATI_SHELL := $(SHELL)"] if is_named else []
-    return [*quoted, *kept, f"SHELL := {' '.join(words)} $(SHELL)"]
+def commands_of(translation):
+    """kati's commands."""
+    return [one.command for one in translation.statements if one.command is not None]
 
 
 def keep_shell(port):

@@ -14,7 +14,7 @@ def form(port, fault):
     if is_define(line.joined.split()[:4]):
         return definition(port, fault, word)
     if word in ("export", "unexport"):
-        mending_exports.export(port, line)
+        mending_exports.export(line)
         port.tell("export")
         return True
     if word == "undefine" or re.match(r"[ \t]*override[ \t]+undefine\b", line.text):
@@ -33,8 +33,6 @@ def dropped_word(port, line, word):
     found = line.assignment()
     if not found:
         return False
-    if re.match(r"[ \t]*((override|private)[ \t]+)*export[ \t]", line.text):
-        mending_exports.add(port, found[0])
     line.wrap(without_words)
     if word == "private" and "$" not in found[0]:
         # make's recipes don't have it, and kati's are expanded at the end.
@@ -74,8 +72,6 @@ def definition(port, fault, word):
     line.edits = {(0, len(line.text)): whole}
     for one in lines[first + 1:last + 1]:
         one.is_gone = True
-    if word == "export":
-        mending_exports.add(port, name)
     tell_of_word(port, word, name)
     port.tell(word)
     return True

@@ -8,9 +8,8 @@ import os
 import re
 from collections import Counter
 
-from . import (default_rule, files, folder_search, freezing, frozen_values, includes, make_probes, make_run,
-               makefile_text, mending, mending_exports, ported_text, shared_includes, target_macros, translating,
-               values_file)
+from . import (default_rule, files, folder_search, freezing, frozen_values, make_probes, make_run, makefile_text,
+               mending, mending_exports, ported_text, shared_includes, target_macros, translating, values_file)
 from .programs import Stop
 
 FAULT = re.compile(r"^(.*?)(?::(\d+))?: \*\*\* (.*) \[(E\d\d)\]$", re.MULTILINE)
@@ -79,7 +78,7 @@ class Port:
         self.values = frozen_values.Values(values_file.ValuesFile(kept) if kept is not None else None)
         self.of_the_run, self.depth, self.listing = {}, asked.depth, None
         self.freezer = freezing.Freezer(self)
-        self.exports, self.exported = [], {}
+        self.exports = mending_exports.Exports(self)
         self.target_macros = target_macros.TargetMacros(self)
         self.search, self.default_rule = folder_search.Search(self), default_rule.DefaultRule(self)
 
@@ -128,6 +127,7 @@ class Port:
         if self.before[0]:
             raise MakeFails(self.before[0], self.before[2])
         self.probes = self.asked_probes()
+        self.exports.look()
         texts = [file.before for file in self.ported.values()]
         self.values.taken = "\n".join([*texts, files.read(frozen_values.NAME) or ""])
         self.ask_of_the_run(self.values.taken)
@@ -213,13 +213,9 @@ class Port:
         if exports_all and self.values.all:
             yield f"unexport {' '.join(one.name for one in self.values.all)}"
 
-    def is_other_makefile(self, name):
-        """Whether a file has a makefile's name, and isn't read by this one."""
-        return name not in self.ported and includes.MAKEFILES.search(name) is not None and os.path.isfile(name)
-
     def tail(self):
         """What kati gets at the end of the makefile."""
-        lines = [*self.search.tail(), *self.target_macros.tail(), *mending_exports.tail(self),
+        lines = [*self.search.tail(), *self.target_macros.tail(), *self.exports.tail(),
                  *(f"{name} =" for name in self.cleared)]
         return ["", ported_text.KATIS_ALONE, *lines, "endif"] if lines else []
 
@@ -286,12 +282,13 @@ class Port:
         if self.asked.has_deps and any(WRITES_DEPENDENCIES.search(file.before) for file in self.ported.values()):
             # Or each file that a compiler writes would have the makefile read again.
             self.wrap_dependencies()
+        settled = (self.search, self.default_rule, self.target_macros, self.exports)
         for _ in range(ROUNDS):
             self.save()
             translation = self.translate()
             if translation.status:
                 self.mend(translation)
-            elif not any(one.settle(translation) for one in (self.search, self.default_rule, self.target_macros)):
+            elif not any(one.settle(translation) for one in settled):
                 self.freezer.settle_sources()
                 self.save()
                 return translation

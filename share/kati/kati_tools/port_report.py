@@ -11,7 +11,7 @@ from .programs import Stop
 KINDS = {
     "tab": "conditionals and other lines behind a tab: indented by spaces, for both",
     "dependencies": "header dependencies: for make alone; kati-build --deps reads what the compiler writes",
-    "export": "exported variables: kati's shell gets them, see SHELL at the end of the makefile",
+    "export": "export and unexport: for make alone",
     "override": "override: dropped for kati",
     "private": "private: dropped for kati",
     "undefine": "undefine: an empty value for kati",
@@ -47,6 +47,8 @@ def did(port):
         count = sum(count for (one, _), count in port.did.items() if one == kind)
         if count:
             yield f"{count} x {words}"
+    if port.exports.handed:
+        yield f"exported, by SHELL at the end of the makefile, to kati's commands: {' '.join(port.exports.handed)}"
     needed = [one for one in port.target_macros.all if one.hit]
     others = len(port.target_macros.all) - len(needed)
     if others:
@@ -111,6 +113,7 @@ class Comparison:
         self.makes, self.katis, self.has_other_blanks = found.makes, found.katis, bool(found.in_blanks)
         forms = (Counter(map(command_lists.without_quoted_blanks, lines)) for lines in (self.makes, self.katis))
         self.is_in_quotes = next(forms) == next(forms)
+        self.in_environment = port.exports.differences(translation)
 
     def is_unchanged(self, again):
         """Whether make does what it did. Where it doesn't, `again` tells what it does now by the makefiles as they
@@ -125,7 +128,7 @@ class Comparison:
 
     def is_same(self):
         """Whether kati's commands are make's."""
-        return not self.makes and not self.katis
+        return not self.makes and not self.katis and not self.in_environment
 
     def told(self):
         """The lines that say so."""
@@ -134,11 +137,14 @@ class Comparison:
         if self.is_same():
             yield f"kati's commands are make's{', blanks aside' if self.has_other_blanks else ''}"
             return
+        yield from self.in_environment
         for mark, lines in (("-", self.makes), ("+", self.katis)):
             yield from (f"{mark} {line}" for line in lines[:10])
             if len(lines) > 10:
                 yield f"{mark} .. and {len(lines) - 10} more"
-        if self.is_in_quotes:
+        if not self.makes and not self.katis:
+            yield "kati's commands differ in their environment"
+        elif self.is_in_quotes:
             yield f"kati's commands are make's but for blanks within quotes, which count: {len(self.makes)}"
-            return
-        yield f"kati's commands differ: {len(self.makes)} of make's alone, {len(self.katis)} of kati's alone"
+        else:
+            yield f"kati's commands differ: {len(self.makes)} of make's alone, {len(self.katis)} of kati's alone"

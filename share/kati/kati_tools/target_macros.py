@@ -10,7 +10,7 @@ of the one that asks for it first. Which that are is seen in kati's own graph. W
 for make alone, and that is all."""
 import re
 
-from . import makefile_text, mending_exports, ninja_text
+from . import makefile_text, ninja_text
 
 WORDS = re.compile(r"^[ \t]*((?:(?:export|override|private)[ \t]+)*)")
 KEEP = """\
@@ -113,8 +113,6 @@ class TargetMacros:
             self.name(one)
             is_all = set(one.reach) >= graph.commands and graph.commands
             one.reach = None if is_all else [name for name in one.reach if name in graph.commands]
-            if "export" in one.words:
-                mending_exports.add(self.port, one.macro)
         return bool(live)
 
     def name(self, one):

@@ -1,0 +1,67 @@
+"""The variables that makefiles name as exported, and those that commands take from the environment."""
+import os
+import re
+
+from . import files, makefile_text
+from .includes import MAKEFILES
+from .ported_text import PortedFile, is_define
+
+SCRIPTS = re.compile(r"\.(sh|pl|py|awk)$|(^|/)configure$")
+EXPORTS = re.compile(r"[ \t]*((override|private)[ \t]+)*export\b")
+
+
+def lines_of(makefiles):
+    """The lines of these makefiles."""
+    return [line for name in makefiles if os.path.isfile(name) for line in PortedFile(name, files.read(name)).lines]
+
+
+def named(lines):
+    """The names in lines with `export`, whichever of the lines make reaches; some are texts that make expands."""
+    found = []
+    for line in [line for line in lines if not (line.is_body or line.is_tab) and EXPORTS.match(line.joined)]:
+        if is_define(line.joined.split()[:4]):
+            found.append(makefile_text.defined_name(line.joined))
+        else:
+            names = makefile_text.words(makefile_text.without_comment(line.joined))[1:]
+            found += [line.assignment()[0]] if line.assignment() else names
+    return found
+
+
+def macros_of_targets(lines):
+    """The macros to which lines give a value for targets, whichever of the lines make reaches."""
+    for line in [line for line in lines if "=" in line.text and not (line.is_body or line.is_tab)]:
+        specific = None if line.assignment() else makefile_text.Rule(line.joined).specific
+        if specific:
+            yield specific[0]
+
+
+def of_the_shell(text):
+    """The variables of the environment that a script asks for."""
+    return set(re.findall(r"(?:\$\{?|environ\W{1,3}|getenv\W{1,2})([A-Za-z_]\w*)", text))
+
+
+def asked_for_by(lines):
+    """The variables that lines of makefiles have a shell take from the environment."""
+    return {name for line in lines for name in re.findall(r"\$\$\{?([A-Za-z_]\w*)", line.text)}
+
+
+def asked_for(lines, names, read):
+    """The variables that commands take from the environment: those of lines, of scripts, and of makefiles that aren't
+    those that are read; of the files with these names."""
+    found = asked_for_by(lines)
+    for name in [name for name in names if os.path.isfile(name)]:
+        if name not in read and MAKEFILES.search(name):
+            found.update(re.findall(r"(?:\$[({]|\bifn?def[ \t]+)([A-Za-z_]\w*)", files.read(name)))
+        elif SCRIPTS.search(name):
+            found.update(of_the_shell(files.read(name)))
+    return found
+
+
+def chosen(added, names, macros, lines, ask):
+    """Of what make adds to the environment of commands: the names that are exported, where all are those that lines
+    name or that something asks for, as `ask` tells; and macros of the command line that lines ask for, which are
+    exported by that alone."""
+    given = {one.split("=", 1)[0].rstrip(":+?") for one in macros}
+    others = (ask() if added.is_of_all else set(added.values)) - given
+    wanted = others.union(names).intersection(added.values)
+    return sorted(wanted), sorted(given.intersection(added.values, asked_for_by(lines)) - wanted)

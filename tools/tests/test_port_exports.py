@@ -1,0 +1,133 @@
+"""kati-port --write where make has variables in the environment of commands: kati's commands have them, or it is
+told."""
+import shutil
+
+from support import Tree, needs
+
+# What an include exports that two programs read; C is a macro of theirs.
+OF_INCLUDES = {
+    "a value": "export A = 1\n",
+    "names": "A = 1\nB = 2\nexport A\n",
+    "names that are computed": "A = 1\nNAMES = A\nexport $(NAMES)\n",
+    "unexport": "export A = 1\nexport B = 2\nunexport A\n",
+    "unexport and again": "A = 1\nexport A\nunexport A\nexport A\n",
+    "all": "A = 1\nexport\n",
+    "all but one": "A = 1\nB = 2\nexport\nunexport A\n",
+    "a define": "export define A\none\nendef\n",
+    "override": "override export A = 1\n",
+    "by a person": "ifdef MAKE_VERSION\nexport A = $(C) \"b\" $$c\nendif\n",
+    "by a person for make alone": "ifdef MAKE_VERSION\nexport A = 1\nelse\nA = 2\nendif\n",
+    "by a person and by eval": "ifdef MAKE_VERSION\n$(eval export A = 1)\nendif\n",
+    "in a branch that make takes": "ifndef X\nifdef MAKE_VERSION\nexport A = 1\nendif\nendif\n",
+    "in a branch that make doesn't take":
+        "A = 1\nifdef X\nifdef MAKE_VERSION\nexport A = 1\nendif\nendif\nifeq ($(A),2)\nexport A\nendif\n",
+    "in the other branch": "A = 1\nifndef MAKE_VERSION\nelse\nexport A\nendif\n",
+}
+# What a makefile exports: its text, and words that stand in it afterwards.
+OF_MAKEFILES = {
+    "a value that hangs on the target":
+        ("export A = of $@\nall: a b\na b: ; echo \"$$A\" > $@\n", ["SHELL = A=", "$(KATI_SHELL)"]),
+    "a value that a target has":
+        ("export A = 1\nall: a b\na: A = '\"2\"'\na: c\na b c: ; echo \"$$A\" > $@\n", ["SHELL = A="]),
+    "for a target": ("all: a b\na: export A = 1\na: c\na b c: ; echo \"$${A-none}\" > $@\n",
+                     ["SHELL = $(if $(filter $(A_TARGETS),$@),A="]),
+    "for two targets": ("all: a b c\na: export A = 1\nb: export A = 2\na b c: ; echo \"$${A-none}\" > $@\n", []),
+    "for a target that needs all": ("all: export A = 1\nall: a b\na b: ; echo \"$${A-none}\" > $@\n", ["SHELL = A="]),
+    "what the environment has without an export":
+        ("PATH := /nowhere:$(PATH)\nall: ; echo \"$$PATH\" > out\n", ["SHELL := PATH="]),
+    "a home": ("export HOME = /nowhere\nall: ; echo \"$$HOME\" > out\n", []),
+    "where the shell is overridden": ("override SHELL = /bin/sh\nexport A = 1\nall: ; echo \"$$A\" > out\n", []),
+    "flags of make": ("export A = of $(MAKEFLAGS)\nexport B := of $(MAKEFLAGS)\nall: ; echo \"$$A $$B\" > out\n", []),
+    "by goals": ("ifeq ($(MAKECMDGOALS),)\nexport A = 1\nendif\nall: ; echo \"$${A-none}\" > out\n", []),
+    "not for other goals": ("ifneq ($(MAKECMDGOALS),)\nexport A = 1\nendif\nall: ; echo \"$${A-none}\" > out\n", []),
+    "all, one of them by name": ("export LANGUAGE = 1\nexport\nall: ; printenv LANGUAGE > out\n",
+                                 ["LANGUAGE=\"$(LANGUAGE)\""]),
+}
+
+
+@needs("kati", "kati-asked", "make", "ninja")
+class Exporting(Tree):
+    """A build by make and one by ninja, after a port."""
+
+    def port(self, *words, folder="."):
+        """What a port says."""
+        ran = self.run_in("env", "-C", folder, self.tool_path("kati-port"), "--write", "Makefile", *words)
+        self.assertEqual(ran.status, 0, ran.all)
+        return ran.out
+
+    def built(self, folder, *words):
+        """The texts of the files that a build makes in a folder; they are taken away again."""
+        before = set((self.top / folder).iterdir())
+        ran = self.run_in("env", "-C", folder, *words)
+        self.assertEqual(ran.status, 0, ran.all)
+        new = [path for path in (self.top / folder).iterdir() if path not in before and path.is_file()]
+        found = {path.name: path.read_text() for path in new if path.name not in ("build.ninja", ".ninja_log")}
+        for path in new:
+            path.unlink()
+        return found
+
+    def by_kati(self, *words, folder="."):
+        """The same by kati-build."""
+        shutil.rmtree(self.top / folder / "build.kati", ignore_errors=True)
+        return self.built(folder, self.tool_path("kati-build"), "--builtin", *words)
+
+    def test_what_an_include_exports_reaches_the_commands_of_each_program(self):
+        own = "C = c\ninclude ../mk/a.mk\nall: ; echo \"$${A-none} $${B-none}\" > out\n"
+        for name, include in OF_INCLUDES.items():
+            with self.subTest(name):
+                shutil.rmtree(self.top)
+                self.put_all({"mk/a.mk": include, "one/Makefile": own, "two/Makefile": own})
+                wanted = self.built("one", "make")
+                self.port(folder="one")
+                self.assertIn("kati's commands are make's\n", self.port(folder="two"))
+                for folder in ("one", "two"):
+                    self.assertEqual(self.by_kati(folder=folder), wanted)
+                self.assertEqual(self.built("two", "make"), wanted)
+
+    def test_what_a_makefile_exports_reaches_its_commands(self):
+        for name, (makefile, words) in OF_MAKEFILES.items():
+            with self.subTest(name):
+                shutil.rmtree(self.top)
+                self.put_all({"Makefile": makefile})
+                wanted = self.built(".", "make")
+                self.assertIn("kati's commands are make's\n", self.port())
+                text = self.read("Makefile")
+                self.assertEqual([word for word in words if word not in text], [], text)
+                self.assertEqual(self.built(".", "make"), wanted, text)
+                self.assertEqual(self.by_kati(), wanted, text)
+                self.assertEqual(self.tool("kati-compare", "--builtin").status, 0, text)
+                self.assertIn("kati takes it as it is", self.port(), name)
+
+    def test_what_does_not_reach_them_is_told(self):
+        self.put_all({"Makefile": "define A\n1\n2\nendef\nexport A\nexport B = 3\nall: ; echo \"$$A $$B\" > out\n"})
+        said = self.port()
+        self.assertIn("Makefile: - A='1\\n2' in the environment of commands\n"
+                      "Makefile: kati's commands differ in their environment\n", said)
+        self.assertEqual((self.built(".", "make"), self.by_kati()), ({"out": "1\n2 3\n"}, {"out": " 3\n"}))
+        said = self.tool("kati-build", "--port").said
+        self.assertEqual(said.count("kati-build: - A='1\\n2' in the environment of commands\n"), 1, said)
+
+    def test_what_the_command_line_exports_is_told_where_a_command_asks_for_it(self):
+        makefile = "all: ; echo \"$$A\" $(A) $(B) > out\n"
+        self.put_all({"Makefile": makefile})
+        said = self.port("A=1", "B=2")
+        self.assertIn("Makefile: - A=1 in the environment of commands\n"
+                      "Makefile: kati's commands differ in their environment\n", said)
+        self.assertEqual(self.built(".", "make", "A=1", "B=2"), {"out": "1 1 2\n"})
+        self.put("Makefile", "A = 2\nexport A\n" + makefile)
+        self.assertIn("kati's commands are make's\n", self.port("A=1", "B=2"))
+        self.assertEqual(self.by_kati("A=1", "B=2"), {"out": "1 1 2\n"})
+
+    def test_what_make_exports_no_more_is_told(self):
+        self.put_all({"Makefile": "export A = 1\nexport B = 2\nall: ; echo \"$$A\" > out\n"})
+        self.port()
+        self.put("Makefile", self.read("Makefile").replace("export A = 1\n", "A = 1\n"))
+        self.assertIn("Makefile: + A=1 in the environment of commands\n", self.port())
+
+    def test_a_value_that_kati_has_not_is_asked_for_again(self):
+        self.put_all({"Makefile": "ifdef MAKE_VERSION\nexport A = $(N)\nendif\nN = 1\nall: ; echo \"$$A\" > out\n"})
+        self.port()
+        self.assertEqual(self.by_kati(), {"out": "1\n"})
+        self.put("Makefile", self.read("Makefile").replace("N = 1\n", "N = 2\n"))
+        self.assertEqual(self.tool("kati-port", "--values").out, "kati-values.mk: 1 value is another\n")
+        self.assertEqual((self.built(".", "make"), self.by_kati()), ({"out": "2\n"}, {"out": "2\n"}))
