@@ -32,8 +32,8 @@ class Including(Tree):
         self.assertEqual(self.read("mk/a.mk"), text)
 
     def test_what_another_port_adds_to_an_include_changes_no_program(self):
-        own = "N = $(shell echo own)\ncommon_N = $(shell echo too)\ninclude ../common.mk\n" \
-            "all: ; echo $(common_N) $(N) $(shell echo one) $(M)\n"
+        own = "N = $(shell echo own)\ntree_common_N = $(shell echo too)\ninclude ../common.mk\n" \
+            "all: ; echo $(tree_common_N) $(N) $(shell echo one) $(M)\n"
         include = "ifdef B\nN := $(shell echo b)\nifeq ($(shell echo one),one)\nM = 1\nendif\nendif\n"
         self.put_all({"common.mk": include, "a/Makefile": own, "b/Makefile": f"B = 1\n{own}"})
         self.port("a")
@@ -43,9 +43,9 @@ class Including(Tree):
         self.assertEqual(self.makes_commands("b"), "echo too b one 1\n")
         # A value of both is two macros.
         text = self.read("common.mk")
-        self.assertEqual(text.split("ifdef B\n")[0], "ifdef MAKE_VERSION\nV_common_N = $(shell echo b)\n"
-                         "V_common_shell = $(shell echo one)\nendif\n")
-        for line in ("V_shell = $(shell echo one)", "V__common_N = $(shell echo too)"):
+        self.assertEqual(text.split("ifdef B\n")[0], "ifdef MAKE_VERSION\nV_tree_common_N = $(shell echo b)\n"
+                         "V_tree_common_shell = $(shell echo one)\nendif\n")
+        for line in ("V_shell = $(shell echo one)", "V__tree_common_N = $(shell echo too)"):
             self.assertIn(f"\n{line}\n", self.read("b/kati-values.mk"))
         self.assertIn("Makefile: 2 values in kati-values.mk: 2 shell\n", self.port("a"))
         self.assertEqual(self.makes_commands("a"), "echo too own one \n")
@@ -55,12 +55,24 @@ class Including(Tree):
     def test_the_shell_that_an_include_names_where_two_programs_export(self):
         own = "export A = 1\ninclude ../mk/a-b.mk\n"
         self.put_all({"mk/a-b.mk": "all: ; '$(SHELL)' -c 'echo $$A'\n", "one/Makefile": own, "two/Makefile": own})
-        text = "ifdef MAKE_VERSION\nV_a_b_SHELL = $(SHELL)\nendif\nall: ; '$(V_a_b_SHELL)' -c 'echo $$A'\n"
+        text = "ifdef MAKE_VERSION\nV_mk_a_b_SHELL = $(SHELL)\nendif\nall: ; '$(V_mk_a_b_SHELL)' -c 'echo $$A'\n"
         for folder in ("one", "two", "one"):
             self.port(folder)
             self.assertEqual(self.read("mk/a-b.mk"), text)
             self.assertEqual(self.makes_commands(folder), "'/bin/sh' -c 'echo $A'\n")
         self.assertEqual(self.read("two/kati-values.mk"), self.read("one/kati-values.mk"))
+
+    def test_includes_of_one_name_in_two_folders(self):
+        both = "include a/m.mk b/m.mk\nall: of-a of-b\n"
+        self.put_all({"a/m.mk": "of-a: ; echo $(shell echo a)\n", "a/Makefile": "include m.mk\n",
+                      "b/m.mk": "of-b: ; echo $(shell echo b)\n", "b/Makefile": "include ../b/m.mk\n",
+                      "Makefile": f".DEFAULT_GOAL = all\n{both}", "sub/Makefile": f"all:\ninclude ../m.mk\n",
+                      "m.mk": both.replace("include ", "include ../").replace(" b/", " ../b/")})
+        for folder in ("a", "b", "sub", "."):
+            self.port(folder)
+            for other in (".", "sub"):
+                self.assertEqual(self.makes_commands(other), "echo a\necho b\n", f"{other} after a port of {folder}")
+        self.assertIn("\nV_a_m_shell = $(shell echo a)\nV_b_m_shell = $(shell echo b)\n", self.read("kati-values.mk"))
 
     def test_a_port_keeps_the_names_that_an_include_has(self):
         text = "ifdef MAKE_VERSION\nV_A = $(shell echo 1)\nendif\nA := $(V_A)\n"

@@ -327,8 +327,8 @@ class Writing(Tree):
         ran = subprocess.run([TOOLS / "kati-port", "--write", "Makefile"], cwd=prog, stdout=subprocess.PIPE, text=True,
                              check=True)
         self.assertIn("kati's commands are make's", ran.stdout)
-        self.assertEqual(self.read("mk/a.mk").split("\n")[-2], "A := $(V_a_A)")
-        self.assertIn("V_a_A := 7\n", self.read("prog/kati-values.mk"))
+        self.assertEqual(self.read("mk/a.mk").split("\n")[-2], "A := $(V_mk_a_A)")
+        self.assertIn("V_mk_a_A := 7\n", self.read("prog/kati-values.mk"))
         self.assertIn("V_wildcard := ../lib/v.h\n", self.read("prog/kati-values.mk"))
 
     def test_a_rule_that_needs_a_file_outside_by_a_value(self):

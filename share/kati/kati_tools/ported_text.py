@@ -15,9 +15,10 @@ PREFIX = "V_"
 
 
 def prefix_of(include):
-    """What they begin with where an include names them: with its name, as makefiles of other folders may read it that
-    have macros of their own."""
-    stem = re.sub(r"[^A-Za-z0-9_]", "_", re.sub(r"\.mk$", "", os.path.basename(include)))
+    """What they begin with where an include names them: with its folder's name and its own, as makefiles of other
+    folders may read it that have macros, and includes, of their own."""
+    folder, name = os.path.split(os.path.abspath(include))
+    stem = re.sub(r"[^A-Za-z0-9_]", "_", f"{os.path.basename(folder)}_{re.sub('[.]mk$', '', name)}")
     return f"{PREFIX}{stem.lstrip('_')}_"
 
 
