@@ -234,6 +234,20 @@ class Writing(Tree):
         self.assertIn("kati takes it as it is", self.port().out)
         self.assertEqual(self.read("Makefile"), before)
 
+    def test_make_finds_the_values_of_a_folder_with_a_blank(self):
+        self.put_all({"a b/Makefile": "N := $(shell echo 1)\nall: ; echo $(N)\n", "other.mk": ""})
+        place = str(self.top / "a b/Makefile")
+        words = (["-C", "a b"], ["-f", "a b/Makefile"], ["-f", place],
+                 ["-C", "a b", "-f", "../other.mk", "-f", "Makefile"])
+        wanted = [self.run_in("make", "-n", "--no-print-directory", *one).all for one in words]
+        ran = self.run_in("env", "-C", "a b", self.tool_path("kati-port"), "--write", "Makefile")
+        self.assertIn("kati's commands are make's\n", ran.out, ran.all)
+        self.assertEqual([self.run_in("make", "-n", "--no-print-directory", *one).all for one in words], wanted)
+        for tool in (["kati-port", "Makefile"], ["kati-compare"], ["kati-port", "--write", "Makefile"]):
+            ran = self.run_in("env", "-C", "a b", self.tool_path(tool[0]), *tool[1:])
+            self.assertEqual(ran.status, 0, ran.all)
+        self.assertIn("kati takes it as it is", ran.out)
+
     def test_diff_writes_nothing(self):
         self.put_all({"Makefile": "N := $(shell echo 1)\nall: ; echo $(N)\n"})
         before = self.made()

@@ -193,8 +193,9 @@ class Port:
         main = self.ported[self.makefile]
         main.tail = self.tail()
         has_values = bool(self.values.all or any(self.of_the_run.values()))
-        is_new = has_values and not main.before.startswith(translating.INCLUDE_VALUES)
-        main.head = [*([translating.INCLUDE_VALUES] if is_new else []), *self.search.head()]
+        forms = (translating.INCLUDE_VALUES, translating.INCLUDE_BEHIND_BLANK)
+        is_new = has_values and not main.before.replace(main.ending, "\n").startswith(forms)
+        main.head = [*([forms[" " in self.copy.real]] if is_new else []), *self.search.head()]
         if has_values:
             text = self.values.text(self.of_the_run, list(self.lines_that_hide()))
             files.replace(frozen_values.NAME, text, self.room)

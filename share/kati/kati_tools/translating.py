@@ -12,6 +12,13 @@ MACROS, RULES, WITH_BUILTIN = "builtin-macros.mk", "builtin-rules.mk", "with-bui
 # kati has no list of makefiles.
 VALUES, GOALS = "kati-values.mk", "MAKECMDGOALS"
 INCLUDE_VALUES = f"include $(dir $(lastword $(MAKEFILE_LIST))){VALUES}"
+# The same in a folder with a blank in its path, where the last word of that list may be but a part of the name: then
+# the list is taken for one name.
+INCLUDE_BEHIND_BLANK = "\n".join([
+    "ifdef MAKE_VERSION",
+    f"include $(or $(wildcard $(dir $(lastword $(MAKEFILE_LIST))){VALUES}),"
+    f"$(subst ?,\\ ,$(dir $(subst $() ,?,$(strip $(MAKEFILE_LIST))))){VALUES})",
+    "else", f"include {VALUES}", "endif"])
 # What a folder has in which another tool makes the makefile, or a Ninja file, and how.
 MAKERS = (("configure", "run ./configure first"), ("configure.ac", "run autoreconf -i and ./configure first"),
           ("CMakeLists.txt", "cmake -G Ninja writes a Ninja file itself"),
