@@ -132,6 +132,17 @@ class Comparing(Tree):
         self.write(Makefile=f"{export}all: ; sh x.sh\n", x_sh="echo $A\n")
         self.assertIn("- A=1 in the environment of commands\n", self.compared(1))
 
+    def test_an_environment_that_make_does_not_tell(self):
+        self.write(Makefile="ifdef MAKE_VERSION\n$(if $(findstring n,$(MAKEFLAGS)),,$(error no))\nendif\nall: ; echo\n")
+        self.assertEqual(self.compared(1), "what make's commands have in their environment isn't known\n"
+                         "differ: the environment of commands; 1 command the same\n")
+
+    def test_the_environment_is_told_without_running_anything(self):
+        self.write(Makefile="-include a.mk\nall: ; echo\na.mk: Makefile\n\ttouch b\n\t+touch c\n", a_mk="")
+        os.utime(self.top / "a.mk", (1, 1))
+        self.assertTrue(self.compared(1).startswith("not compared: "))
+        self.assertEqual(sorted(path.name for path in self.top.iterdir()), ["Makefile", "a.mk"])
+
     def test_words_of_which_make_knows_nothing(self):
         self.write(Makefile="ifdef MAKE_VERSION\nA := $(shell echo one)\nendif\nall: ; echo $(A)\n")
         self.assertEqual(self.run_in("make", "-n").out, "echo one\n")

@@ -37,6 +37,9 @@ OF_MAKEFILES = {
         ("PATH := /nowhere:$(PATH)\nall: ; echo \"$$PATH\" > out\n", ["SHELL := PATH="]),
     "a home": ("export HOME = /nowhere\nall: ; echo \"$$HOME\" > out\n", []),
     "where the shell is overridden": ("override SHELL = /bin/sh\nexport A = 1\nall: ; echo \"$$A\" > out\n", []),
+    "several lines":
+        ("define A\none '1' \"$$X\"\n\t\\two\\n `3`\n\nfour\nendef\nexport A\nall: ; echo \"$$A\" > out\n",
+         ["A=\"$$(printf %b "]),
     "flags of make": ("export A = of $(MAKEFLAGS)\nexport B := of $(MAKEFLAGS)\nall: ; echo \"$$A $$B\" > out\n", []),
     "by goals": ("ifeq ($(MAKECMDGOALS),)\nexport A = 1\nendif\nall: ; echo \"$${A-none}\" > out\n", []),
     "not for other goals": ("ifneq ($(MAKECMDGOALS),)\nexport A = 1\nendif\nall: ; echo \"$${A-none}\" > out\n", []),
@@ -99,13 +102,13 @@ class Exporting(Tree):
                 self.assertIn("kati takes it as it is", self.port(), name)
 
     def test_what_does_not_reach_them_is_told(self):
-        self.put_all({"Makefile": "define A\n1\n2\nendef\nexport A\nexport B = 3\nall: ; echo \"$$A $$B\" > out\n"})
+        self.put_all({"Makefile": "define A\n1\n2\n\nendef\nexport A\nexport B = 3\nall: ; echo \"$$A $$B\" > out\n"})
         said = self.port()
-        self.assertIn("Makefile: - A='1\\n2' in the environment of commands\n"
+        self.assertIn("Makefile: - A='1\\n2\\n' in the environment of commands\n"
                       "Makefile: kati's commands differ in their environment\n", said)
-        self.assertEqual((self.built(".", "make"), self.by_kati()), ({"out": "1\n2 3\n"}, {"out": " 3\n"}))
+        self.assertEqual((self.built(".", "make"), self.by_kati()), ({"out": "1\n2\n 3\n"}, {"out": " 3\n"}))
         said = self.tool("kati-build", "--port").said
-        self.assertEqual(said.count("kati-build: - A='1\\n2' in the environment of commands\n"), 1, said)
+        self.assertEqual(said.count("kati-build: - A='1\\n2\\n' in the environment of commands\n"), 1, said)
 
     def test_what_the_command_line_exports_is_told_where_a_command_asks_for_it(self):
         makefile = "all: ; echo \"$$A\" $(A) $(B) > out\n"

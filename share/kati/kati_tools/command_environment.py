@@ -13,6 +13,8 @@ OWN = {"SHELL", "MAKE", "MAKEFLAGS", "MFLAGS", "GNUMAKEFLAGS", "MAKELEVEL", "MAK
 # A macro that commands have in their environment where make exports all of them.
 OF_ALL = "KATI_EXPORTS_ALL"
 BEFORE_SHELL = re.compile(r"""[ \t]*([A-Za-z_]\w*)=((?:"(?:\\.|[^"\\])*"|\\.|[^\s"'\\])*)[ \t]+""")
+# A value of several lines, printed by the shell.
+PRINTED = re.compile(r""""\$\(printf %b '([^']*)'\)"$""")
 QUOTED = re.compile(r'"((?:\\.|[^"\\])*)"|\\(.)')
 
 
@@ -32,7 +34,12 @@ class Added:
 
 
 def unquoted(text):
-    """A word of the shell without its quotes."""
+    """A word of the shell without its quotes, or what it has the shell print."""
+    printed = PRINTED.match(text)
+    if printed:
+        return re.sub(r"\\(?:0(\d{3})|(.))", lambda found: chr(int(found.group(1), 8)) if found.group(1)
+                      else {"n": "\n"}.get(found.group(2), found.group(2)), printed.group(1))
+
     def plain(found):
         return found.group(2) if found.group(1) is None else re.sub(r'\\([\\"$`])', r"\1", found.group(1))
     return QUOTED.sub(plain, text)

@@ -45,7 +45,9 @@ how make is asked:
   are asked for by --trace where make doesn't print them. A backslash and its newline in a recipe
   are joined as kati joins them. The environment is PATH, HOME and TMPDIR alone, since kati takes no
   macros from it; so it is for both builds of --build. With --builtin make is asked without `-r -R`,
-  and in both builds it has its own rules in any case.
+  and in both builds it has its own rules in any case. What its commands have in their environment
+  two targets tell that stand behind the makefile: make is asked for them without `-n -B`, which
+  values may come from, and noop runs nothing then, too.
 
 environment:
   KATI, MAKE, NINJA   the programs kati, make and ninja

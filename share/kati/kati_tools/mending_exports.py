@@ -4,6 +4,14 @@ import re
 from . import command_environment, exported_names, frozen_values, shared_includes
 
 QUOTED = "\\\"$`"
+# A value of several lines, which Ninja can't have in a command, is printed by the shell.
+LINES = """\
+define KATI_NEWLINE
+
+
+endef
+KATI_LINES = $(subst $(KATI_NEWLINE),\\n,$(subst ',\\0047,$(subst `,\\0140,$(subst $$,\\0044,$(subst ",\\0042,\
+$(subst \\,\\\\,$(1)))))))"""
 QUOTING = "KATI_QUOTED = $(subst `,\\`,$(subst $$,\\$$,$(subst \",\\\",$(subst \\,\\\\,$(1)))))"
 
 
@@ -44,10 +52,10 @@ class Exports:
             return False
         katis = command_environment.of_commands(commands_of(translation))
         lacking = [name for name in command_environment.lacking(self.added, self.wanted, katis, self.of_targets)
-                   if "\n" not in (self.added.values[name] or "")]
+                   if not unfit(self.added.values[name])]
         new = [name for name in lacking if name not in self.handed]
         others = [name for name in lacking if name in self.handed and name not in self.frozen
-                  and self.added.values[name] is not None and name not in self.of_targets]
+                  and "\n" not in (self.added.values[name] or "\n") and name not in self.of_targets]
         self.handed = sorted([*self.handed, *new])
         line = self.port.ported[self.port.makefile].lines[0]
         for name in others:
@@ -73,6 +81,8 @@ class Exports:
     def word(self, name):
         """The words before the shell that hand on a variable, quoted where its value needs it."""
         value, macro = self.added.values.get(name), self.frozen.get(name, name)
+        if "\n" in (value or ""):
+            return f"{name}=\"$$(printf %b '$(call KATI_LINES,$({macro}))')\" "
         is_plain = value is not None and not set(value) & set(QUOTED) and not self.is_deferred(name)
         return f'{name}="$({macro})" ' if is_plain else f'{name}="$(call KATI_QUOTED,$({macro}))" '
 
@@ -96,10 +106,17 @@ class Exports:
         keep_shell(self.port)
         is_deferred = bool(self.for_targets()) or any(map(self.is_deferred, self.handed))
         is_named = any(one.katis == frozen_values.KATIS_SHELL for one in self.port.values.all)
-        quoting = [QUOTING] if any("KATI_QUOTED" in word for word in words) else []
+        quoting = [text for macro, text in (("KATI_QUOTED", QUOTING), ("KATI_LINES", LINES))
+                   if any(macro in word for word in words)]
         kept = ["KATI_SHELL := $(SHELL)"] if is_named or is_deferred else []
         shell = f"SHELL = {''.join(words)}$(KATI_SHELL)" if is_deferred else f"SHELL := {''.join(words)}$(SHELL)"
         return [*quoting, *kept, shell]
+
+
+def unfit(value):
+    """Whether a shell can't be given a value: Ninja has no command with a carriage return, and what a shell prints
+    ends with no newline."""
+    return "\r" in (value or "") or (value or "").endswith("\n")
 
 
 def commands_of(translation):
