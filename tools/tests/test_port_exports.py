@@ -40,6 +40,8 @@ OF_MAKEFILES = {
     "several lines":
         ("define A\none '1' \"$$X\"\n\t\\two\\n `3`\n\nfour\nendef\nexport A\nall: ; echo \"$$A\" > out\n",
          ["A=\"$$(printf %b "]),
+    "several lines that hang on the target":
+        ("define A\none $@\ntwo\nendef\nexport A\nall: a b\na b: ; echo \"$$A\" > $@\n", ["SHELL = A=\"$$(printf %b "]),
     "flags of make": ("export A = of $(MAKEFLAGS)\nexport B := of $(MAKEFLAGS)\nall: ; echo \"$$A $$B\" > out\n", []),
     "by goals": ("ifeq ($(MAKECMDGOALS),)\nexport A = 1\nendif\nall: ; echo \"$${A-none}\" > out\n", []),
     "not for other goals": ("ifneq ($(MAKECMDGOALS),)\nexport A = 1\nendif\nall: ; echo \"$${A-none}\" > out\n", []),

@@ -52,7 +52,7 @@ class Exports:
             return False
         katis = command_environment.of_commands(commands_of(translation))
         lacking = [name for name in command_environment.lacking(self.added, self.wanted, katis, self.of_targets)
-                   if not unfit(self.added.values[name])]
+                   if not unfit(self.added.all[name])]
         new = [name for name in lacking if name not in self.handed]
         others = [name for name in lacking if name in self.handed and name not in self.frozen
                   and "\n" not in (self.added.values[name] or "\n") and name not in self.of_targets]
@@ -81,7 +81,7 @@ class Exports:
     def word(self, name):
         """The words before the shell that hand on a variable, quoted where its value needs it."""
         value, macro = self.added.values.get(name), self.frozen.get(name, name)
-        if "\n" in (value or ""):
+        if "\n" in self.added.all.get(name, ""):
             return f"{name}=\"$$(printf %b '$(call KATI_LINES,$({macro}))')\" "
         is_plain = value is not None and not set(value) & set(QUOTED) and not self.is_deferred(name)
         return f'{name}="$({macro})" ' if is_plain else f'{name}="$(call KATI_QUOTED,$({macro}))" '
@@ -116,7 +116,7 @@ class Exports:
 def unfit(value):
     """Whether a shell can't be given a value: Ninja has no command with a carriage return, and what a shell prints
     ends with no newline."""
-    return "\r" in (value or "") or (value or "").endswith("\n")
+    return "\r" in value or value.endswith("\n")
 
 
 def commands_of(translation):
