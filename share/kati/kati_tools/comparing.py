@@ -131,13 +131,15 @@ def in_environment(asking, asked, commands, listing):
     """The lines that say where the commands of make and of kati have another environment."""
     macros = [] if asked.words_for_kati else words.macros_of(asked.words)
     added = asking.added_to_environment(words.goals_of(asked.words), macros)
+    katis = command_environment.of_commands(commands)
+    if added.is_known and not added.values and not any(katis):
+        return []
     read = includes.asked([asking.makefile], listing.names)
     lines = exported_names.lines_of(read)
     names = exported_names.chosen(added, exported_names.named(lines), macros, lines,
                                   lambda: exported_names.asked_for(lines, listing.names, read))
-    return command_environment.differences(added, [name for found in names for name in found],
-                                           command_environment.of_commands(commands),
-                                           set(exported_names.macros_of_targets(lines)))
+    return list(command_environment.differences(added, [name for found in names for name in found], katis,
+                                                set(exported_names.macros_of_targets(lines))))
 
 
 def verdict(found, are_words_shared, has_other_environment):
@@ -203,7 +205,7 @@ def compare(asked):
         by_kati = [text.strip() for command in commands for text in unwrapped(command)]
         asking = make_commands.Asking(asked.makefile or translating.default_makefile(), asked.builtin,
                                       shell_of(commands), room)
-        environment = list(in_environment(asking, asked, commands, listing))
+        environment = in_environment(asking, asked, commands, listing)
         is_same = compare_commands(asking, asked, by_kati, translation.said, environment)
         if asked.build:
             is_same = compare_builds(asked, translation, room) and is_same
