@@ -54,7 +54,12 @@ CONSTRUCTS = {
         ({"Makefile": "ifeq ($(origin P),undefined)\nP = /usr\nendif\nall: ; echo $(P) $(flavor P) > out\n"},
          ["ifeq ($(V_origin),undefined)"]),
     "abspath and realpath": ({"Makefile": "T := $(realpath .)\nall: ; echo $(T) $(abspath x) > out\n"}, ["V_T := "]),
-    "!=": ({"Makefile": "N != echo 1 \\\n 2\nall: ; echo $(N) > out\n"}, ["N := $(V_N)", "V_N = $(shell echo 1 2)"]),
+    "!=": ({"Makefile": "N != echo 1 \\\n 2\nall: ; echo $(N) > out\n"},
+           ["N != echo 1 \\\n 2\nelse\nN = $(V_N)\nendif\n", "V_N = $(shell echo 1 2)"]),
+    "a number sign by !=":
+        ({"Makefile": "N != printf 'a\\043b'\nall: ; echo '$(N)' $(shell echo '$(N)') > out\n"}, []),
+    "!= is deferred":
+        ({"Makefile": "N != echo 1\nN += $(O) $(flavor N)\nO = 2\nall: ; echo $(N) > out\n"}, []),
     "*.c among names": ({"Makefile": "all: *.c\n\techo $^ > out\n", "a.c": "", "b.c": ""},
                         ["all: $(V_value)", "V_value = *.c", "V_value := a.c b.c"]),
     "*.c in a macro that rules need":

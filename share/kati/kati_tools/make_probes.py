@@ -21,7 +21,7 @@ SHELL = re.compile(r"\$[({]shell[ \t]+")
 # the text on, which takes commas as they are, and in a command blanks too.
 ASKED = ((WILDCARD, 1_000_000, "$(strip "), (SHELL, 2_000_000, "$(subst ,,"))
 # A probe tells its number, what the value depends on, and the value.
-PROBE = f"kati_probe = $(info {ANSWER}$1 $3|$2{END})$2\n"
+PROBE = f"kati_probe = $(info {ANSWER}$1 $3|$2{END})$2\nkati_number_sign := \\#\n"
 
 
 def is_in(form, text):
@@ -220,7 +220,9 @@ class Probes:
         if operator != "!=":
             return None
         number = self.numbers.setdefault((line, 0, 0), len(self.numbers))
-        return f"{name} := $(call kati_probe,{number},$(shell {value}),)"
+        # Such a macro is deferred. What the command wrote is a value whole, whatever it has of `#`.
+        probe = f"$(call kati_probe,{number},$(shell {value}),)"
+        return f"$(eval {name} = $(subst $(kati_number_sign),\\$(kati_number_sign),{probe}))"
 
     def ask(self, ported, run, room):
         """Puts the probes into the files, asks make once, and takes them out again."""

@@ -55,7 +55,7 @@ def refused_form(port, fault):
 
 
 def shell_assignment(port, line):
-    """`NAME != COMMAND` is for make what it was, by a macro that asks the shell at once."""
+    """`NAME != COMMAND` is for make alone; kati gets a deferred assignment, too, of what the command wrote."""
     name, operator, command = line.assignment() or ("", "", "")
     if operator != "!=":
         return False
@@ -63,9 +63,8 @@ def shell_assignment(port, line):
     value = told[0] if len(told) == 1 else port.run.value(f"$(shell {command})")
     if value is None or len(told) > 1:
         return False
-    source = f"$(shell {command})"
-    start = line.text.index(name)
-    line.edits = {(start, line.expanded_length()): f"{name} := {port.freezer.reference(line, source, value)}"}
+    reference = port.freezer.reference(line, f"$(shell {command})", value)
+    line.wrap(lambda text: f"{name} = {reference}")
     port.tell("frozen", "!=")
     return True
 
