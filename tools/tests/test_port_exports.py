@@ -29,6 +29,10 @@ OF_MAKEFILES = {
         ("export A = of $@\nall: a b\na b: ; echo \"$$A\" > $@\n", ["SHELL = A=", "$(KATI_SHELL)"]),
     "a value that a target has":
         ("export A = 1\nall: a b\na: A = '\"2\"'\na: c\na b c: ; echo \"$$A\" > $@\n", ["SHELL = A="]),
+    "a value that hangs on what a target has":
+        ("export A = a $(B)\nB = b $(C)\nall: a b\na: C = 1\na b: ; echo \"$$A\" > $@\n", ["SHELL = A="]),
+    "a value of the list of makefiles":
+        ("export A = $(MAKEFILE_LIST)\nall: ; echo \"$$A\" > out\n", []),
     "for a target": ("all: a b\na: export A = 1\na: c\na b c: ; echo \"$${A-none}\" > $@\n",
                      ["SHELL = $(if $(filter $(A_TARGETS),$@),A="]),
     "for two targets": ("all: a b c\na: export A = 1\nb: export A = 2\na b c: ; echo \"$${A-none}\" > $@\n", []),

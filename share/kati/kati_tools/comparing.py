@@ -139,7 +139,7 @@ def in_environment(asking, asked, commands, listing):
     names = exported_names.chosen(added, exported_names.named(lines), macros, lines,
                                   lambda: exported_names.asked_for(lines, listing.names, read))
     return list(command_environment.differences(added, [name for found in names for name in found], katis,
-                                                set(exported_names.macros_of_targets(lines))))
+                                                exported_names.hanging_on_targets(lines)))
 
 
 def verdict(found, are_words_shared, has_other_environment):

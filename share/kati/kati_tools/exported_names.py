@@ -4,7 +4,7 @@ import re
 
 from . import files, makefile_text
 from .includes import MAKEFILES
-from .ported_text import PortedFile, is_define
+from .ported_text import PortedFile, definitions, is_define
 
 SCRIPTS = re.compile(r"\.(sh|pl|py|awk)$|(^|/)configure$")
 EXPORTS = re.compile(r"[ \t]*((override|private)[ \t]+)*export\b")
@@ -33,6 +33,26 @@ def macros_of_targets(lines):
         specific = None if line.assignment() else makefile_text.Rule(line.joined).specific
         if specific:
             yield specific[0]
+
+
+def hanging_on(macros, lines):
+    """These macros, and those that lines give a value that hangs on them, by itself or by others."""
+    users, found = {}, dict.fromkeys(macros)
+    for name, line in definitions(lines):
+        for reference in makefile_text.references(line.text):
+            for named_there in makefile_text.named_by(reference):
+                users.setdefault(named_there, set()).add(name)
+    left = list(found)
+    while left:
+        new = users.get(left.pop(), set()).difference(found)
+        found.update(dict.fromkeys(new))
+        left += new
+    return set(found)
+
+
+def hanging_on_targets(lines):
+    """The macros that may have another value for another target."""
+    return hanging_on(macros_of_targets(lines), lines)
 
 
 def of_the_shell(text):

@@ -28,6 +28,7 @@ exit 0
 # where make exports all.
 TELLING = ("kati_tells_1", "kati_tells_2")
 TELLING_RULES = f"""\
+MAKEFILE_LIST := $(filter-out $(lastword $(MAKEFILE_LIST)),$(MAKEFILE_LIST))
 .PHONY: {' '.join(TELLING)}
 {TELLING[0]}: ; /usr/bin/env -0 > {{told}}1 # kati_tells_its_environment_1
 {TELLING[1]}: ; /usr/bin/env -0 > {{told}}2 # kati_tells_its_environment_2

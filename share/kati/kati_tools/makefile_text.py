@@ -108,10 +108,10 @@ def nested_references(text, base=0):
 
 
 def named_by(reference):
-    """The names of the macros that a reference may mean: its own, and the one that it calls."""
+    """The names of the macros that a reference may mean: its own, and the one that it calls or asks of."""
     if len(reference) == 2:
         return [reference[1]]
-    found = re.match(r"\$[({](?:(?:call|value)[ \t]+)?([^ \t:,(){}$]+)", reference)
+    found = re.match(r"\$[({](?:(?:call|value|origin|flavor)[ \t]+)?([^ \t:,(){}$]+)", reference)
     return [found.group(1)] if found else []
 
 

@@ -31,7 +31,7 @@ class Exports:
 
     def __init__(self, port):
         self.port, self.added, self.wanted, self.handed, self.frozen = port, None, [], [], {}
-        # Those to which lines give a value for targets; and macros of the command line, which are told alone.
+        # Those that may have another value for another target; and macros of the command line, which are told alone.
         self.of_targets, self.of_words = set(), []
 
     def look(self):
@@ -44,7 +44,7 @@ class Exports:
         self.wanted, self.of_words = exported_names.chosen(
             self.added, named, self.port.run.macros, lines,
             lambda: exported_names.asked_for(lines, self.port.copy.files(), read))
-        self.of_targets = set(exported_names.macros_of_targets(lines))
+        self.of_targets = exported_names.hanging_on_targets(lines)
 
     def settle(self, translation):
         """Hands on what kati's commands lack; answers whether that changes the makefile."""
@@ -73,38 +73,41 @@ class Exports:
         """The target-specific macros that are exported for their targets."""
         return [one for one in self.port.target_macros.all if one.names and "export" in one.words]
 
-    def is_deferred(self, name):
-        """Whether a variable has another value for another target that is made."""
-        return self.added.values[name] is None or any(
-            one.macro == name for one in self.port.target_macros.all if one.names)
+    def deferred(self):
+        """The variables that have another value for another target that is made."""
+        macros = [one.macro for one in self.port.target_macros.all if one.names]
+        hanging = exported_names.hanging_on(macros, list(self.port.lines()))
+        return {name for name in self.handed if self.added.values[name] is None}.union(hanging)
 
-    def word(self, name):
-        """The words before the shell that hand on a variable, quoted where its value needs it."""
+    def word(self, name, deferred):
+        """The words before the shell that hand on a variable, quoted where its value needs it, or may need it."""
         value, macro = self.added.values.get(name), self.frozen.get(name, name)
         if "\n" in self.added.all.get(name, ""):
             return f"{name}=\"$$(printf %b '$(call KATI_LINES,$({macro}))')\" "
-        is_plain = value is not None and not set(value) & set(QUOTED) and not self.is_deferred(name)
+        is_plain = value is not None and not set(value) & set(QUOTED) and name not in deferred
         return f'{name}="$({macro})" ' if is_plain else f'{name}="$(call KATI_QUOTED,$({macro}))" '
 
-    def words(self):
+    def words(self, deferred):
         """The same for all, those that targets alone have too."""
-        found = [self.word(name) for name in self.handed]
+        found = [self.word(name, deferred) for name in self.handed]
         own = [one for one in self.for_targets() if one.macro not in self.handed]
         for name in dict.fromkeys(one.macro for one in own):
             lines = [one for one in own if one.macro == name]
             targets = " ".join(f"$({one.names['TARGETS']})" for one in lines)
             is_of_all = any(one.reach is None for one in lines)
-            found.append(self.word(name) if is_of_all else f"$(if $(filter {targets},$@),{self.word(name)})")
+            word = self.word(name, deferred)
+            found.append(word if is_of_all else f"$(if $(filter {targets},$@),{word})")
         return found
 
     def tail(self):
         """What kati gets at the end of the makefile: a shell with these variables. Where a value hangs on the target,
         it is deferred."""
-        words = self.words()
+        deferred = self.deferred()
+        words = self.words(deferred)
         if not words:
             return []
         keep_shell(self.port)
-        is_deferred = bool(self.for_targets()) or any(map(self.is_deferred, self.handed))
+        is_deferred = bool(self.for_targets()) or not deferred.isdisjoint(self.handed)
         is_named = any(one.katis == frozen_values.KATIS_SHELL for one in self.port.values.all)
         quoting = [text for macro, text in (("KATI_QUOTED", QUOTING), ("KATI_LINES", LINES))
                    if any(macro in word for word in words)]

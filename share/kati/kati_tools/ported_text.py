@@ -109,15 +109,20 @@ class PortedFile:
         return None
 
     def definitions(self):
-        """The name of a macro and a line that gives it a value, for each line of an assignment or of a `define`."""
-        name = None
-        for line in self.lines:
-            if line.is_body:
-                yield name, line
-            elif is_define(line.joined.split()[:3]):
-                name = makefile_text.defined_name(line.joined)
-            elif line.assignment():
-                yield line.assignment()[0], line
+        """What its lines define."""
+        return definitions(self.lines)
+
+
+def definitions(lines):
+    """The name of a macro and a line that gives it a value, for each line of an assignment or of a `define`."""
+    name = None
+    for line in lines:
+        if line.is_body:
+            yield name, line
+        elif is_define(line.joined.split()[:3]):
+            name = makefile_text.defined_name(line.joined)
+        elif line.assignment():
+            yield line.assignment()[0], line
 
 
 def is_define(words):
