@@ -21,6 +21,7 @@ OF_INCLUDES = {
     "in a branch that make takes": "ifndef X\nifdef MAKE_VERSION\nexport A = 1\nendif\nendif\n",
     "in a branch that make doesn't take":
         "A = 1\nifdef X\nifdef MAKE_VERSION\nexport A = 1\nendif\nendif\nifeq ($(A),2)\nexport A\nendif\n",
+    "for a target": "all: export A = 1\nall: B = 2\nexport B\n",
     "in the other branch": "A = 1\nifndef MAKE_VERSION\nelse\nexport A\nendif\n",
 }
 # What a makefile exports: its text, and words that stand in it afterwards.

@@ -52,6 +52,21 @@ class Including(Tree):
         self.assertIn("Makefile: kati takes it as it is\n", self.port("a"))
         self.assertEqual(self.read("common.mk"), text)
 
+    def test_macros_of_targets_that_another_program_needs_too_or_does_not_need(self):
+        include = "F = 0\ndebug: F += 1\nall: G = 2\ndebug: F += 3\n"
+        own = "all: ; echo $(F) $(G)\ninclude ../mk/a.mk\n"
+        self.put_all({"mk/a.mk": include, "one/Makefile": own, "two/Makefile": f"all: debug\n{own}debug: ; echo $(F)\n",
+                      "three/Makefile": f"{own}debug: ; echo $(G)\n"})
+        wanted = {folder: self.makes_commands(folder) for folder in ("one", "two", "three")}
+        for folder in ("one", "two", "three", "one", "two"):
+            self.port(folder)
+        self.assertEqual(self.read("mk/a.mk").count("ifdef MAKE_VERSION\n"), 3)
+        self.assertEqual({folder: self.makes_commands(folder) for folder in wanted}, wanted)
+        text = self.read("mk/a.mk")
+        for folder in wanted:
+            self.assertIn("Makefile: kati takes it as it is\n", self.port(folder))
+        self.assertEqual(self.read("mk/a.mk"), text)
+
     def test_the_shell_that_an_include_names_where_two_programs_export(self):
         own = "export A = 1\ninclude ../mk/a-b.mk\n"
         self.put_all({"mk/a-b.mk": "all: ; '$(SHELL)' -c 'echo $$A'\n", "one/Makefile": own, "two/Makefile": own})

@@ -279,6 +279,7 @@ class Port:
         """Rewrites the files until kati takes them; answers its translation."""
         self.look()
         shared_includes.add_values(self)
+        self.target_macros.take(list(self.ported.values()))
         self.freeze_lists_of_makefiles()
         if self.asked.has_deps and any(WRITES_DEPENDENCIES.search(file.before) for file in self.ported.values()):
             # Or each file that a compiler writes would have the makefile read again.

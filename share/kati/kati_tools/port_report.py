@@ -50,7 +50,7 @@ def did(port):
     if port.exports.handed:
         yield f"exported, by SHELL at the end of the makefile, to kati's commands: {' '.join(port.exports.handed)}"
     needed = [one for one in port.target_macros.all if one.hit]
-    others = len(port.target_macros.all) - len(needed)
+    others = sum(not (one.hit or one.is_taken) for one in port.target_macros.all)
     if others:
         yield f"{comparing.counted(others, 'target-specific macro')} that these goals don't need: for make alone"
     if needed:

@@ -7,11 +7,18 @@
 where CFLAGS_BEFORE is what CFLAGS was up to there, unexpanded if it was deferred, CFLAGS_HERE the text of the line, and
 CFLAGS_TARGETS the targets and what is made because of them. In make what is made because of two targets has the macros
 of the one that asks for it first. Which that are is seen in kati's own graph. Where no target is needed, the line is
-for make alone, and that is all."""
+for make alone, and that is all.
+
+An include may have been ported with another program, so that such lines stand there for make alone already, some with
+CFLAGS_HERE for kati: they are taken as they are, and this makefile gets its own end."""
+import itertools
 import re
 
 from . import makefile_text, ninja_text
+from .ported_text import MAKES_ALONE
 
+# References to what a port leaves for kati.
+NAMED = re.compile(r"\$\(([^\s()$]+_HERE(?:_\d+)?)\)")
 WORDS = re.compile(r"^[ \t]*((?:(?:export|override|private)[ \t]+)*)")
 KEEP = """\
 define {before}_KEPT
@@ -36,14 +43,16 @@ class TargetMacro:
         # The targets of the graph that are meant, and what is made because of them; None for all commands.
         self.hit, self.reach, self.first = set(), [], 0
         self.names = {}
+        # What an earlier port left for kati in its place, and the name of that macro; and whether there was one.
+        self.katis, self.here, self.is_taken = None, None, False
 
     def is_private(self):
         return "private" in self.words
 
     def for_kati(self, text):
         """kati's line in the place of make's: the value, as it is there; none where no target is needed."""
-        if not self.names:
-            return None
+        if self.katis is not None or not self.names:
+            return self.katis
         operator = ":=" if self.operator in (":=", "::=") else "="
         return f"{self.names['HERE']} {operator} {value_in(text)}".rstrip(" ")
 
@@ -68,6 +77,19 @@ def value_in(text):
     return found[2] if found else ""
 
 
+def kept_for_make(lines):
+    """The lines of each block that keeps a target-specific macro for make alone, as a port writes it: with `else` and
+    kati's line, where it has these."""
+    for at, line in enumerate(lines[1:-1], 1):
+        if lines[at - 1].text == MAKES_ALONE and not (line.is_tab or line.is_body or line.assignment()):
+            specific = makefile_text.Rule(line.joined).specific
+            texts = [one.text for one in lines[at + 1:at + 4]]
+            if specific and texts[:1] == ["endif"]:
+                yield lines[at - 1:at + 2]
+            elif specific and texts[::2] == ["else", "endif"] and texts[1].startswith(f"{specific[0]}_HERE"):
+                yield lines[at - 1:at + 4]
+
+
 def is_meant(name, targets):
     """Whether one of these targets or patterns is a name."""
     return any(re.fullmatch(re.escape(one).replace("%", ".+", 1), name) for one in targets)
@@ -88,6 +110,21 @@ class TargetMacros:
         line.wrap(found.for_kati)
         self.is_settled = False
         return True
+
+    def take(self, files):
+        """Takes the lines that an earlier port kept for make alone, but for those of which kati has the values."""
+        named = {name for file in files for line in file.lines for name in NAMED.findall(line.text)}
+        for block in [block for file in files for block in kept_for_make(file.lines)]:
+            found = TargetMacro(block[1], len(self.all))
+            katis = block[3] if len(block) > 3 else None
+            found.here = katis.assignment()[0] if katis else None
+            if found.macro is None or "$" in found.macro or found.here in named:
+                continue
+            found.katis, found.is_taken = katis.text if katis else None, True
+            self.all.append(found)
+            block[1].wrap(found.for_kati)
+            for line in [block[0], *block[2:]]:
+                line.is_gone = True
 
     def tail(self):
         """What kati gets at the end of the makefile."""
@@ -117,9 +154,14 @@ class TargetMacros:
 
     def name(self, one):
         """Gives a macro's parts names that nothing else has."""
-        number = sum(other.macro == one.macro and bool(other.names) for other in self.all) + 1
-        ending = "" if number == 1 else f"_{number}"
-        one.names = {part: f"{one.macro}_{part}{ending}" for part in ("BEFORE", "HERE", "TARGETS")}
+        used = {name for other in self.all for name in [other.here, *other.names.values()]}
+        for number in itertools.count(1):
+            ending = "" if number == 1 else f"_{number}"
+            names = {part: f"{one.macro}_{part}{ending}" for part in ("BEFORE", "TARGETS")}
+            names["HERE"] = one.here or f"{one.macro}_HERE{ending}"
+            if used.isdisjoint(set(names.values()) - {one.here}):
+                one.names = names
+                return
 
 
 class Graph:
