@@ -34,6 +34,9 @@ OF_MAKEFILES = {
         ("export A = a $(B)\nB = b $(C)\nall: a b\na: C = 1\na b: ; echo \"$$A\" > $@\n", ["SHELL = A="]),
     "a value of the list of makefiles":
         ("export A = $(MAKEFILE_LIST)\nall: ; echo \"$$A\" > out\n", []),
+    "a value of the list of makefiles, and of what a target has":
+        ("export A = $(lastword $(MAKEFILE_LIST)) $(notdir $(abspath b/c)) $(C)\nall: a b\na: C = 1\n"
+         "a b: ; echo \"$$A\" > $@\n", []),
     "for a target": ("all: a b\na: export A = 1\na: c\na b c: ; echo \"$${A-none}\" > $@\n",
                      ["SHELL = $(if $(filter $(A_TARGETS),$@),A="]),
     "for two targets": ("all: a b c\na: export A = 1\nb: export A = 2\na b c: ; echo \"$${A-none}\" > $@\n", []),

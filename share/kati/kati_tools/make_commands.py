@@ -27,8 +27,10 @@ exit 0
 # Two targets that have it told, by another shell too where the makefile overrides SHELL; and a macro that is there
 # where make exports all.
 TELLING = ("kati_tells_1", "kati_tells_2")
+# The first line of a makefile that is read behind others, by which it isn't in the list of makefiles.
+UNLISTED = "MAKEFILE_LIST := $(filter-out $(lastword $(MAKEFILE_LIST)),$(MAKEFILE_LIST))\n"
 TELLING_RULES = f"""\
-MAKEFILE_LIST := $(filter-out $(lastword $(MAKEFILE_LIST)),$(MAKEFILE_LIST))
+{UNLISTED}\
 .PHONY: {' '.join(TELLING)}
 {TELLING[0]}: ; /usr/bin/env -0 > {{told}}1 # kati_tells_its_environment_1
 {TELLING[1]}: ; /usr/bin/env -0 > {{told}}2 # kati_tells_its_environment_2

@@ -63,7 +63,7 @@ class MakeRun:
         """What make would do for the goals; a question is a makefile's text that is read after the makefile."""
         words = ["-n", "-B", "--no-print-directory", "--eval=.SECONDARY:", "-f", self.makefile]
         if question is not None:
-            files.replace(self.extra, question, self.room)
+            files.replace(self.extra, make_commands.UNLISTED + question, self.room)
             words += ["-f", self.extra]
         return self.run([*words, *(self.goals if goals is None else goals), *self.macros, f"SHELL={self.noop}"])
 

@@ -118,8 +118,7 @@ class Port:
         if status:
             raise MakeFails(status, said)
         told = self.run.value("$(MAKEFILE_LIST)")
-        named = {os.path.normpath(os.path.relpath(name)) for name in (told or "").split()}
-        self.read = named - {os.path.relpath(self.run.extra)}
+        self.read = {os.path.normpath(os.path.relpath(name)) for name in (told or "").split()}
         self.load_read()
         self.times = self.copy.times()
         self.sort_made(sorted(set(self.times) - set(before)), sorted(changed(before, self.times) - by_shell))
