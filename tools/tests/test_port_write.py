@@ -78,6 +78,11 @@ CONSTRUCTS = {
         ({"Makefile": "F = -O2 $(G)\nG = 1\nall: a b c\na: F += -g,$(H)\nb: F = -O3\na b c: ; echo $(F) > $@\nH = h\n"},
          ["ifdef MAKE_VERSION\na: F += -g,$(H)\nelse\nF_HERE = -g,$(H)\nendif\n",
           "F = $(F_BEFORE)$(if $(filter $(F_TARGETS),$@), $(F_HERE))"]),
+    "a macro of two targets of which one needs the other":
+        ({"Makefile": "F = 0\nall: a d\na b: F += 1\na: b ; echo $(F) > a\nb d: c ; echo $(F) > $@\n"
+                      "c: ; echo $(F) > c\n"}, ["F_TARGETS = a b c\n", "F_TARGETS_2_TIMES = b c\n"]),
+    "a macro of a target without commands":
+        ({"Makefile": "F = 0\nall: b c\nc: F += 1\nc: ;\nb: ; echo $(F) > b\n"}, []),
     "a goal's macro": ({"Makefile": "F = -O2\nall: F += -g\nall: a b\na b: ; echo $(F) > $@\n"},
                        ["F = $(F_BEFORE) $(F_HERE)"]),
     "macros of targets that others need":

@@ -6,8 +6,8 @@
 
 where CFLAGS_BEFORE is what CFLAGS was up to there, unexpanded if it was deferred, CFLAGS_HERE the text of the line, and
 CFLAGS_TARGETS the targets and what is made because of them. In make what is made because of two targets has the macros
-of the one that asks for it first. Which that are is seen in kati's own graph. Where no target is needed, the line is
-for make alone, and that is all.
+of the one that asks for it first; where that one was asked for by the other, `+=` has added the text twice. Which that
+are is seen in kati's own graph. Where no target is needed, the line is for make alone, and that is all.
 
 An include may have been ported with another program, so that such lines stand there for make alone already, some with
 CFLAGS_HERE for kati: they are taken as they are, and this makefile gets its own end."""
@@ -40,8 +40,9 @@ class TargetMacro:
         self.words = WORDS.match(rest).group(1).split()
         found = makefile_text.assignment(rest[WORDS.match(rest).end():])
         self.macro, self.operator, _ = found or (None, None, None)
-        # The targets of the graph that are meant, and what is made because of them; None for all commands.
-        self.hit, self.reach, self.first = set(), [], 0
+        # The targets of the graph that are meant, and what is made because of them, with how often the macro counts
+        # there; None for all commands.
+        self.hit, self.reach, self.first = set(), {}, 0
         self.names = {}
         # What an earlier port left for kati in its place, and the name of that macro; and whether there was one.
         self.katis, self.here, self.is_taken = None, None, False
@@ -64,9 +65,14 @@ class TargetMacro:
         if self.reach is None:
             return [*([kept] if is_kept else []), f"{macro} = {f'$({before}) ' if self.operator == '+=' else ''}{here}"]
         names = self.names["TARGETS"]
-        is_here = f"$(filter $({names}),$@)"
-        text = f"$({before})$(if {is_here}, {here})" if self.operator == "+=" else f"$(if {is_here},{here},$({before}))"
-        return [kept, f"{names} = {' '.join(self.reach)}", f"{macro} = {text}"]
+        if self.operator != "+=":
+            text = f"$(if $(filter $({names}),$@),{here},$({before}))"
+            return [kept, f"{names} = {' '.join(self.reach)}", f"{macro} = {text}"]
+        times = range(1, max(self.reach.values(), default=1) + 1)
+        lists = [(names if least == 1 else f"{names}_{least}_TIMES",
+                  [name for name, count in self.reach.items() if count >= least]) for least in times]
+        text = "".join(f"$(if $(filter $({name}),$@), {here})" for name, _ in lists)
+        return [kept, *(f"{name} = {' '.join(reach)}" for name, reach in lists), f"{macro} = $({before}){text}"]
 
 
 def value_in(text):
@@ -148,8 +154,9 @@ class TargetMacros:
         graph.walk(live)
         for one in live:
             self.name(one)
-            is_all = set(one.reach) >= graph.commands and graph.commands
-            one.reach = None if is_all else [name for name in one.reach if name in graph.commands]
+            reach = {name: count for name, count in one.reach.items() if name in graph.commands}
+            is_once = one.operator != "+=" or set(reach.values()) == {1}
+            one.reach = None if reach.keys() == graph.commands and reach and is_once else reach
         return bool(live)
 
     def name(self, one):
@@ -175,7 +182,7 @@ class Graph:
 
     def walk(self, macros):
         """Gives each macro what is made because of its targets, from the one that asks first."""
-        seen, left, number = set(), [(goal, frozenset()) for goal in reversed(self.goals)], 0
+        seen, left, number = set(), [(goal, {}) for goal in reversed(self.goals)], 0
         while left:
             name, active = left.pop()
             if name in seen or name not in self.by_output:
@@ -185,8 +192,8 @@ class Graph:
             own = [one for one in macros if name in one.hit]
             for one in own:
                 one.first = one.first or number
-            here = active | frozenset(own)
-            for one in here:
-                one.reach.append(name)
-            handed = frozenset(one for one in here if not one.is_private())
+            here = {**active, **{one: active.get(one, 0) + 1 for one in own}} if own else active
+            for one, count in here.items():
+                one.reach[name] = count
+            handed = {one: count for one, count in here.items() if not one.is_private()} if own else active
             left += [(need, handed) for need in reversed(self.by_output[name].inputs)]
