@@ -39,6 +39,8 @@ OF_MAKEFILES = {
          "a b: ; echo \"$$A\" > $@\n", []),
     "for a target": ("all: a b\na: export A = 1\na: c\na b c: ; echo \"$${A-none}\" > $@\n",
                      ["SHELL = $(if $(filter $(A_TARGETS),$@),A="]),
+    "all, of which a target alone has one": ("export\nall: a b\na: A = 1\na b: ; echo \"$${A-none}\" > $@\n", []),
+    "what a shell can't have": ("all: a\na: export A-B = 1\na: ; echo $(A-B) > $@\n", []),
     "for two targets": ("all: a b c\na: export A = 1\nb: export A = 2\na b c: ; echo \"$${A-none}\" > $@\n", []),
     "for a target that needs all": ("all: export A = 1\nall: a b\na b: ; echo \"$${A-none}\" > $@\n", ["SHELL = A="]),
     "what the environment has without an export":

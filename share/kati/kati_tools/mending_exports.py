@@ -2,6 +2,7 @@
 import re
 
 from . import command_environment, exported_names, frozen_values, shared_includes
+from .command_environment import NAME
 
 QUOTED = "\\\"$`"
 # A value of several lines, which Ninja can't have in a command, is printed by the shell.
@@ -33,6 +34,8 @@ class Exports:
         self.port, self.added, self.wanted, self.handed, self.frozen = port, None, [], [], {}
         # Those that may have another value for another target; and macros of the command line, which are told alone.
         self.of_targets, self.of_words = set(), []
+        # Those that something asks for, where all are exported.
+        self.asked = set()
 
     def look(self):
         """Asks make. Where all variables are exported, those count that lines name, or that something asks for."""
@@ -41,9 +44,10 @@ class Exports:
         texts = exported_names.named(lines)
         told = self.port.run.values([one for one in texts if "$" in one])
         named = [name for text in [*(one for one in texts if "$" not in one), *told] for name in (text or "").split()]
+        if self.added.is_of_all:
+            self.asked = exported_names.asked_for(lines, self.port.copy.files(), read)
         self.wanted, self.of_words = exported_names.chosen(
-            self.added, named, self.port.run.macros, lines,
-            lambda: exported_names.asked_for(lines, self.port.copy.files(), read))
+            self.added, named, self.port.run.macros, lines, lambda: self.asked)
         self.of_targets = exported_names.hanging_on_targets(lines)
 
     def settle(self, translation):
@@ -71,7 +75,8 @@ class Exports:
 
     def for_targets(self):
         """The target-specific macros that are exported for their targets."""
-        return [one for one in self.port.target_macros.all if one.names and "export" in one.words]
+        return [one for one in self.port.target_macros.all if one.names and NAME.fullmatch(one.macro)
+                and ("export" in one.words or one.macro in self.asked)]
 
     def deferred(self):
         """The variables that have another value for another target that is made."""

@@ -142,9 +142,9 @@ class Comparison:
             yield from (f"{mark} {line}" for line in lines[:10])
             if len(lines) > 10:
                 yield f"{mark} .. and {len(lines) - 10} more"
-        if not self.makes and not self.katis:
+        if self.in_environment:
             yield "kati's commands differ in their environment"
-        elif self.is_in_quotes:
+        if self.is_in_quotes and not self.in_environment:
             yield f"kati's commands are make's but for blanks within quotes, which count: {len(self.makes)}"
-        else:
+        elif self.makes or self.katis:
             yield f"kati's commands differ: {len(self.makes)} of make's alone, {len(self.katis)} of kati's alone"
