@@ -8,7 +8,7 @@ isn't there is skipped. The names of tests that failed or were skipped are told,
 failed, K skipped`. Where one failed and the program kati is older than the source, this is said before.
 The exit status is 1 where one failed, else 0.
 
-KATI_RANDOM_TREES says how many trees test_random_edits tries, and KATI_RANDOM_SEED which.
+KATI_RANDOM_TREES says how many trees test_random_edits and test_random_ports try, and KATI_RANDOM_SEED which.
 
 examples:
   python3 tools/tests
