@@ -30,6 +30,10 @@ OF_MAKEFILES = {
         ("export A = of $@\nall: a b\na b: ; echo \"$$A\" > $@\n", ["SHELL = A=", "$(KATI_SHELL)"]),
     "a value that a target has":
         ("export A = 1\nall: a b\na: A = '\"2\"'\na: c\na b c: ; echo \"$$A\" > $@\n", ["SHELL = A="]),
+    "a target's override before another value of it":
+        ("export A = 1\nall: a b\na: override A = 2\na: A = 3\na: A += 4\na: b\nb: A = 5\na b: ; echo \"$$A\" > $@\n",
+         []),
+    "a target that is named twice": ("export A = 1\nall: a b\na a: A += 2\na b: ; echo \"$$A\" > $@\n", []),
     "a value that hangs on what a target has":
         ("export A = a $(B)\nB = b $(C)\nall: a b\na: C = 1\na b: ; echo \"$$A\" > $@\n", ["SHELL = A="]),
     "a value of the list of makefiles":
@@ -55,8 +59,20 @@ OF_MAKEFILES = {
     "flags of make": ("export A = of $(MAKEFLAGS)\nexport B := of $(MAKEFLAGS)\nall: ; echo \"$$A $$B\" > out\n", []),
     "by goals": ("ifeq ($(MAKECMDGOALS),)\nexport A = 1\nendif\nall: ; echo \"$${A-none}\" > out\n", []),
     "not for other goals": ("ifneq ($(MAKECMDGOALS),)\nexport A = 1\nendif\nall: ; echo \"$${A-none}\" > out\n", []),
+    "for a target, what a test's own environment has":
+        ("all: a b\na: export LC_ALL = C\na b: ; echo \"$$LC_ALL\" > $@\n", []),
+    "for a target, what the environment has": ("all: a b\na: PATH := $(PATH):/x\na b: ; echo \"$$PATH\" > $@\n", []),
     "all, one of them by name": ("export LANGUAGE = 1\nexport\nall: ; printenv LANGUAGE > out\n",
                                  ["LANGUAGE=\"$(LANGUAGE)\""]),
+}
+# Makefiles by which kati's commands have another value for a target than make's, with the lines that tell of it.
+OTHER_FOR_A_TARGET = {
+    "the origin of what a target alone has":
+        ("export A = $(origin B)\nall: a b\na: B = 1\na b: ; echo \"$$A\" > $@\n",
+         ["- A=file in the environment of a", "+ A=undefined in the environment of a"]),
+    "the flavor of what a target alone has":
+        ("all: a b\na: export A = $(flavor B)\na: B = 1\na b: ; echo \"$$A\" > $@\n",
+         ["- A=recursive in the environment of a", "+ A=undefined in the environment of a"]),
 }
 
 
@@ -112,6 +128,29 @@ class Exporting(Tree):
                 self.assertEqual(self.by_kati(), wanted, text)
                 self.assertEqual(self.tool("kati-compare", "--builtin").status, 0, text)
                 self.assertIn("kati takes it as it is", self.port(), name)
+
+    def test_another_value_for_a_target_is_told(self):
+        for name, (makefile, lines) in OTHER_FOR_A_TARGET.items():
+            with self.subTest(name):
+                shutil.rmtree(self.top)
+                self.put_all({"Makefile": makefile})
+                said = self.port()
+                self.assertEqual([line for line in lines if f"Makefile: {line}\n" not in said], [], said)
+                self.assertIn("Makefile: kati's commands differ in their environment\n", said)
+                self.assertNotEqual(self.by_kati(), self.built(".", "make"))
+                self.assertIn("in the environment of a\n", self.tool("kati-compare", "--builtin").out)
+
+    def test_a_value_that_is_another_each_time_is_not_told(self):
+        self.put_all({"Makefile": "export A = $(B)$(shell date +%N)\nall: a b\na: B = 1\na b: ; echo \"$$A\" > $@\n"})
+        self.assertIn("kati's commands are make's\n", self.port())
+
+    def test_what_a_shell_of_its_own_keeps_from_being_asked_is_told(self):
+        self.put_all({"Makefile": "export A = $(B)\nall: a b\na: B = 1\nb: override SHELL = /bin/sh\n"
+                                  "a b: ; echo \"$$A\" > $@\n"})
+        line = "what make's commands have in their environment isn't known for each target\n"
+        self.assertIn(f"Makefile: {line}", self.port())
+        self.assertIn(line, self.tool("kati-compare", "--builtin").out)
+        self.assertEqual(list(self.top.glob("[ab]")), [])
 
     def test_what_does_not_reach_them_is_told(self):
         self.put_all({"Makefile": "define A\n1\n2\n\nendef\nexport A\nexport B = 3\nall: ; echo \"$$A $$B\" > out\n"})

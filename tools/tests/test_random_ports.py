@@ -73,7 +73,7 @@ class RandomMakefile:
         return [f"{MACROS[number]} {operator} {value.get(operator, later)}"]
 
     def of_target(self):
-        number, words = self.chance.randrange(len(MACROS)), ["", "", "export "][:2 + self.has_exports]
+        number, words = self.chance.randrange(len(MACROS)), ["", "", "override ", "export "][:3 + self.has_exports]
         targets = self.chance.choice([*self.targets, "all", "other", "o%"])
         return [f"{targets}: {self.chance.choice(words)}{MACROS[number]} {self.chance.choice(['=', '+='])} "
                 f"{self.text(MACROS[number + 1:])}"]

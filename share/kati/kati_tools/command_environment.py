@@ -68,21 +68,19 @@ def lacking(added, names, katis, of_targets=()):
             if any(name not in one or values[name] not in (None, one[name]) for one in katis)]
 
 
-def told(name, value):
+def told(name, value, owner="commands"):
     """A variable and its value on a line."""
-    text = "" if value is None else shlex.quote(value).replace("\n", "\\n")
-    return f"{name}={text} in the environment of commands"
+    text = shlex.quote(value).replace("\n", "\\n")
+    return f"{name}={text} in the environment of {owner}"
 
 
-def differences(added, names, katis, of_targets=()):
-    """The lines that say where kati's commands haven't what make's have of these names, or have what make's haven't."""
+def differences(added, names, katis, of_targets):
+    """The lines that say where kati's commands haven't what make's have of these names, or have what make's haven't;
+    nothing of those that may hang on the target."""
     if not added.is_known and katis:
         yield "what make's commands have in their environment isn't known"
         return
-    for name in lacking(added, names, katis, of_targets):
+    for name in lacking(added, [name for name in names if name not in of_targets], katis):
         yield f"- {told(name, added.values[name])}"
     others = dict.fromkeys((name, value) for one in katis for name, value in one.items() if name not in of_targets)
-    for name, value in others:
-        hangs_on_target = name in names and added.values[name] is None
-        if not hangs_on_target and added.all.get(name) != value:
-            yield f"+ {told(name, value)}"
+    yield from (f"+ {told(name, value)}" for name, value in others if added.all.get(name) != value)

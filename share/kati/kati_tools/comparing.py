@@ -4,7 +4,7 @@ import tempfile
 from collections import Counter
 
 from . import (command_environment, exported_names, files, includes, make_commands, scratch_builds, shell_text,
-               translating, words)
+               target_environment, translating, words)
 from .command_lists import Compared, alone
 from .programs import Stop, ending, need, run, say, write_text
 
@@ -127,19 +127,33 @@ def counted(number, noun):
     return f"{number} {noun}{'' if number == 1 else 's'}"
 
 
-def in_environment(asking, asked, commands, listing):
+def in_environment(asking, asked, statements, listing):
     """The lines that say where the commands of make and of kati have another environment."""
-    macros = [] if asked.words_for_kati else words.macros_of(asked.words)
-    added = asking.added_to_environment(words.goals_of(asked.words), macros)
-    katis = command_environment.of_commands(commands)
-    if added.is_known and not added.values and not any(katis):
-        return []
+    goals, macros = words.goals_of(asked.words), [] if asked.words_for_kati else words.macros_of(asked.words)
+    added = asking.added_to_environment(goals, macros)
+    katis = command_environment.of_commands(one.command for one in statements if one.command is not None)
     read = includes.asked([asking.makefile], listing.names)
-    lines = exported_names.lines_of(read)
-    names = exported_names.chosen(added, exported_names.named(lines), macros, lines,
-                                  lambda: exported_names.asked_for(lines, listing.names, read))
-    return list(command_environment.differences(added, [name for found in names for name in found], katis,
-                                                exported_names.hanging_on_targets(lines)))
+    texts = exported_names.texts_of(read)
+    is_any = added.values or added.is_of_all or any(katis) or any(map(exported_names.MAY_EXPORT.search, texts.values()))
+    if added.is_known and not is_any:
+        return []
+    lines = exported_names.lines_of(texts)
+
+    def ask():
+        return exported_names.asked_for(lines, listing.names, read)
+
+    names = [name for found in exported_names.chosen(added, exported_names.named(lines), macros, lines, ask)
+             for name in found]
+    of_targets = exported_names.of_targets(added, names, macros, lines, ask) if added.is_known else set()
+    found = list(command_environment.differences(added, names, katis, of_targets))
+    if of_targets:
+        def ask_make():
+            return None if exported_names.overrides_shell(lines) else asking.environments(goals, macros)
+
+        given = make_commands.as_users_run_it(make_commands.environment())
+        by_target = target_environment.of_statements(statements, given)
+        found += target_environment.differences(ask_make(), ask_make, by_target, of_targets)
+    return found
 
 
 def verdict(found, are_words_shared, has_other_environment):
@@ -205,7 +219,7 @@ def compare(asked):
         by_kati = [text.strip() for command in commands for text in unwrapped(command)]
         asking = make_commands.Asking(asked.makefile or translating.default_makefile(), asked.builtin,
                                       shell_of(commands), room)
-        environment = in_environment(asking, asked, commands, listing)
+        environment = in_environment(asking, asked, translation.statements, listing)
         is_same = compare_commands(asking, asked, by_kati, translation.said, environment)
         if asked.build:
             is_same = compare_builds(asked, translation, room) and is_same

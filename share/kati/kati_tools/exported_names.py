@@ -3,16 +3,27 @@ import os
 import re
 
 from . import files, makefile_text
+from .command_environment import NAME, OWN
 from .includes import MAKEFILES
 from .ported_text import PortedFile, definitions, is_define
 
+# A line that may export a macro for targets alone; and a text that may export something, or give targets something
+# else of the environment.
+FOR_TARGETS = re.compile(r":.*\bexport\b")
+MAY_EXPORT = re.compile(r"\bexport\b|:.*\b(PATH|HOME|TMPDIR)\b")
+OVERRIDES_SHELL = re.compile(r"\boverride\b.*\bSHELL\b")
 SCRIPTS = re.compile(r"\.(sh|pl|py|awk)$|(^|/)configure$")
 EXPORTS = re.compile(r"[ \t]*((override|private)[ \t]+)*export\b")
 
 
-def lines_of(makefiles):
+def texts_of(makefiles):
+    """The texts of these makefiles, by their names."""
+    return {name: files.read(name) for name in makefiles if os.path.isfile(name)}
+
+
+def lines_of(texts):
     """The lines of these makefiles."""
-    return [line for name in makefiles if os.path.isfile(name) for line in PortedFile(name, files.read(name)).lines]
+    return [line for name, text in texts.items() for line in PortedFile(name, text).lines]
 
 
 def named(lines):
@@ -77,11 +88,33 @@ def asked_for(lines, names, read):
     return found
 
 
+def given_by(macros):
+    """The names of these macros of the command line."""
+    return {one.split("=", 1)[0].rstrip(":+?") for one in macros}
+
+
 def chosen(added, names, macros, lines, ask):
     """Of what make adds to the environment of commands: the names that are exported, where all are those that lines
     name or that something asks for, as `ask` tells; and macros of the command line that lines ask for, which are
     exported by that alone."""
-    given = {one.split("=", 1)[0].rstrip(":+?") for one in macros}
+    given = given_by(macros)
     others = (ask() if added.is_of_all else set(added.values)) - given
     wanted = others.union(names).intersection(added.values)
     return sorted(wanted), sorted(given.intersection(added.values, asked_for_by(lines)) - wanted)
+
+
+def of_targets(added, chosen_names, macros, lines, ask):
+    """The names that are to be compared target by target, where make's commands have such: those that may have another
+    value for another target, or that a target alone has."""
+    hanging = hanging_on_targets(lines).union(name for name in chosen_names if added.values[name] is None)
+    if added.is_of_all:
+        hanging &= ask().union(chosen_names)
+    hanging -= given_by(macros).difference(chosen_names)
+    found = {name for name in hanging if NAME.fullmatch(name) and name not in OWN}
+    is_any = added.is_of_all or not found.isdisjoint(added.all)
+    return found if is_any or any(FOR_TARGETS.search(line.joined) for line in lines) else set()
+
+
+def overrides_shell(lines):
+    """Whether a makefile may have another shell than the one that it is asked with."""
+    return any(OVERRIDES_SHELL.search(line.joined) for line in lines)

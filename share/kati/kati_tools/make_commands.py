@@ -3,7 +3,7 @@ import os
 import re
 import shlex
 
-from . import command_environment, files
+from . import command_environment, files, target_environment
 from .programs import Stop, bytes_of, need, run
 
 # The suffixes that kati begins with: `make -r` begins with none. What is made on the way stays, as with kati:
@@ -51,6 +51,11 @@ def environment(**more):
     return {**kept, "LC_ALL": "C", **more}
 
 
+def as_users_run_it(given):
+    """An environment without LC_ALL, which isn't there where a user runs make: make exports what is there."""
+    return {name: value for name, value in given.items() if name != "LC_ALL"}
+
+
 def write_noop(name, shell, room):
     """Writes the shell that runs no recipe; for $(shell ..) it is this one."""
     files.replace(name, NOOP.format(shell=shell, told=shlex.quote(told_by(name))), room)
@@ -65,13 +70,13 @@ def told_by(noop):
 def added_to_environment(noop, given, goals, ask):
     """What make adds to the environment that it is given, for its commands. `ask` has it read the makefile, and a file
     behind that, for some words and in an environment: no options, by which values may differ, and MAKECMDGOALS as for
-    the goals. Without LC_ALL, which isn't there where a user runs make: make exports what is there."""
+    the goals."""
     names = [f"{told_by(noop)}{number}" for number in (1, 2)]
     for name in names:
         files.remove(name)
     rules = f"{noop}-telling.mk"
     files.write(rules, bytes_of(TELLING_RULES.format(told=shlex.quote(told_by(noop)).replace("$", "$$"))))
-    given = {**{name: value for name, value in given.items() if name != "LC_ALL"}, "MAKECMDGOALS": " ".join(goals)}
+    given = {**as_users_run_it(given), "MAKECMDGOALS": " ".join(goals)}
     ask(rules, [*TELLING, f"SHELL={noop}"], given)
     texts = [files.read(name) for name in names]
     told = [text and dict(one.split("=", 1) for one in text.split("\0") if "=" in one) for text in texts]
@@ -136,6 +141,17 @@ class Asking:
                 run([*call, *macros, *more], executable=need("make"), stdin=given, stdout=printed, env=has)
 
         return added_to_environment(self.noop, environment(), goals, ask)
+
+    def environments(self, goals, macros):
+        """What make's commands have in their environment, line by line of their recipes."""
+        def ask(word):
+            call = ["make", "-B", *([] if self.has_builtin else ["-r", "-R"]), "--no-print-directory",
+                    "-f", self.suffixes, "-f", "-", *goals, *macros, word]
+            with open(self.given, "rb") as text, open(self.printed, "wb") as printed:
+                return run(call, executable=need("make"), stdin=text, stdout=printed,
+                           env=as_users_run_it(environment()))[0]
+
+        return target_environment.all_told(os.path.dirname(self.noop), self.shell, ask)
 
     def before_with_silent(self, macros):
         """The commands that make runs before it makes the goals, with those that a recipe's `@` has it not print, since

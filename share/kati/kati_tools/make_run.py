@@ -4,7 +4,7 @@ import re
 import subprocess
 from collections import Counter
 
-from . import files, make_commands
+from . import files, make_commands, target_environment
 from .programs import Stop, need, run
 
 NO_GOAL = "kati_port_makes_nothing"
@@ -73,6 +73,13 @@ class MakeRun:
             self.run(["-f", self.makefile, "-f", rules, *self.macros, *more], given)
 
         return make_commands.added_to_environment(self.noop, self.environment(), self.goals, ask)
+
+    def environments(self, shell):
+        """What make's commands have in their environment, line by line of their recipes."""
+        given = make_commands.as_users_run_it(self.environment())
+        files.replace(self.extra, make_commands.UNLISTED + ".SECONDARY:\n", self.room)
+        words = ["-B", "--no-print-directory", "-f", self.makefile, "-f", self.extra, *self.goals, *self.macros]
+        return target_environment.all_told(self.room, shell, lambda word: self.run([*words, word], given)[0])
 
     def make_includes(self):
         """Has make make the makefiles that it reads, as it does before anything."""

@@ -1,8 +1,8 @@
 """Exported variables: make is asked which its commands have, and the shell of kati's commands gets those they lack."""
 import re
 
-from . import command_environment, exported_names, frozen_values, shared_includes
-from .command_environment import NAME
+from . import command_environment, exported_names, frozen_values, make_commands, shared_includes, target_environment
+from .command_environment import NAME, OWN
 
 QUOTED = "\\\"$`"
 # A value of several lines, which Ninja can't have in a command, is printed by the shell.
@@ -32,8 +32,9 @@ class Exports:
 
     def __init__(self, port):
         self.port, self.added, self.wanted, self.handed, self.frozen = port, None, [], [], {}
-        # Those that may have another value for another target; and macros of the command line, which are told alone.
-        self.of_targets, self.of_words = set(), []
+        # Those that may have another value for another target, which are compared target by target, and what make told
+        # of each of its commands; and macros of the command line, which are told alone.
+        self.of_targets, self.by_target, self.of_words = set(), None, []
         # Those that something asks for, where all are exported.
         self.asked = set()
 
@@ -48,7 +49,10 @@ class Exports:
             self.asked = exported_names.asked_for(lines, self.port.copy.files(), read)
         self.wanted, self.of_words = exported_names.chosen(
             self.added, named, self.port.run.macros, lines, lambda: self.asked)
-        self.of_targets = exported_names.hanging_on_targets(lines)
+        self.of_targets = exported_names.of_targets(
+            self.added, [*self.wanted, *self.of_words], self.port.run.macros, lines, lambda: self.asked)
+        if self.of_targets and not exported_names.overrides_shell(lines):
+            self.by_target = self.port.run.environments(self.port.shell)
 
     def settle(self, translation):
         """Hands on what kati's commands lack; answers whether that changes the makefile."""
@@ -70,13 +74,24 @@ class Exports:
     def differences(self, translation):
         """The lines that say where make's commands and kati's have another environment."""
         katis = command_environment.of_commands(commands_of(translation))
-        return list(command_environment.differences(self.added, [*self.wanted, *self.of_words], katis,
-                                                    self.of_targets))
+        found = command_environment.differences(self.added, [*self.wanted, *self.of_words], katis, self.of_targets)
+        return [*found, *self.differences_of_targets(translation)]
+
+    def differences_of_targets(self, translation):
+        """The same for what may be another value for another target."""
+        if not self.of_targets or not self.added.is_known:
+            return []
+        run = self.port.run
+        given = make_commands.as_users_run_it(run.environment())
+        katis = target_environment.of_statements(translation.statements, given)
+        return target_environment.differences(self.by_target, lambda: run.environments(self.port.shell), katis,
+                                              self.of_targets)
 
     def for_targets(self):
-        """The target-specific macros that are exported for their targets."""
+        """The target-specific macros that are exported for their targets, as those that the environment has anyhow."""
+        exported = self.asked.union(make_commands.as_users_run_it(self.port.run.environment())) - OWN
         return [one for one in self.port.target_macros.all if one.names and NAME.fullmatch(one.macro)
-                and ("export" in one.words or one.macro in self.asked)]
+                and ("export" in one.words or one.macro in exported)]
 
     def deferred(self):
         """The variables that have another value for another target that is made."""

@@ -40,9 +40,9 @@ class TargetMacro:
         self.words = WORDS.match(rest).group(1).split()
         found = makefile_text.assignment(rest[WORDS.match(rest).end():])
         self.macro, self.operator, _ = found or (None, None, None)
-        # The targets of the graph that are meant, and what is made because of them, with how often the macro counts
-        # there; None for all commands.
-        self.hit, self.reach, self.first = set(), {}, 0
+        # The targets of the graph that are meant, with how often they are named, and what is made because of them, with
+        # how often the macro counts there; None for all commands.
+        self.hit, self.reach, self.first = {}, {}, 0
         self.names = {}
         # What an earlier port left for kati in its place, and the name of that macro; and whether there was one.
         self.katis, self.here, self.is_taken = None, None, False
@@ -96,9 +96,9 @@ def kept_for_make(lines):
                 yield lines[at - 1:at + 4]
 
 
-def is_meant(name, targets):
-    """Whether one of these targets or patterns is a name."""
-    return any(re.fullmatch(re.escape(one).replace("%", ".+", 1), name) for one in targets)
+def times_meant(name, targets):
+    """How many of these targets and patterns are a name."""
+    return sum(re.fullmatch(re.escape(one).replace("%", ".+", 1), name) is not None for one in targets)
 
 
 class TargetMacros:
@@ -106,10 +106,12 @@ class TargetMacros:
 
     def __init__(self, port):
         self.port, self.all, self.is_settled, self.flavors = port, [], False, {}
+        # Lines with `override` of which kati has the values by an earlier port: others do nothing for their targets.
+        self.overrides = []
 
     def add(self, line):
         """Takes a line that kati refuses; it is for make alone until kati's graph is known."""
-        found = TargetMacro(line, len(self.all))
+        found = TargetMacro(line, len(self.all) + len(self.overrides))
         if found.macro is None or "$" in found.macro or found.operator == "!=":
             return False
         self.all.append(found)
@@ -121,10 +123,11 @@ class TargetMacros:
         """Takes the lines that an earlier port kept for make alone, but for those of which kati has the values."""
         named = {name for file in files for line in file.lines for name in NAMED.findall(line.text)}
         for block in [block for file in files for block in kept_for_make(file.lines)]:
-            found = TargetMacro(block[1], len(self.all))
+            found = TargetMacro(block[1], len(self.all) + len(self.overrides))
             katis = block[3] if len(block) > 3 else None
             found.here = katis.assignment()[0] if katis else None
             if found.macro is None or "$" in found.macro or found.here in named:
+                self.overrides += [found] if "override" in found.words else []
                 continue
             found.katis, found.is_taken = katis.text if katis else None, True
             self.all.append(found)
@@ -143,13 +146,18 @@ class TargetMacros:
             return False
         self.is_settled = True
         graph = Graph(translation)
-        told = self.port.run.values([text for one in self.all for text in (one.targets, f"$(flavor {one.macro})")])
-        for one, targets, flavor in zip(self.all, told[::2], told[1::2]):
+        lines = sorted([*self.all, *self.overrides], key=lambda one: one.order)
+        told = self.port.run.values([text for one in lines for text in (one.targets, f"$(flavor {one.macro})")])
+        overridden = set()
+        for one, targets, flavor in zip(lines, told[::2], told[1::2]):
             self.flavors[one.macro] = flavor
             names = [re.sub(r"^(\./)+", "", name) for name in (targets or "").split()]
-            # `?=` does nothing where all targets have the macro.
+            # `?=` does nothing where all targets have the macro, and a line after `override` nothing for its targets.
             is_lost = one.operator == "?=" and flavor != "undefined"
-            one.hit = set() if is_lost else {name for name in graph.by_output if is_meant(name, names)}
+            times = {name: times_meant(name, names) for name in graph.by_output if not is_lost}
+            one.hit = {name: count for name, count in times.items() if count and (one.macro, name) not in overridden}
+            if "override" in one.words:
+                overridden.update((one.macro, name) for name in names)
         live = [one for one in self.all if one.hit]
         graph.walk(live)
         for one in live:
@@ -192,7 +200,7 @@ class Graph:
             own = [one for one in macros if name in one.hit]
             for one in own:
                 one.first = one.first or number
-            here = {**active, **{one: active.get(one, 0) + 1 for one in own}} if own else active
+            here = {**active, **{one: active.get(one, 0) + one.hit[name] for one in own}} if own else active
             for one, count in here.items():
                 one.reach[name] = count
             handed = {one: count for one, count in here.items() if not one.is_private()} if own else active
