@@ -18,8 +18,8 @@ MOST_SHOWN = 5
 
 ABOUT = """\
 Compares the commands that make would run from nothing with those of the Ninja file that kati
-writes, each without the shell round it, whatever their order. Without --build nothing is run but
-make -n, which runs what $(shell ..) says, kati and ninja -t commands."""
+writes, each without the shell round it, whatever their order. Without --build no line of a recipe
+is run; what $(shell ..) says is, since make is asked."""
 
 MORE = """\
 what is said:
@@ -47,7 +47,8 @@ how make is asked:
   macros from it; so it is for both builds of --build. With --builtin make is asked without `-r -R`,
   and in both builds it has its own rules in any case. What its commands have in their environment
   two targets tell that stand behind the makefile: make is asked for them without `-n -B`, which
-  values may come from, and noop runs nothing then, too.
+  values may come from, and noop runs nothing then, too. Where variables may have another value for
+  another target, all recipes tell it in the same way, unless the makefile overrides SHELL.
 
 environment:
   KATI, MAKE, NINJA   the programs kati, make and ninja
