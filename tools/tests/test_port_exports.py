@@ -168,6 +168,14 @@ class Exporting(Tree):
         self.assertIn("Makefile: - A=1 in the environment of commands\n"
                       "Makefile: kati's commands differ in their environment\n", said)
         self.assertEqual(self.built(".", "make", "A=1", "B=2"), {"out": "1 1 2\n"})
+        self.put("Makefile", makefile.replace("$$A", "-"))
+        self.assertIn("kati's commands are make's\n", self.port("A=1", "B=2"))
+        for text in ("all: ; sh a.sh\n", "all: ; $(MAKE) -C b\n"):
+            self.put_all({"Makefile": text, "a.sh": "echo $A\n", "b/Makefile": "all: ; echo $(A)\n"})
+            said = self.port("A=1", "B=2")
+            self.assertIn("Makefile: - A=1 in the environment of commands\n", said)
+            self.assertNotIn("B=2 in", said)
+            self.assertIn("- A=1 in the environment of commands\n", self.tool("kati-compare", "A=1", "B=2").out)
         self.put("Makefile", "A = 2\nexport A\n" + makefile)
         self.assertIn("kati's commands are make's\n", self.port("A=1", "B=2"))
         self.assertEqual(self.by_kati("A=1", "B=2"), {"out": "1 1 2\n"})

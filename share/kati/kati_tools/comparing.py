@@ -132,7 +132,8 @@ def in_environment(asking, asked, statements, listing):
     """The lines that say where the commands of make and of kati have another environment."""
     goals, macros = words.goals_of(asked.words), [] if asked.words_for_kati else words.macros_of(asked.words)
     added = asking.added_to_environment(goals, macros)
-    katis = command_environment.of_commands(one.command for one in statements if one.command is not None)
+    commands = [one.command for one in statements if one.command is not None]
+    katis = command_environment.of_commands(commands)
     read = includes.asked([asking.makefile], listing.names)
     texts = exported_names.texts_of(read)
     is_any = added.values or added.is_of_all or any(katis) or any(map(exported_names.MAY_EXPORT.search, texts.values()))
@@ -140,10 +141,11 @@ def in_environment(asking, asked, statements, listing):
         return []
     lines = exported_names.lines_of(texts)
 
-    def ask():
-        return exported_names.asked_for(lines, listing.names, read)
+    def ask(names=listing.names):
+        return exported_names.asked_for(lines, names, read)
 
-    names = [name for found in exported_names.chosen(added, exported_names.named(lines), macros, lines, ask)
+    names = [name for found in exported_names.chosen(added, exported_names.named(lines), macros, ask,
+                                                     lambda: ask(exported_names.run_by(commands, listing.names)))
              for name in found]
     of_targets = exported_names.of_targets(added, names, macros, lines, ask) if added.is_known else set()
     found = list(command_environment.differences(added, names, katis, of_targets))

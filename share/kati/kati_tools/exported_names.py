@@ -11,6 +11,7 @@ from .ported_text import PortedFile, definitions, is_define
 # else of the environment.
 FOR_TARGETS = re.compile(r":.*\bexport\b")
 MAY_EXPORT = re.compile(r"\bexport\b|:.*\b(PATH|HOME|TMPDIR)\b")
+RUNS_MAKE = re.compile(r"(^|[\s;&|()'\"])(\S*/)?g?make\s", re.MULTILINE)
 OVERRIDES_SHELL = re.compile(r"\boverride\b.*\bSHELL\b")
 SCRIPTS = re.compile(r"\.(sh|pl|py|awk)$|(^|/)configure$")
 EXPORTS = re.compile(r"[ \t]*((override|private)[ \t]+)*export\b")
@@ -88,19 +89,28 @@ def asked_for(lines, names, read):
     return found
 
 
+def run_by(commands, names):
+    """Of these files, those that commands may run: scripts that they name, and makefiles where they run make."""
+    text = "\n".join(commands)
+    is_inner = RUNS_MAKE.search(text) is not None
+    return [name for name in names if is_inner and MAKEFILES.search(name)
+            or SCRIPTS.search(name) and os.path.basename(name) in text]
+
+
 def given_by(macros):
     """The names of these macros of the command line."""
     return {one.split("=", 1)[0].rstrip(":+?") for one in macros}
 
 
-def chosen(added, names, macros, lines, ask):
+def chosen(added, names, macros, ask, ask_what_is_run):
     """Of what make adds to the environment of commands: the names that are exported, where all are those that lines
-    name or that something asks for, as `ask` tells; and macros of the command line that lines ask for, which are
-    exported by that alone."""
+    name or that something asks for, as `ask` tells; and macros of the command line, which are exported by that alone,
+    as far as the commands or what they run ask for them."""
     given = given_by(macros)
     others = (ask() if added.is_of_all else set(added.values)) - given
     wanted = others.union(names).intersection(added.values)
-    return sorted(wanted), sorted(given.intersection(added.values, asked_for_by(lines)) - wanted)
+    of_words = given.intersection(added.values) - wanted
+    return sorted(wanted), sorted(of_words.intersection(ask_what_is_run()) if of_words else [])
 
 
 def of_targets(added, chosen_names, macros, lines, ask):

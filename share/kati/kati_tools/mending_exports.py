@@ -48,7 +48,9 @@ class Exports:
         if self.added.is_of_all:
             self.asked = exported_names.asked_for(lines, self.port.copy.files(), read)
         self.wanted, self.of_words = exported_names.chosen(
-            self.added, named, self.port.run.macros, lines, lambda: self.asked)
+            self.added, named, self.port.run.macros, lambda: self.asked,
+            lambda: exported_names.asked_for(
+                lines, exported_names.run_by(self.port.before[1], self.port.copy.files()), read))
         self.of_targets = exported_names.of_targets(
             self.added, [*self.wanted, *self.of_words], self.port.run.macros, lines, lambda: self.asked)
         if self.of_targets and not exported_names.overrides_shell(lines):
