@@ -140,6 +140,16 @@ class Exporting(Tree):
                 self.assertNotEqual(self.by_kati(), self.built(".", "make"))
                 self.assertIn("in the environment of a\n", self.tool("kati-compare", "--builtin").out)
 
+    def test_blanks_in_a_value_of_a_target(self):
+        self.put_all({"Makefile": "A =\nA += 1\nexport A\nall: a b\na: A += 2\na b: ; echo $$A > $@\n"})
+        self.assertIn("kati's commands are make's, blanks aside\n", self.port())
+        self.assertEqual(self.tool("kati-compare", "--builtin").out,
+                         "same: 2 commands; their environment but for blanks\n")
+        self.put("Makefile", self.read("Makefile").replace("A_HERE = 2", "A_HERE = 3"))
+        self.assertEqual(self.tool("kati-compare", "--builtin").out,
+                         "- A='1 2' in the environment of a\n+ A=' 1 3' in the environment of a\n"
+                         "differ: the environment of commands; 2 commands the same\n")
+
     def test_a_value_that_is_another_each_time_is_not_told(self):
         self.put_all({"Makefile": "export A = $(B)$(shell date +%N)\nall: a b\na: B = 1\na b: ; echo \"$$A\" > $@\n"})
         self.assertIn("kati's commands are make's\n", self.port())

@@ -3,8 +3,7 @@ import re
 import tempfile
 from collections import Counter
 
-from . import (command_environment, exported_names, files, includes, make_commands, scratch_builds, shell_text,
-               target_environment, translating, words)
+from . import compared_environment, files, make_commands, scratch_builds, shell_text, translating, words
 from .command_lists import Compared, alone
 from .programs import Stop, ending, need, run, say, write_text
 
@@ -24,7 +23,8 @@ is run; what $(shell ..) says is, since make is asked."""
 MORE = """\
 what is said:
   same: N commands      both have the same commands, each as often. Blanks between words don't count;
-                        where they alone differ, this is said. Macros of the command line are make's
+                        where they alone differ, this is said, also of values that commands have in
+                        their environment for their targets. Macros of the command line are make's
                         too, so `same` doesn't say that make has these values: --words-for-kati does
   nothing to compare    neither has a command
   not compared          make would first make an include that isn't there or is out of date, and the
@@ -128,40 +128,9 @@ def counted(number, noun):
     return f"{number} {noun}{'' if number == 1 else 's'}"
 
 
-def in_environment(asking, asked, statements, listing):
-    """The lines that say where the commands of make and of kati have another environment."""
-    goals, macros = words.goals_of(asked.words), [] if asked.words_for_kati else words.macros_of(asked.words)
-    added = asking.added_to_environment(goals, macros)
-    commands = [one.command for one in statements if one.command is not None]
-    katis = command_environment.of_commands(commands)
-    read = includes.asked([asking.makefile], listing.names)
-    texts = exported_names.texts_of(read)
-    is_any = added.values or added.is_of_all or any(katis) or any(map(exported_names.MAY_EXPORT.search, texts.values()))
-    if added.is_known and not is_any:
-        return []
-    lines = exported_names.lines_of(texts)
-
-    def ask(names=listing.names):
-        return exported_names.asked_for(lines, names, read)
-
-    names = [name for found in exported_names.chosen(added, exported_names.named(lines), macros, ask,
-                                                     lambda: ask(exported_names.run_by(commands, listing.names)))
-             for name in found]
-    of_targets = exported_names.of_targets(added, names, macros, lines, ask) if added.is_known else set()
-    found = list(command_environment.differences(added, names, katis, of_targets))
-    if of_targets:
-        def ask_make():
-            return None if exported_names.overrides_shell(lines) else asking.environments(goals, macros)
-
-        given = make_commands.as_users_run_it(make_commands.environment())
-        by_target = target_environment.of_statements(statements, given)
-        found += target_environment.differences(ask_make(), ask_make, by_target, of_targets)
-    return found
-
-
-def verdict(found, are_words_shared, has_other_environment):
-    """The line that says how the commands of both compare."""
-    if found.is_same and has_other_environment:
+def verdict(found, are_words_shared, environment):
+    """The line that says how the commands of both compare, and their environment."""
+    if found.is_same and environment.lines:
         return f"differ: the environment of commands; {counted(found.count, 'command')} the same"
     if not found.is_same:
         return f"differ: {counted(len(found.makes), 'command')} of make's alone, {len(found.katis)} of kati's alone, " \
@@ -169,12 +138,12 @@ def verdict(found, are_words_shared, has_other_environment):
     if not found.count:
         return "nothing to compare: neither make nor kati has a command for these goals"
     blanks = f", {found.in_blanks} of them but for blanks" if found.in_blanks else ""
+    blanks += "; their environment but for blanks" if environment.has_other_blanks else ""
     return f"same: {counted(found.count, 'command')}{blanks}{SHARED if are_words_shared else ''}"
 
 
 def compare_commands(asking, asked, by_kati, said, environment):
-    """Tells whether make and kati have the same commands; answers whether they do. `environment` are the lines that
-    tell of it."""
+    """Tells whether make and kati have the same commands; answers whether they do."""
     goals, macros = words.goals_of(asked.words), words.macros_of(asked.words)
     makes_macros = [] if asked.words_for_kati else macros
     by_make, before = asking.commands(goals, makes_macros)
@@ -188,10 +157,10 @@ def compare_commands(asking, asked, by_kati, said, environment):
         silent = asking.before_with_silent(makes_macros)
         by_make += alone(found.katis, alone(found.katis, silent))
         found = Compared(by_make, besides(before, said), by_kati)
-    write_text("".join(f"{line}\n" for line in environment))
+    write_text("".join(f"{line}\n" for line in environment.lines))
     write_text("".join([*(f"- {line}\n" for line in found.makes), *(f"+ {line}\n" for line in found.katis)]))
-    write_text(verdict(found, bool(makes_macros), bool(environment)) + "\n")
-    return found.is_same and not environment
+    write_text(verdict(found, bool(makes_macros), environment) + "\n")
+    return found.is_same and not environment.lines
 
 
 def compare_builds(asked, translation, room):
@@ -222,7 +191,7 @@ def compare(asked):
         by_kati = [text.strip() for command in commands for text in unwrapped(command)]
         asking = make_commands.Asking(asked.makefile or translating.default_makefile(), asked.builtin,
                                       shell_of(commands), room)
-        environment = in_environment(asking, asked, translation.statements, listing)
+        environment = compared_environment.ComparedEnvironment(asking, asked, translation.statements, listing)
         is_same = compare_commands(asking, asked, by_kati, translation.said, environment)
         if asked.build:
             is_same = compare_builds(asked, translation, room) and is_same

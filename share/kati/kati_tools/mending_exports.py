@@ -79,15 +79,22 @@ class Exports:
         found = command_environment.differences(self.added, [*self.wanted, *self.of_words], katis, self.of_targets)
         return [*found, *self.differences_of_targets(translation)]
 
+    def katis_by_target(self, translation):
+        """What kati's commands have, by what they make."""
+        given = make_commands.as_users_run_it(self.port.run.environment())
+        return target_environment.of_statements(translation.statements, given)
+
     def differences_of_targets(self, translation):
         """The same for what may be another value for another target."""
         if not self.of_targets or not self.added.is_known:
             return []
-        run = self.port.run
-        given = make_commands.as_users_run_it(run.environment())
-        katis = target_environment.of_statements(translation.statements, given)
-        return target_environment.differences(self.by_target, lambda: run.environments(self.port.shell), katis,
-                                              self.of_targets)
+        return target_environment.differences(self.by_target, lambda: self.port.run.environments(self.port.shell),
+                                              self.katis_by_target(translation), self.of_targets)
+
+    def has_other_blanks(self, translation):
+        """Whether blanks are others in the values of targets."""
+        return bool(self.of_targets) and target_environment.has_other_blanks(
+            self.by_target, self.katis_by_target(translation), self.of_targets)
 
     def for_targets(self):
         """The target-specific macros that are exported for their targets, as those that the environment has anyhow."""

@@ -114,6 +114,7 @@ class Comparison:
         forms = (Counter(map(command_lists.without_quoted_blanks, lines)) for lines in (self.makes, self.katis))
         self.is_in_quotes = next(forms) == next(forms)
         self.in_environment = port.exports.differences(translation)
+        self.has_other_blanks = self.has_other_blanks or port.exports.has_other_blanks(translation)
 
     def is_unchanged(self, again):
         """Whether make does what it did. Where it doesn't, `again` tells what it does now by the makefiles as they

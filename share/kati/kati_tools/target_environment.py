@@ -1,6 +1,7 @@
 """The environment of each target's commands: what make's have of variables whose value may hang on the target, as the
 shell that runs no recipe tells it, and what kati's have."""
 import os
+import re
 import shlex
 
 from . import command_environment, files, shell_text
@@ -68,12 +69,17 @@ def values_of(makes, name):
     return found
 
 
-def is_other(name, makes, katis):
-    """Whether these variables of a command of make's and of kati's have another value of this name; any will do where
-    make's isn't known."""
+def without_blanks(value):
+    """A value with one blank in the place of several."""
+    return re.sub(r"[ \t]+", " ", value).strip(" ")
+
+
+def is_other(name, makes, katis, form=without_blanks):
+    """Whether these variables of a command of make's and of kati's have another value of this name, blanks aside; any
+    will do where make's isn't known."""
     if name not in makes or name not in katis:
         return name in makes or name in katis
-    return makes[name] not in (None, katis[name])
+    return makes[name] is not None and form(makes[name]) != form(katis[name])
 
 
 def differing(makes, katis, names):
@@ -83,6 +89,12 @@ def differing(makes, katis, names):
         alike = katis.get(one.target, [])
         others = [[name for name in names if is_other(name, one.environment, has)] for has in alike]
         yield from ((one, name, alike[0]) for name in (others[0] if all(others) and others else []))
+
+
+def has_other_blanks(makes, katis, names):
+    """Whether a value of kati's commands has blanks that make's hasn't, or lacks some."""
+    return any(is_other(name, one.environment, has, str) and not is_other(name, one.environment, has)
+               for one in makes or [] for has in katis.get(one.target, []) for name in names)
 
 
 def differences(makes, ask_again, katis, names):
