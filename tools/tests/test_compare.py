@@ -288,6 +288,16 @@ class Building(Tree):
         self.assertEqual(self.made(), before)
         self.assertEqual(self.run_in("sh", "-c", "cd prog && make -s && ./prog").status, 7)
 
+    def test_what_is_made_above_is_compared(self):
+        self.put("prog/Makefile", "ifdef MAKE_VERSION\nV = 1\nelse\nV = 2\nendif\nO = ../no\n"
+                                  "all: ../out/a ; @echo as ../no/a\n../out/a: ; mkdir -p ../out; echo $(V) > $@\n")
+        self.put("kept", "")
+        before = self.made()
+        ran = self.run_in("sh", "-c", f"cd prog && {self.tool_path('kati-compare')} --build", HOME=self.top)
+        self.assertEqual(ran.status, 1, ran.all)
+        self.assertIn("! ../out/a: other bytes\n", ran.out)
+        self.assertEqual(self.made(), before)
+
     def test_a_copy_of_the_home_folder_is_too_much(self):
         self.put("home/prog/Makefile", "all: ; cat ../x > out\n")
         self.put("home/x", "")

@@ -162,6 +162,18 @@ class Exporting(Tree):
         self.assertIn(line, self.tool("kati-compare", "--builtin").out)
         self.assertEqual(list(self.top.glob("[ab]")), [])
 
+    def test_no_recipe_is_run_where_the_shell_is_overridden_by_another_name(self):
+        rest = "all: a\na: export A = $@\na: ; touch {}; echo 1\n"
+        for override in ("N := SHELL\noverride $(N) := /bin/bash\n",
+                         "E = override $(1) := /bin/bash\n$(eval $(call E,SHELL))\n",
+                         "E = $(1) SHELL := /bin/bash\n$(eval $(call E,override))\n",
+                         "N := SHELL\na: override $(N) := /bin/bash\n"):
+            ran = self.top.parent / "ran"
+            self.put_all({"Makefile": f"ifdef MAKE_VERSION\n{override}endif\n{rest.format(ran)}"})
+            self.assertIn("isn't known for each target\n", self.port())
+            self.assertIn("isn't known for each target\n", self.tool("kati-compare", "--builtin").out)
+            self.assertFalse(ran.exists(), override)
+
     def test_what_does_not_reach_them_is_told(self):
         self.put_all({"Makefile": "define A\n1\n2\n\nendef\nexport A\nexport B = 3\nall: ; echo \"$$A $$B\" > out\n"})
         said = self.port()

@@ -20,7 +20,13 @@ class Levels(unittest.TestCase):
 
     def test_levels(self):
         for text, wanted in self.LEVELS.items():
-            self.assertEqual(above.levels([text]), wanted, text)
+            self.assertEqual(above.levels([text], bool), wanted, text)
+
+    def test_levels_for_what_is_not_there(self):
+        for text, wanted in {"all: ; @echo try ../no/": 0, "all: ; cat $(A)/../no": 0, "all: ; cat ../no$(B)": 1,
+                             "all: ; cat ../*.c": 1, "all: ; cd .. && ls": 1, "all: ; cat ../../no": 2,
+                             "all: ; cat ../no ../yes.c": 1}.items():
+            self.assertEqual(above.levels([text], lambda name: name == "yes.c"), wanted, text)
 
     def test_what_a_build_that_failed_said(self):
         said = ["make: *** [Makefile:1: a] Error 1", *(f"note {number}" for number in range(99))]

@@ -11,6 +11,8 @@ BEHIND_VALUE = re.compile(r"[)}]/*$")
 BEGINNING = re.compile(r"(?<![\w./)}~-])(?:\./+)*$")
 # A command goes into a folder below this one.
 INTO = re.compile(r"(?:-C[ \t]*|--directory[ =]|\bcd[ \t]+)([\w+@-][\w.+@/-]*)")
+# A name behind `..` that holds no reference and no pattern.
+PLAIN = re.compile(r"/+([\w.+@-]+)(?![\w.+@$*?\[%{-])")
 OF_THIS_FOLDER = re.compile(r"CURDIR|MAKEFILE_LIST|\bPWD\b|\bpwd\b")
 
 
@@ -23,15 +25,22 @@ def texts_of(makefile):
     return [makefile, *(files.read(name) for name in named if os.path.isfile(name))]
 
 
-def ups(text):
+def is_any_there(name):
+    """Whether a name stands above this folder, as far up as a value before it may lead."""
+    return any(os.path.lexists(os.path.join(*[".."] * count, name)) for count in (1, 2, 3))
+
+
+def ups(text, is_there):
     """How far up a makefile's text goes by itself, how far behind a value that may have gone up already, and how far
-    behind anything."""
+    behind anything. One folder up for a name that isn't there is none but in the last."""
     alone = behind = most = 0
     for line in includes.joined(text):
         for match in UP.finditer(line):
-            count, before = match.group().count(".."), line[:match.start()]
+            count, before, name = match.group().count(".."), line[:match.start()], PLAIN.match(line, match.end())
             is_behind, most = BEHIND_VALUE.search(before), max(most, count)
             count = max(count - levels_down(before), 0)
+            if count == 1 and name and not is_there(name.group(1)):
+                continue
             if BEGINNING.search(before) or is_behind and OF_THIS_FOLDER.search(line):
                 alone = max(alone, count)
             elif is_behind:
@@ -49,13 +58,13 @@ def levels_down(before):
     return 0 if ".." in parts else len(parts)
 
 
-def levels(texts):
-    """How many folders above this one makefiles name."""
-    alone, behind, _ = map(max, zip(*map(ups, texts)))
+def levels(texts, is_there=is_any_there):
+    """How many folders above this one makefiles name, for what is there."""
+    alone, behind, _ = map(max, zip(*(ups(text, is_there) for text in texts)))
     return alone and alone + behind
 
 
 def most_levels(texts):
     """How many they may name at most."""
-    _, behind, most = map(max, zip(*map(ups, texts)))
+    _, behind, most = map(max, zip(*(ups(text, bool) for text in texts)))
     return most + behind

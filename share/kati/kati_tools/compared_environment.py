@@ -40,8 +40,7 @@ class ComparedEnvironment:
         def ask():
             return self.asking.environments(self.goals, self.macros) if may_ask else None
 
-        makes = ask()
         given = make_commands.as_users_run_it(make_commands.environment())
-        katis = target_environment.of_statements(self.statements, given)
-        self.lines += target_environment.differences(makes, ask, katis, names)
-        self.has_other_blanks = target_environment.has_other_blanks(makes, katis, names)
+        compared = target_environment.ByTarget(ask(), ask, self.statements, given)
+        self.lines += compared.differences(names)
+        self.has_other_blanks = compared.has_other_blanks(names)

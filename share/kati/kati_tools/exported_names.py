@@ -12,7 +12,9 @@ from .ported_text import PortedFile, definitions, is_define
 FOR_TARGETS = re.compile(r":.*\bexport\b")
 MAY_EXPORT = re.compile(r"\bexport\b|:.*\b(PATH|HOME|TMPDIR)\b")
 RUNS_MAKE = re.compile(r"(^|[\s;&|()'\"])(\S*/)?g?make\s", re.MULTILINE)
-OVERRIDES_SHELL = re.compile(r"\boverride\b.*\bSHELL\b")
+# A line that may override SHELL, by its name or by one that make expands.
+OVERRIDES_SHELL = re.compile(r"\boverride\b(.*\bSHELL\b"
+                             r"|[ \t]+((export|private|define|undefine)[ \t]+)*[^\s=:+?!]*\$)")
 SCRIPTS = re.compile(r"\.(sh|pl|py|awk)$|(^|/)configure$")
 EXPORTS = re.compile(r"[ \t]*((override|private)[ \t]+)*export\b")
 

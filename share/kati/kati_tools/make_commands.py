@@ -145,8 +145,10 @@ class Asking:
     def environments(self, goals, macros):
         """What make's commands have in their environment, line by line of their recipes."""
         def ask(word):
+            rules = f"{self.noop}-safe.mk"
+            files.write(rules, bytes_of(UNLISTED + target_environment.SAFE))
             call = ["make", "-B", *([] if self.has_builtin else ["-r", "-R"]), "--no-print-directory",
-                    "-f", self.suffixes, "-f", "-", *goals, *macros, word]
+                    "-f", self.suffixes, "-f", "-", "-f", rules, *goals, *macros, word]
             with open(self.given, "rb") as text, open(self.printed, "wb") as printed:
                 return run(call, executable=need("make"), stdin=text, stdout=printed,
                            env=as_users_run_it(environment()))[0]

@@ -77,7 +77,7 @@ class MakeRun:
     def environments(self, shell):
         """What make's commands have in their environment, line by line of their recipes."""
         given = make_commands.as_users_run_it(self.environment())
-        files.replace(self.extra, make_commands.UNLISTED + ".SECONDARY:\n", self.room)
+        files.replace(self.extra, make_commands.UNLISTED + target_environment.SAFE, self.room)
         words = ["-B", "--no-print-directory", "-f", self.makefile, "-f", self.extra, *self.goals, *self.macros]
         return target_environment.all_told(self.room, shell, lambda word: self.run([*words, word], given)[0])
 

@@ -73,28 +73,23 @@ class Exports:
             self.frozen[name] = self.port.values.add(line, name, f"$({name})", value, f"$({name})")
         return bool(new or others)
 
+    def compared_by_target(self, translation):
+        """The comparison of what may be another value for another target."""
+        run = self.port.run
+        given = make_commands.as_users_run_it(run.environment())
+        return target_environment.ByTarget(self.by_target, lambda: run.environments(self.port.shell),
+                                           translation.statements, given)
+
     def differences(self, translation):
-        """The lines that say where make's commands and kati's have another environment."""
+        """The lines that say where make's commands and kati's have another environment, and whether blanks are others
+        in a value for a target."""
         katis = command_environment.of_commands(commands_of(translation))
-        found = command_environment.differences(self.added, [*self.wanted, *self.of_words], katis, self.of_targets)
-        return [*found, *self.differences_of_targets(translation)]
-
-    def katis_by_target(self, translation):
-        """What kati's commands have, by what they make."""
-        given = make_commands.as_users_run_it(self.port.run.environment())
-        return target_environment.of_statements(translation.statements, given)
-
-    def differences_of_targets(self, translation):
-        """The same for what may be another value for another target."""
+        names = [*self.wanted, *self.of_words]
+        found = list(command_environment.differences(self.added, names, katis, self.of_targets))
         if not self.of_targets or not self.added.is_known:
-            return []
-        return target_environment.differences(self.by_target, lambda: self.port.run.environments(self.port.shell),
-                                              self.katis_by_target(translation), self.of_targets)
-
-    def has_other_blanks(self, translation):
-        """Whether blanks are others in the values of targets."""
-        return bool(self.of_targets) and target_environment.has_other_blanks(
-            self.by_target, self.katis_by_target(translation), self.of_targets)
+            return found, False
+        compared = self.compared_by_target(translation)
+        return [*found, *compared.differences(self.of_targets)], compared.has_other_blanks(self.of_targets)
 
     def for_targets(self):
         """The target-specific macros that are exported for their targets, as those that the environment has anyhow."""

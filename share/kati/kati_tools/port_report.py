@@ -113,8 +113,8 @@ class Comparison:
         self.makes, self.katis, self.has_other_blanks = found.makes, found.katis, bool(found.in_blanks)
         forms = (Counter(map(command_lists.without_quoted_blanks, lines)) for lines in (self.makes, self.katis))
         self.is_in_quotes = next(forms) == next(forms)
-        self.in_environment = port.exports.differences(translation)
-        self.has_other_blanks = self.has_other_blanks or port.exports.has_other_blanks(translation)
+        self.in_environment, has_other_blanks = port.exports.differences(translation)
+        self.has_other_blanks = self.has_other_blanks or has_other_blanks
 
     def is_unchanged(self, again):
         """Whether make does what it did. Where it doesn't, `again` tells what it does now by the makefiles as they

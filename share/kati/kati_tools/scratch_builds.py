@@ -33,9 +33,10 @@ def content(path):
 
 
 def snapshot(copy):
-    """What is in a scratch copy, by its name as seen from this folder; pipes and their kin aside."""
+    """What is in a scratch copy, and beside it, where a build may make `../x`, by its name as seen from this folder;
+    pipes and their kin aside."""
     found = {}
-    for at, _, names in os.walk(copy.top):
+    for at, _, names in os.walk(copy.room):
         for name in names:
             path = os.path.join(at, name)
             if os.path.islink(path) or os.path.isfile(path):

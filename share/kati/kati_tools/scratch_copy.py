@@ -162,15 +162,15 @@ def top_of(makefile):
 
 
 class WholeCopy:
-    """A copy for a build in the folder `room`: `top` is the whole of it, `folder` that of this folder. It has nothing
-    of version control."""
+    """A copy for a build in the folder `room`, where nothing else is: `top` is the whole of it, `folder` that of this
+    folder. It has nothing of version control."""
 
     def __init__(self, makefile, room):
         source, room = top_of(makefile), os.path.realpath(room)
-        self.top = os.path.join(room, os.path.basename(source) or "top")
+        self.room, self.top = room, os.path.join(room, os.path.basename(source) or "top")
         self.folder = os.path.normpath(os.path.join(self.top, os.path.relpath(os.getcwd(), source)))
         copy_folder(source, self.top, room, False)
 
     def remove(self):
-        """Takes the copy away."""
-        shutil.rmtree(self.top)
+        """Takes the copy away, and what a build wrote beside it."""
+        shutil.rmtree(self.room)

@@ -16,6 +16,14 @@ test -p /dev/stdout && exec {shell} "$@"
 {{ printf '%s\\0' "$target"; /usr/bin/env -0; printf '\\0'; }} >> {told}/$$
 exit 0
 """
+# What is read behind a makefile that is asked so: where it overrides SHELL, nothing is run; and nothing is deleted.
+SAFE = """\
+ifneq ($(origin SHELL),command line)
+$(error the makefile overrides SHELL)
+endif
+.SECONDARY:
+"""
+NOT_KNOWN = "what make's commands have in their environment isn't known for each target"
 MOST_TOLD = 10
 
 
@@ -61,6 +69,13 @@ def of_statements(statements, given):
     return found
 
 
+def is_any_untold(makes, statements):
+    """Whether make told nothing of some target for which kati has commands."""
+    told = {one.target for one in makes}
+    return any(one.command is not None and shell_text.pieces(one.command)
+               and told.isdisjoint(map(os.path.normpath, one.outputs)) for one in statements)
+
+
 def values_of(makes, name):
     """The values of a variable in what make told, by target; a text of its own where there is none."""
     found = {}
@@ -82,34 +97,39 @@ def is_other(name, makes, katis, form=without_blanks):
     return makes[name] is not None and form(makes[name]) != form(katis[name])
 
 
-def differing(makes, katis, names):
-    """What make told of a target, and the names for which each of kati's commands for it has another value, with the
-    variables of one of these."""
-    for one in makes:
-        alike = katis.get(one.target, [])
-        others = [[name for name in names if is_other(name, one.environment, has)] for has in alike]
-        yield from ((one, name, alike[0]) for name in (others[0] if all(others) and others else []))
+class ByTarget:
+    """What make told of each target, by `ask`, None where it isn't known, beside the commands of kati's statements."""
 
+    def __init__(self, makes, ask, statements, given):
+        self.ask, self.katis = ask, of_statements(statements, given)
+        self.makes = None if makes is None or is_any_untold(makes, statements) else makes
 
-def has_other_blanks(makes, katis, names):
-    """Whether a value of kati's commands has blanks that make's hasn't, or lacks some."""
-    return any(is_other(name, one.environment, has, str) and not is_other(name, one.environment, has)
-               for one in makes or [] for has in katis.get(one.target, []) for name in names)
+    def differing(self, names):
+        """What make told of a target, and the names for which each of kati's commands for it has another value, with
+        the variables of one of these."""
+        for one in self.makes:
+            alike = self.katis.get(one.target, [])
+            others = [[name for name in names if is_other(name, one.environment, has)] for has in alike]
+            yield from ((one, name, alike[0]) for name in (others[0] if all(others) and others else []))
 
+    def has_other_blanks(self, names):
+        """Whether a value of kati's commands has blanks that make's hasn't, or lacks some."""
+        return any(is_other(name, one.environment, has, str) and not is_other(name, one.environment, has)
+                   for one in self.makes or [] for has in self.katis.get(one.target, []) for name in names)
 
-def differences(makes, ask_again, katis, names):
-    """The lines that say for which targets kati's commands have other values of these names than make's. What make has
-    otherwise each time that it is asked doesn't count."""
-    if makes is None:
-        yield "what make's commands have in their environment isn't known for each target"
-        return
-    found = list(differing(makes, katis, sorted(names)))
-    again = ask_again() if found else None
-    first, second = ({name: values_of(told, name) for name in names} for told in (makes, again or makes))
-    lines = [f"{mark} {command_environment.told(name, has[name], one.target)}" for one, name, katis_own in found
-             if first[name][one.target] == second[name].get(one.target)
-             for mark, has in (("-", one.environment), ("+", katis_own)) if has.get(name) is not None]
-    lines = list(dict.fromkeys(lines))
-    yield from lines[:MOST_TOLD]
-    if len(lines) > MOST_TOLD:
-        yield f"- .. and {len(lines) - MOST_TOLD} more"
+    def differences(self, names):
+        """The lines that say for which targets kati's commands have other values of these names than make's. What make
+        has otherwise each time that it is asked doesn't count."""
+        if self.makes is None:
+            yield NOT_KNOWN
+            return
+        found = list(self.differing(sorted(names)))
+        again = self.ask() if found else None
+        first, second = ({name: values_of(told, name) for name in names} for told in (self.makes, again or self.makes))
+        lines = [f"{mark} {command_environment.told(name, has[name], one.target)}" for one, name, katis in found
+                 if first[name][one.target] == second[name].get(one.target)
+                 for mark, has in (("-", one.environment), ("+", katis)) if has.get(name) is not None]
+        lines = list(dict.fromkeys(lines))
+        yield from lines[:MOST_TOLD]
+        if len(lines) > MOST_TOLD:
+            yield f"- .. and {len(lines) - MOST_TOLD} more"
