@@ -1,6 +1,8 @@
 """kati-compare: the same commands, and how it is told where they aren't."""
 import os
 import shutil
+import signal
+import subprocess
 
 from support import TOP, Tree, needs
 
@@ -297,6 +299,20 @@ class Building(Tree):
         self.assertEqual(ran.status, 1, ran.all)
         self.assertIn("! ../out/a: other bytes\n", ran.out)
         self.assertEqual(self.made(), before)
+
+    def test_nothing_is_left_of_a_run_that_is_ended(self):
+        self.write(Makefile="ifdef MAKE_VERSION\nA := $(shell echo > started; exec sleep 1000)\nendif\nall: ; echo\n")
+        scratch = self.top.parent / "scratch"
+        scratch.mkdir()
+        process = subprocess.Popen([self.tool_path("kati-compare")], cwd=self.top, start_new_session=True,
+                                   env={**os.environ, "TMPDIR": str(scratch)}, stdout=subprocess.PIPE,
+                                   stderr=subprocess.PIPE, text=True)
+        self.wait_for((self.top / "started").exists)
+        self.assertNotEqual(list(scratch.iterdir()), [])
+        os.killpg(process.pid, signal.SIGTERM)
+        self.assertEqual(process.communicate(), ("", "kati-compare: interrupted\n"))
+        self.assertEqual(process.returncode, 130)
+        self.assertEqual([path.name for path in scratch.iterdir() if path.name.startswith("kati-")], [])
 
     def test_a_copy_of_the_home_folder_is_too_much(self):
         self.put("home/prog/Makefile", "all: ; cat ../x > out\n")

@@ -3,7 +3,8 @@ import re
 import tempfile
 from collections import Counter
 
-from . import compared_environment, files, make_commands, scratch_builds, shell_text, translating, words
+from . import (compared_environment, files, interrupting, make_commands, scratch_builds, shell_text, translating,
+               words)
 from .command_lists import Compared, alone
 from .programs import Stop, ending, need, run, say, write_text
 
@@ -180,7 +181,7 @@ def compare_builds(asked, translation, room):
 def compare(asked):
     """Compares, and answers the exit status."""
     translating.tell_of_other(TOOL, asked.makefile)
-    with tempfile.TemporaryDirectory(prefix="kati-compare-") as room:
+    with interrupting.ending_as_interrupted(), tempfile.TemporaryDirectory(prefix="kati-compare-") as room:
         translator = translating.Translator(asked, room)
         listing = translating.listing(asked)
         translation = translator.translate(listing)

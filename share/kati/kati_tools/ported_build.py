@@ -11,8 +11,8 @@ import re
 import shutil
 import tempfile
 
-from . import (above, files, frozen_values, includes, ninja_text, port, port_report, scratch_copy, sources, translating,
-               words)
+from . import (above, files, frozen_values, includes, interrupting, ninja_text, port, port_report, scratch_copy,
+               sources, translating, words)
 from .programs import SHARE, Stop, bytes_of, find_kati, inside, need, say
 
 TOOL = "kati-build"
@@ -92,7 +92,7 @@ class Ported:
         asked = argparse.Namespace(makefile=self.record.makefile, goals=words.goals_of(self.asked.words),
                                    macros=words.macros_of(self.asked.words), kati=self.asked.kati,
                                    depth=self.asked.depth, files_from=self.asked.files_from, has_deps=True)
-        with tempfile.TemporaryDirectory(prefix="kati-build-") as room:
+        with interrupting.ending_as_interrupted(), tempfile.TemporaryDirectory(prefix="kati-build-") as room:
             copy = scratch_copy.Copy(room, above.texts_of(asked.makefile))
             with copy.entered():
                 made = port.Port(asked, copy, room)

@@ -8,8 +8,8 @@ import signal
 import sys
 import tempfile
 
-from . import (above, files, frozen_values, make_run, port, port_report, renewing, scratch_copy, translating,
-               words)
+from . import (above, files, frozen_values, interrupting, make_run, port, port_report, renewing, scratch_copy,
+               translating, words)
 from .programs import INTERRUPTED, Stop, bytes_of, need, write_text
 
 TOOL = "kati-port"
@@ -127,22 +127,14 @@ def changes(comparison):
     return [*found, *comparison.after[2].splitlines()[-3:]]
 
 
-def interrupted(number, frame):
-    """Ends as an interrupt does, so that no scratch folder is left."""
-    raise KeyboardInterrupt
-
-
 @contextlib.contextmanager
 def interruptible():
     """Ends well at an interrupt, and at the signals that end a program."""
-    before = {one: signal.signal(one, interrupted) for one in (signal.SIGTERM, signal.SIGHUP)}
     try:
-        yield
+        with interrupting.ending_as_interrupted():
+            yield
     except KeyboardInterrupt:
         raise Stop("interrupted; no file was changed", INTERRUPTED) from None
-    finally:
-        for one, handler in before.items():
-            signal.signal(one, handler)
 
 
 def write(asked):
