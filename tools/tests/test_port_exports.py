@@ -33,6 +33,9 @@ OF_MAKEFILES = {
     "a target's override before another value of it":
         ("export A = 1\nall: a b\na: override A = 2\na: A = 3\na: A += 4\na: b\nb: A = 5\na b: ; echo \"$$A\" > $@\n",
          []),
+    "two overrides of a target":
+        ("export A = 1\nall: a b\na: override A = 2\na: A = 3\na: override A = 4\na: override A += 5\n"
+         "a b: ; echo \"$$A\" > $@\n", []),
     "a target that is named twice": ("export A = 1\nall: a b\na a: A += 2\na b: ; echo \"$$A\" > $@\n", []),
     "a value that hangs on what a target has":
         ("export A = a $(B)\nB = b $(C)\nall: a b\na: C = 1\na b: ; echo \"$$A\" > $@\n", ["SHELL = A="]),

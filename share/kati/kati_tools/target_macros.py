@@ -152,11 +152,13 @@ class TargetMacros:
         for one, targets, flavor in zip(lines, told[::2], told[1::2]):
             self.flavors[one.macro] = flavor
             names = [re.sub(r"^(\./)+", "", name) for name in (targets or "").split()]
-            # `?=` does nothing where all targets have the macro, and a line after `override` nothing for its targets.
-            is_lost = one.operator == "?=" and flavor != "undefined"
+            # `?=` does nothing where all targets have the macro, and behind `override` no line without that does
+            # anything for its targets.
+            is_lost, overrides = one.operator == "?=" and flavor != "undefined", "override" in one.words
             times = {name: times_meant(name, names) for name in graph.by_output if not is_lost}
-            one.hit = {name: count for name, count in times.items() if count and (one.macro, name) not in overridden}
-            if "override" in one.words:
+            one.hit = {name: count for name, count in times.items()
+                       if count and (overrides or (one.macro, name) not in overridden)}
+            if overrides:
                 overridden.update((one.macro, name) for name in names)
         live = [one for one in self.all if one.hit]
         graph.walk(live)
