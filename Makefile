@@ -1,8 +1,12 @@
-# Installs kati and makes its Debian package. GNU make takes this file, and so does kati.
+# The words by which kati is tried, built, tested and installed. GNU make takes this file, and so does kati.
 #
+#     make try                                   kati on the example, before anything is proved
+#     make                                       proves and builds both programs
+#     make check                                 the gate: all proofs and tests
 #     make install PREFIX=/usr DESTDIR=root
+#     make uninstall, make deb
 #
-# The programs kati and kati-asked have to be built first (README.md), or named by PROGRAM=FILE and ASKED=FILE.
+# install and deb take what is built, or the programs that PROGRAM=FILE and ASKED=FILE name.
 
 PREFIX = /usr/local
 DESTDIR =
@@ -24,7 +28,12 @@ TOOLS = $(filter-out kati kati-asked,$(COMMANDS))
 LINKED = $(filter-out kati,$(COMMANDS))
 PAGES = $(COMMANDS:%=%.1)
 EXAMPLE = Makefile README.md config.mk files.txt list.c list.h main.c
+# What of it kati reads.
+TRIED = Makefile config.mk files.txt
 PAPERS = README.md CHANGELOG.md CONTRIBUTING.md SECURITY.md NOTICE
+
+# The packages of the tools, each of which stands on those before it.
+PACKAGES = base makefile make build port
 
 # Bytecode, by which the tools start sooner; it counts where it is of the source that stands there.
 COMPILE = -m compileall -q --invalidation-mode checked-hash
@@ -33,17 +42,26 @@ COMPILE = -m compileall -q --invalidation-mode checked-hash
 FOLDERS = $(SHARE) $(DOC)
 FILES = $(COMMANDS:%=$(BIN)/%) $(PAGES:%=$(MAN)/%) $(COMMANDS:%=$(BASH)/%) $(ZSH)/_kati $(COMMANDS:%=$(FISH)/%.fish)
 
-all: $(PROGRAM) $(ASKED)
+.PHONY: all try built install uninstall deb check
 
-.PHONY: all install uninstall deb check
+all:
+	python3 scripts/build_programs.py
 
-install: $(PROGRAM) $(ASKED)
-	install -d $(addprefix $(DESTDIR),$(BIN) $(SHARE)/kati_tools $(MAN) $(DOC)/docs $(DOC)/example $(BASH) $(ZSH) $(FISH))
+try:
+	cd crates/kati_program && rt try $(foreach name,$(TRIED),--data $(name)=../../example/$(name)) -- --files files.txt
+
+# What is installed is there; it takes an hour and more to build, so that isn't begun unasked.
+built:
+	@for program in $(PROGRAM) $(ASKED); do test -x $$program || { echo "no $$program: run make first" >&2; exit 1; }; done
+
+install: built
+	install -d $(addprefix $(DESTDIR),$(BIN) $(PACKAGES:%=$(SHARE)/kati_tools/%) $(MAN) $(DOC)/docs $(DOC)/example $(BASH) $(ZSH) $(FISH))
 	install -m 755 $(PROGRAM) $(DESTDIR)$(BIN)/kati
 	install -m 755 $(ASKED) $(DESTDIR)$(BIN)/kati-asked
 	install -m 755 $(TOOLS:%=tools/%) $(DESTDIR)$(BIN)
 	install -m 644 share/kati/*.mk $(DESTDIR)$(SHARE)
 	install -m 644 share/kati/kati_tools/*.py $(DESTDIR)$(SHARE)/kati_tools
+	for package in $(PACKAGES); do install -m 644 share/kati/kati_tools/$$package/*.py $(DESTDIR)$(SHARE)/kati_tools/$$package || exit 1; done
 	python3 $(COMPILE) -d $(SHARE)/kati_tools $(DESTDIR)$(SHARE)/kati_tools || true
 	install -m 644 $(PAGES:%=share/man/man1/%) $(DESTDIR)$(MAN)
 	install -m 644 $(PAPERS) $(DESTDIR)$(DOC)
@@ -59,7 +77,7 @@ uninstall:
 	rm -f $(addprefix $(DESTDIR),$(FILES))
 	rm -rf $(addprefix $(DESTDIR),$(FOLDERS))
 
-deb: $(PROGRAM) $(ASKED)
+deb: built
 	python3 scripts/make_deb.py --program $(PROGRAM) --asked $(ASKED)
 
 check:

@@ -4,8 +4,8 @@
     scripts/check_builtin.py [--kati PROGRAM]
 
 Each macro of builtin-macros.mk must have the value that `make -p` tells, each rule of builtin-rules.mk its recipe,
-and no rule of the languages that they are for may be absent: C, C++, assembler, lex and yacc. Then make and kati
-are asked for the commands of a small tree of such sources. Blanks at the ends of a command don't count.
+and no rule of the languages that they are for may be absent: C, C++, assembler, lex, yacc and shell scripts. Then
+make and kati are asked for the commands of a small tree of such sources. Blanks at the ends of a command don't count.
 
 examples:
   scripts/check_builtin.py
@@ -24,13 +24,16 @@ sys.dont_write_bytecode = True
 TOP = Path(__file__).resolve().parent.parent
 sys.path.insert(0, str(TOP / "share/kati"))
 
-from kati_tools import comparing, files, make_commands, programs, sources, translating  # noqa: E402
+from kati_tools.base import files, programs  # noqa: E402
+from kati_tools.makefile import sources  # noqa: E402
+from kati_tools.make import make_commands  # noqa: E402
+from kati_tools.build import comparing, translating  # noqa: E402
 
-LANGUAGES = {"", ".o", ".c", ".cc", ".C", ".cpp", ".s", ".S", ".y", ".l"}
+LANGUAGES = {"", ".o", ".c", ".cc", ".C", ".cpp", ".s", ".S", ".y", ".l", ".sh"}
 TREE = ["one.c", "two.cc", "three.C", "four.cpp", "five.s", "six.S", "seven.y", "eight.l", "nine.c", "ten.cc",
-        "eleven.S", "part.c", "thirteen.l", "fourteen.S", "fifteen.C", "sixteen.cpp", "seventeen.s"]
+        "eleven.S", "part.c", "thirteen.l", "fourteen.S", "fifteen.C", "sixteen.cpp", "seventeen.s", "eighteen.sh"]
 GOALS = ["one.o", "two.o", "three.o", "four.o", "five.o", "six.o", "seven.o", "eight.o", "nine", "ten", "eleven",
-         "twelve", "seven", "thirteen.c", "fourteen.s", "fifteen", "sixteen", "seventeen"]
+         "twelve", "seven", "thirteen.c", "fourteen.s", "fifteen", "sixteen", "seventeen", "eighteen"]
 # Rules without recipes, and values for macros that make leaves empty.
 MAKEFILE = "twelve: twelve.o part.o\ntwelve.o: one.c\n\tcp one.o twelve.o\none.o: one.h\none.h: ; touch one.h\n" \
     "CFLAGS = -Wall\nCPPFLAGS = -DX\nCXXFLAGS = -g\nLDFLAGS = -s\nLDLIBS = -lm\nASFLAGS = -g\nYFLAGS = -d\n" \
@@ -60,6 +63,9 @@ def parts_of(text):
             recipe = rules.setdefault((rule[1], " ".join(dict.fromkeys(rule[2].split()))), [])
         elif line.startswith("\t"):
             recipe.append(line.strip())
+        elif line and not line.startswith("#"):
+            # Another rule, as one of an archive's members.
+            recipe = []
     return macros, rules
 
 
@@ -95,7 +101,8 @@ def differences_of_commands(kati):
             status, out, said = run_make(["-n", "-B", "-f", "-", *GOALS], stdin=given)
         asked = argparse.Namespace(kati=kati, makefile="Makefile", builtin=True, depth=None, words=GOALS)
         found = translating.Translator(asked, room).translate(sources.Listing(sources.text_with(TREE)))
-        by_kati = [text.strip() for one in found.statements for text in comparing.unwrapped(one.command or "''") if text]
+        texts = (text for one in found.statements for text in comparing.unwrapped(one.command or "''"))
+        by_kati = [text.strip() for text in texts if text]
         os.chdir(TOP)
     if status or found.status:
         yield f"make ends with status {status}, kati with {found.status}: {said}{found.said}"

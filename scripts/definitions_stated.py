@@ -8,6 +8,10 @@ SECTION = re.compile(r"^### (k\w+)\n(.*?)(?=^##)", re.MULTILINE | re.DOTALL)
 PLACED = re.compile(r"`(?:\w+::)?(\w+)`, (?:(k\w+) )?`([\w/]+\.rt)`")
 DEFINED = re.compile(r"`(\w+)` in (?:(k\w+) )?`(?:specs/)?([A-Z]\w*)`")
 REVIEWED = re.compile(r"^- \*\*(k\w+)\*\*:(.*?)(?=^- \*\*|^[^\s-])", re.MULTILINE | re.DOTALL)
+SEEN = re.compile(r"^impl\b[^{]*? Model for (\w+)[^{]*\{(.*?)^\}", re.MULTILINE | re.DOTALL)
+VALUE = re.compile(r"ghost Value = \{ (?:(?:List|Option) )?([A-Z]\w+) \}")
+NOT_OWN = {"Text", "Unit"}
+NAMES = re.compile(r"^\| (k\w+) \| ((?:`\w+`: `\w+`(?:, )?)+) \|$", re.MULTILINE)
 ITEM = r"\b(?:fn|struct|enum|trait|type|const) {}\b"
 DEFINITION = r"^ *(?:[a-z]+ )*{}\b"
 
@@ -54,8 +58,27 @@ def unreviewed(root, text):
                 yield f"{name} of {crate}"
 
 
+def names_seen(root):
+    """The types of the crates that contracts see as a record, or a list of it, of another name: crate, type, record."""
+    for path in root.glob("crates/k*/src/**/*.rt"):
+        crate = path.relative_to(root / "crates").parts[0]
+        for name, body in SEEN.findall(path.read_text(encoding="utf-8")):
+            value = VALUE.search(body)
+            if value and value[1] not in NOT_OWN | {name} and not crate.endswith(("_tests", "_doubles")):
+                yield crate, name, value[1]
+
+
+def names_told(text):
+    """The same, as the table of docs/DESIGN.md has them."""
+    for crate, pairs in NAMES.findall(text):
+        for name, value in re.findall(r"`(\w+)`: `(\w+)`", pairs):
+            yield crate, name, value
+
+
 def differing(root):
-    """What docs/DESIGN.md names and isn't there, a line each."""
+    """What docs/DESIGN.md names and isn't there, a line each, and names that it leaves out."""
     text = (root / "docs/DESIGN.md").read_text(encoding="utf-8")
     yield from misplaced(root, " ".join(text.split()))
     yield from unreviewed(root, text)
+    for crate, name, value in sorted(set(names_seen(root)) ^ set(names_told(text))):
+        yield f"{name} of {crate}, in definitions {value}"

@@ -9,8 +9,11 @@ than processors takes more processor time too.
 With --speed it proves one crate as it once stood, as the gate does, and tells what that took beside what it took on the
 machine that the gate's marks were set on: processor minutes of two machines can be compared by that alone.
 
+With --record it does both, the speed first, and writes scripts/crate_costs.txt where the gate passes.
+
 examples:
   scripts/gate_cost.py                    the gate of HEAD
+  scripts/gate_cost.py --record           the same, for the file of costs
   scripts/gate_cost.py HEAD~3 gate.log    that of an earlier commit, with what it prints
   scripts/gate_cost.py --speed            how fast the machine is
 
@@ -28,6 +31,9 @@ import tempfile
 import threading
 import time
 from pathlib import Path
+
+sys.dont_write_bytecode = True
+import crate_costs
 
 ROOT = Path(__file__).resolve().parent.parent
 TICKS = os.sysconf("SC_CLK_TCK")
@@ -91,7 +97,7 @@ def checkout(revision, folder):
 
 
 def tell_speed():
-    """Proves the measured crate alone, without its tests and edits."""
+    """Proves the measured crate alone, without its tests and edits; answers the processor seconds, and the status."""
     revision, line, wanted = MEASURED
     with tempfile.TemporaryDirectory(prefix="gate_") as name:
         folder = Path(name) / "checkout"
@@ -110,7 +116,14 @@ def tell_speed():
     print(ran.stdout.rstrip().splitlines()[-1])
     print(f"{took:.0f} processor seconds for {crate} of {revision}, {took / wanted:.1f} of the {wanted} that it took "
           "there")
-    sys.exit(ran.returncode)
+    return took, ran.returncode
+
+
+def costs_of(table, here):
+    """The costs of a table of the sampler, on a machine on which the measured crate takes so many seconds."""
+    rows = {crate: crate_costs.Cost(*(sum(row[part]) for part in PARTS), len(row["edits"]))
+            for crate, row in sorted(table.items())}
+    return crate_costs.Costs(rows, here, MEASURED[2])
 
 
 class Parser(argparse.ArgumentParser):
@@ -124,7 +137,9 @@ class Parser(argparse.ArgumentParser):
 def asked():
     """What the command line asks for."""
     parser = Parser(description=__doc__, formatter_class=argparse.RawDescriptionHelpFormatter)
-    parser.add_argument("--speed", action="store_true", help="one crate of an earlier commit alone")
+    which = parser.add_mutually_exclusive_group()
+    which.add_argument("--speed", action="store_true", help="one crate of an earlier commit alone")
+    which.add_argument("--record", action="store_true", help="writes scripts/crate_costs.txt too")
     parser.add_argument("revision", nargs="?", default="HEAD", metavar="REVISION", help="a commit; HEAD without it")
     parser.add_argument("log", nargs="?", metavar="LOG", help="where what the gate prints goes")
     return parser.parse_args()
@@ -132,9 +147,11 @@ def asked():
 
 def main():
     words = asked()
-    if words.speed:
-        tell_speed()
+    took, status = tell_speed() if words.speed or words.record else (None, 0)
+    if words.speed or status:
+        sys.exit(status)
     revision = words.revision
+    before = processor_seconds()
     with tempfile.TemporaryDirectory(prefix="gate_") as name:
         folder = Path(name) / "checkout"
         checkout(revision, folder)
@@ -145,11 +162,14 @@ def main():
             status = subprocess.run([folder / ".ci/run"], stdout=log, stderr=subprocess.STDOUT).returncode
         sampler.ended = True
         print(path.read_text(errors="replace").rstrip().splitlines()[-1])
-        print(f"{(time.time() - started) / 60:.0f} minutes, {processor_seconds() / 60:.0f} processor minutes")
+        minutes, of_processors = (time.time() - started) / 60, (processor_seconds() - before) / 60
+        print(f"{minutes:.0f} minutes, {of_processors:.0f} processor minutes")
         print("| Crate | " + " | ".join(PARTS) + " | each edit |")
         for crate, row in sorted(sampler.table().items()):
             sums = " | ".join(f"{sum(row[part]):.0f}" for part in PARTS)
             print(f"| {crate} | {sums} | " + ", ".join(f"{it:.0f}" for it in row["edits"]) + " |")
+        if words.record and status == 0:
+            crate_costs.write(costs_of(sampler.table(), took))
         sys.exit(status)
 
 

@@ -55,7 +55,7 @@ fi
 PRERM = """\
 #!/bin/sh
 set -e
-rm -rf "$DPKG_ROOT/usr/share/kati/kati_tools/__pycache__"
+find "$DPKG_ROOT/usr/share/kati/kati_tools" -name __pycache__ -prune -exec rm -rf {} +
 """
 
 
@@ -121,7 +121,8 @@ def compress(path):
 
 def as_debian_has_it(tree):
     """The programs without their symbols, pages and changes compressed, no bytecode, and Python by its path."""
-    shutil.rmtree(tree / "usr/share/kati/kati_tools/__pycache__", ignore_errors=True)
+    for bytecode in list((tree / "usr/share/kati/kati_tools").rglob("__pycache__")):
+        shutil.rmtree(bytecode)
     run("strip", "--remove-section=.comment", *(str(tree / "usr/bin" / name) for name in ("kati", "kati-asked")))
     for page in sorted((tree / "usr/share/man/man1").iterdir()):
         compress(page)

@@ -43,6 +43,8 @@ WRITTEN = re.compile(r"[Gg]enerated (automatically|by)|DO NOT EDIT", re.IGNORECA
 SKIPPED = {"debian", "doc", "docs", "win32", "windows", "msdos", "os2", "amiga", "vms", "contrib", "examples", "test",
            "tests"}
 SECONDS = 900
+# The statuses of kati-port --write where kati takes the makefile: all is as for make, or some commands differ.
+PORTED = (0, 5)
 
 
 def makefiles_in(program):
@@ -129,12 +131,12 @@ class Surveyed:
             return
         folder = self.unpacked()
         status, out, said = run([sys.executable, TOP / "tools/kati-port", "--write", name], folder)
-        if status:
+        if status not in PORTED:
             self.result, self.detail = "stuck", " / ".join(said.strip().split("\n")[:3])
             return
         self.as_it_is = "takes it as it is" in out
         self.result = "same" if "kati's commands are make's" in out else "ported"
-        self.detail = next((line for line in out.split("\n") if "commands differ" in line), "")
+        self.detail = next((line for line in out.split("\n") if "kati's commands differ" in line), "")
         self.lines = changed_lines(self.program / self.folder, folder)
         make_includes(folder, name)
         second, second_all = make_commands(folder, name), all_commands(folder, name)

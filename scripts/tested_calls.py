@@ -4,8 +4,8 @@ scripts/check_docs.py calls this as its check `calls`. A public call takes memor
 memory, and where it is a whole program."""
 import re
 
-CRATES = ["kt_list", "kt_text", "kt_syntax", "kt_rules", "kt_eval", "kt_graph", "kt_recipe", "kt_ninja", "kt_ninja_reader",
-          "kati_args", "kati"]
+CRATES = ["kt_list", "kt_text", "kt_syntax", "kt_rules", "kt_eval", "kt_graph", "kt_recipe", "kt_ninja",
+          "kt_ninja_reader", "kati_args", "kati"]
 PARAMETERS = r"(?:<(?:[^<>]|<[^<>]*>)*>)?"
 CALL = re.compile(r"^ *(?:pub )?fn (\w+)" + PARAMETERS + r"\(([^{;]*?)\)\s*->([^{;]*?)(?:\{|;|ensures|requires)",
                   re.MULTILINE)

@@ -13,6 +13,7 @@ examples:
   scripts/times.py                      all tables
   scripts/times.py --runs 1 hostile     one of them, each case once
   scripts/times.py --small              to try the script
+  scripts/times.py --record units       puts the table into docs/BENCHMARKS.md, too
   scripts/times.py --picture            docs/times.svg from the first table of docs/BENCHMARKS.md
 
 exit status:
@@ -34,7 +35,7 @@ from pathlib import Path
 sys.dont_write_bytecode = True
 import large_makefiles as large
 from refusing.runs import CannotTry, Record, RECORD, built_object
-from timing import picture
+from timing import picture, recording
 
 ROOT = Path(__file__).resolve().parent.parent
 BUILT = ROOT / "crates/kati_program/out/kati_program"
@@ -303,8 +304,17 @@ TABLES = {
     "layers": ("Large nodes and lists of names", lambda asked: compare(LAYERS, asked)),
     "text": ("Text functions", lambda asked: compare(TEXT, asked)),
     "reading": ("Reading a Ninja file", read_back),
-    "hostile": ("Hostile makefiles in 8 MB of stack", hostile),
+    "hostile": ("Hostile makefiles", hostile),
 }
+
+
+def record(title, printed):
+    """Puts a table that was printed into the document."""
+    try:
+        text = recording.recorded(FIGURES.read_text(encoding="utf-8"), title, printed)
+    except ValueError as why:
+        sys.exit(f"times.py: {why}")
+    FIGURES.write_text(text, encoding="utf-8")
 
 
 def main():
@@ -317,7 +327,11 @@ def main():
     parser.add_argument("--small", action="store_true", help="a hundredth of each size")
     parser.add_argument("--picture", action="store_true",
                         help="draw docs/times.svg from docs/BENCHMARKS.md, and run nothing")
+    parser.add_argument("--record", action="store_true",
+                        help="puts each table into docs/BENCHMARKS.md in the place of the one of before")
     asked = parser.parse_args()
+    if asked.record and asked.small:
+        parser.error("--record wants the sizes of the document")
     if asked.picture:
         PICTURE.write_text(picture.draw(picture.rows_of(FIGURES.read_text())))
         return
@@ -328,10 +342,13 @@ def main():
         title, print_table = TABLES[name]
         print(f"## {title}\n", flush=True)
         try:
-            print_table(asked)
+            with recording.kept() as printed:
+                print_table(asked)
         except CannotTry as why:
             sys.exit(f"times.py: {why}")
         print(flush=True)
+        if asked.record:
+            record(title, printed.getvalue())
 
 
 if __name__ == "__main__":

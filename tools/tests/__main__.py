@@ -8,7 +8,9 @@ isn't there is skipped. The names of tests that failed or were skipped are told,
 failed, K skipped`. Where one failed and the program kati is older than the source, this is said before.
 The exit status is 1 where one failed, else 0.
 
-KATI_RANDOM_TREES says how many trees test_random_edits and test_random_ports try, and KATI_RANDOM_SEED which.
+KATI_RANDOM_TREES says how many trees test_random_edits, test_random_ported and test_random_ports try, and
+KATI_RANDOM_SEED which.
+Where KATI_INCLUDES is set, test_made_includes and test_made_includes_more try all their scenarios.
 
 examples:
   python3 tools/tests

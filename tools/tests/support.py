@@ -1,5 +1,6 @@
 """What the tests of the tools share: scratch folders, and the programs that they run."""
 import os
+import re
 import shutil
 import subprocess
 import sys
@@ -13,7 +14,7 @@ TOP = Path(__file__).resolve().parent.parent.parent
 TOOLS = TOP / "tools"
 sys.path.insert(0, str(TOP / "share/kati"))
 
-from kati_tools import programs  # noqa: E402
+from kati_tools.base import programs  # noqa: E402
 
 # So many seconds end what hangs; what is only slow, on a machine with much else to do, takes fewer.
 LONG = 1200
@@ -37,13 +38,24 @@ def needs(*names):
     return unittest.skipIf(lacking, f"without {', '.join(lacking)}")
 
 
+def without_at_work(said):
+    """What a tool said, but for the line by which it says that it takes more than a second."""
+    return re.sub(r"^kati-\w+: ports .*: make is asked .*\n", "", said, flags=re.MULTILINE)
+
+
+# What the tools say where this host has no namespaces, and so make was asked in a copy, as test_in_place sees.
+OF_A_COPY = re.compile(r"^\S+: make was asked in a copy of this folder: .*\n", re.MULTILINE)
+
+
 class Ran:
-    """What a command did: its status, and its standard output and error as texts."""
+    """What a command did: its status, and its standard output and error as texts; `whole` has what is said of copies,
+    too."""
 
     def __init__(self, words, cwd, **environment):
         ran = subprocess.run([str(word) for word in words], cwd=cwd, env={**os.environ, "LC_ALL": "C", **environment},
                              stdin=subprocess.DEVNULL, stdout=subprocess.PIPE, stderr=subprocess.PIPE, timeout=LONG)
-        self.status, self.out, self.said = ran.returncode, ran.stdout.decode(), ran.stderr.decode()
+        self.status, self.whole = ran.returncode, (ran.stdout + ran.stderr).decode()
+        self.out, self.said = (OF_A_COPY.sub("", text.decode()) for text in (ran.stdout, ran.stderr))
         self.all = self.out + self.said
 
 

@@ -108,10 +108,25 @@ class Building(Tree):
             for words in (["kati-build"], ["kati-build", "--port"], ["kati-build", "--builtin"], ["kati-compare"]):
                 with self.subTest(words):
                     ran = self.tool(*words)
-                    self.assertEqual(ran.status, 2)
-                    self.assertEqual(ran.said.splitlines()[0], f"{words[0]}: no makefile, but {name}: {hint}")
+                    self.assertEqual((ran.status, ran.said), (2, f"{words[0]}: no makefile, but {name}: {hint}\n"))
         self.put("Makefile", "all: ; true\n")
         self.assertNotIn("no makefile", self.tool("kati-build").said)
+
+    def test_lines_behind_a_tab_that_kati_ignores(self):
+        told = ("stands behind a tab: make takes it, as no rule is open there, and kati ignores it; indent it by "
+                "spaces\n")
+        self.put_all({"Makefile": "$(info x)\n\tA = 1\nall: ; @echo $(A) > out\ninclude a.mk\n",
+                      "a.mk": "ifdef NONE\n\tifdef A\nX = 1\nendif\nendif\n"})
+        self.assertEqual(self.run_in("make", "-s").status, 0)
+        self.assertEqual(self.read("out"), "1\n")
+        ran = self.tool("kati-build")
+        self.assertEqual((ran.status, "a.mk:5: " in ran.said), (2, True), ran.said)
+        self.assertIn(f"kati-build: Makefile:2: A = 1 {told}kati-build: a.mk:2: ifdef A {told}", ran.said)
+        self.put("a.mk", "")
+        self.assertIn(f"x\nkati-build: Makefile:2: A = 1 {told}", self.tool("kati-build").said)
+        self.assertEqual(self.read("out"), "\n")
+        self.put("Makefile", "all: ; @echo\n\tA = 1\n$(info x)\n        A = 1\n")
+        self.assertEqual(self.tool("kati-build", "--no-ninja").said, "x\n")
 
     def test_a_makefile_that_can_be_read_but_once(self):
         self.write(Makefile="all: ; echo all\n")

@@ -3,7 +3,7 @@ import os
 
 from support import Tree, kati, kati_asked, needs
 
-from kati_tools import asked_names
+from kati_tools.build import asked_names
 
 
 @needs("kati", "kati-asked")

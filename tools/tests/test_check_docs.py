@@ -161,7 +161,7 @@ class Spoiling(unittest.TestCase):
         self.assertIn("make_deb.py --help: status 0, without exit status", self.check("scripts", failed=1))
 
     def test_a_gate_that_readme_does_not_name(self):
-        self.spoil("README.md", "$ .ci/run", "$ ci/run")
+        self.spoil("README.md", "$ make check", "$ .ci/run")
         self.check("gate", failed=1)
 
     def test_a_picture_of_other_figures(self):

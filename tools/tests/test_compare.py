@@ -162,7 +162,9 @@ class Comparing(Tree):
         self.same("all:\n\t-false\n\t@echo a 'b' \\'c\\' && { echo d || :; }\n\t-@echo '||' \"&&\"\n", 3)
 
     def test_continued_lines(self):
-        self.same("all:\n\techo one \\\n\t  two \\\n\t\tthree\n\techo 'a\\\n\tb' \\\\\n\tlast\n", 3)
+        self.same("all:\n\techo one \\\n\t  two \\\n\t\tthree\n\techo 'a' \\\\\n\tlast\n", 3)
+        # Within single quotes the shell keeps what continues the line, and kati has none.
+        self.differ("all:\n\techo 'a\\\n\tb'\n", ["echo 'a\\"], ["echo 'ab'"])
 
     def test_all_goals_count(self):
         self.same("a: c ; echo a\nb: c ; echo b\nc: ; echo c\n", 3, "a", "b")
@@ -183,10 +185,11 @@ class Comparing(Tree):
     def test_the_suffix_list(self):
         self.same("all: x.o\n.c.o: ; cc -c $<\n.xx.o: ; no $<\nx.c: ; touch $@\n", 2)
 
-    def test_the_environment_is_no_macro(self):
+    def test_what_make_takes_from_the_environment_is_told(self):
         self.write(Makefile="all: ; echo '$(CFLAGS)'\n")
-        ran = self.tool("kati-compare", CFLAGS="-O9")
-        self.assertEqual((ran.status, ran.out), (0, "same: 1 command\n"))
+        ran = self.tool("kati-compare", CFLAGS="-O9", MAKEFLAGS="CFLAGS=-O8", MAKELEVEL="2")
+        self.assertEqual((ran.status, ran.out), (1, "- echo '-O9'\n+ echo ''\n"
+                         "differ: 1 command of make's alone, 1 of kati's alone, 0 the same\n"))
 
     def test_built_in_rules_on_both_sides(self):
         for makefile in ("prog: prog.o\n", "prog: prog.o ; $(CC) -o $@ $^\n.c.o: ; mine $(CFLAGS) $<\n",
@@ -196,8 +199,8 @@ class Comparing(Tree):
                 self.same("CFLAGS = -g\n" + makefile, 2, "--builtin")
 
     def test_a_built_in_rule_that_kati_has_not_is_told(self):
-        self.write(prog_sh="")
-        self.differ("all: prog ; cat prog\n", ["cat prog.sh >prog", "chmod a+x prog"], [], "--builtin")
+        self.write(doc_tex="")
+        self.differ("all: doc.dvi ; cat doc.dvi\n", ["tex doc.tex"], [], "--builtin")
 
     def test_faults(self):
         self.write(Makefile="all: ; echo $(shell ls)\n")

@@ -6,7 +6,8 @@ from pathlib import Path
 
 from support import TOP  # noqa: F401
 
-from kati_tools import files, ninja_text
+from kati_tools.base import files
+from kati_tools.build import ninja_text
 
 
 class Pieces(unittest.TestCase):

@@ -5,7 +5,7 @@ import unittest
 
 from support import TOOLS, Ran, Tree, needs
 
-from kati_tools import makefile_text, paths_outside
+from kati_tools.makefile import paths_outside, quick_looks
 
 RULE = "a.o:\n%.o: %.c {}\n\tcc -c -o $@ $<\n"
 
@@ -146,7 +146,7 @@ class Texts(unittest.TestCase):
     def test_lines_that_go_on(self):
         for text, wanted in (("a\\\n  b", "a b"), ("a\\\\\nb", "a\\\\\nb"), ("a\\\\\\\r\n\tb\n", "a\\\\ b\n"),
                              ("a\\", "a\\")):
-            self.assertEqual(makefile_text.without_continuations(text), wanted)
+            self.assertEqual(quick_looks.without_continuations(text), wanted)
 
     def found(self, names):
         """The folders outside that a rule with these names means."""

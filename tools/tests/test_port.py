@@ -5,7 +5,8 @@ import shlex
 
 from support import Tree, kati, needs
 
-from kati_tools import advice, leaning, scanning
+from kati_tools.makefile import advice
+from kati_tools.port import leaning, scanning
 
 # Each makefile has one form that kati refuses, in the line of this number.
 REFUSED = [
@@ -75,14 +76,16 @@ OTHERWISE = [
     ("ifndef MAKE_VERSION\nall: ; cd $(CURDIR)\nelse\nx:\nendif\n", 2, "empty"),
     ("ifdef MAKE_VERSION\nifdef X\nelse\nx: X = Y\nendif\nendif\nall: ; cd $(CURDIR)\n", 7, "empty"),
     ("all: -lm ; echo\n", 1, "library"),
+    ("all: ; echo\n$(info x)\nifndef D\n# d\n\tA = 1\nendif\n", 5, "indent it by spaces"),
+    ("define T\n$1: ; echo\nendef\nall: ; echo\n$(eval $(call T,b))\n\n\tinclude a.mk\n", 7, "indent it by spaces"),
     ("all:\n\tifdef X\n\techo\n\tendif\n", 2, "shell"),
     ("all: ; $(MAKE) -C lib\nmore: ; ${MAKE} -C more\n", 1, "runs make"),
     ("all: ; echo\n%.o: %.c ; cc $<\n.c.o: ; mine $<\n", 3, "pattern rules"),
     ("lib.a: lib.a(a.o b.o) ; ar r lib.a\n", 1, "several names"),
     ("lib.a(a.o  b.o): a.h ; echo\na.h: ; echo\n", 1, "several names"),
-    ("-include config.mk\nall: ; echo\nconfig.mk: ; echo A = b > $@\n", 1, "make it before kati"),
-    ("all: ; echo\nsinclude config.mk\n%.mk: %.in ; cp $< $@\n", 2, "make it before kati"),
-    ("SRC = a.c\nall: ; echo\n-include $(SRC:.c=.d)\n%.d: %.c ; cc -MM $< > $@\n", 3, "make it before kati"),
+    ("-include config.mk\nall: ; echo\nconfig.mk: ; echo A = b > $@\n", 1, "kati-build does, kati doesn't"),
+    ("all: ; echo\nsinclude config.mk\n%.mk: %.in ; cp $< $@\n", 2, "kati-build does, kati doesn't"),
+    ("SRC = a.c\nall: ; echo\n-include $(SRC:.c=.d)\n%.d: %.c ; cc -MM $< > $@\n", 3, "kati-build does, kati doesn't"),
 ]
 
 # What looks like such forms and is none.
@@ -103,6 +106,8 @@ FINE = [
     "ifndef MAKE_VERSION\nall: ; echo\nelse\nall: $(shell ls)\nendif\n",
     "all:\n\techo one \\#a '# b' \"it's # c\" $${d#e} f#g \\\n\t  two\n",
     "MAKE = gmake\nall: ; $(MAKE) -C lib\n",
+    "define R\nall:\nendef\n$(R)\n\tA=1 echo\n",
+    "all:\n$(info x) b: ; echo\n\tA=1 echo\n",
     "all: ; echo\n%.o: %.cc ; c++ $<\n.c.o: ; cc $<\n",
     "-include config.mk\nall: ; echo\nconfig.mk: ;\n%.mk:\n",
     "-include a.c\nall: ; echo\na.c: ; touch $@\n",

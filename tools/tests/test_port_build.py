@@ -2,8 +2,12 @@
 import json
 import os
 import shutil
+import tempfile
+from pathlib import Path
 
 from support import TOOLS, TOP, Tree, kati, needs
+
+from kati_tools.port import watched
 
 MAKEFILE = "include conf/a.mk\nS := $(wildcard *.c)\nout: $(S:.c=.x)\n\tcat $^ > out; echo $(N) $(U) >> out\n" \
     "%.x: %.c ; cat $< > $@\n"
@@ -36,12 +40,11 @@ class Building(Tree):
         self.ninja()
         self.assertIn("no work to do", self.ninja())
 
-    def test_a_new_source_is_found_without_make(self):
+    def test_a_new_source_is_asked_for(self):
         self.build()
         self.ninja()
         self.put("c.c", "c.c\n")
-        ran = self.run_in("ninja", MAKE="no/such/make")
-        self.assertEqual(ran.status, 0, ran.all)
+        self.assertIn("kati-build: *.c fits other files: make is asked again\n", self.ninja())
         self.assertEqual(self.read("out"), "a.c\nb.c\nc.c\n1 Linux\n")
         self.assertIn("V_S := a.c b.c c.c\n", self.read(VALUES))
         (self.top / "a.c").unlink()
@@ -114,7 +117,9 @@ class Building(Tree):
     def test_what_the_makefiles_do_not_read_changes_no_port(self):
         self.put("Makefile", MAKEFILE + "-include $(X)\n")
         self.build()
-        self.assertEqual(sorted(json.loads(self.read("build.kati/ported.json"))["files"]), ["Makefile", "conf/a.mk"])
+        words = json.loads(self.read("build.kati/ported.json"))["watched"]
+        self.assertEqual(sorted(word for word in words if not word.startswith(watched.ENVIRONMENT)),
+                         ["*.c", "Makefile", "conf/a.mk", "n.txt"])
 
     def test_where_the_port_is_stuck_the_build_stays(self):
         self.build()
@@ -214,9 +219,9 @@ class Building(Tree):
         self.assertIn("kati-build: no makefile\n", self.build(status=2))
 
     def test_commands_that_differ_are_told_once(self):
-        self.put("Makefile", "N := $(shell echo 1)\nall: ; echo $(N) $(MAKEFLAGS)\n")
-        self.assertIn("kati-build: kati's commands differ: 1 of make's alone, 1 of kati's alone\n", self.build())
-        self.assertNotIn("differ", self.build())
+        self.put("Makefile", "N := $(shell echo 1)\nall: ; echo $(N) 'a\\\n\t'\n")
+        self.assertIn("kati-build: make has ", self.build())
+        self.assertNotIn("kati-build: make has ", self.build())
 
 
 @needs("kati", "kati-asked", "make", "ninja")
@@ -228,7 +233,10 @@ class Again(Tree):
 
     def setUp(self):
         super().setUp()
-        self.count = self.top.parent / "count"
+        # Where no name of the tree leads, so that what make writes there while it is asked stays.
+        counts = tempfile.TemporaryDirectory()
+        self.addCleanup(counts.cleanup)
+        self.count = Path(counts.name) / "count"
         for name, text in {"make": f"echo >> {self.count}\nexec {shutil.which('make')}", "version": "echo 1;"}.items():
             path = self.top.parent / "bin" / name
             path.parent.mkdir(exist_ok=True)
@@ -263,16 +271,16 @@ class Again(Tree):
                 for name in ("src/c.c", "out", "doc/new.c", "build.ninja"):
                     (self.top / name).unlink()
 
-    def test_a_wildcard_by_arguments_is_found_without_make(self):
+    def test_a_wildcard_by_arguments_is_asked_for(self):
         self.put("Makefile", "define R\n$(1).out: ; echo $(if $(wildcard $(1).x),with,without) > $$@\nendef\n"
                              "all: a.out b.out\n$(foreach n,a b,$(eval $(call R,$(n))))\n")
         self.assertTrue(self.asks())
         self.assertFalse(self.asks("ninja"))
         self.put("b.x", "")
-        self.assertFalse(self.asks("ninja"))
+        self.assertTrue(self.asks("ninja"))
         self.assertEqual((self.read("a.out"), self.read("b.out")), ("without\n", "with\n"))
 
-    def test_patterns_among_the_names_of_rules_are_found_without_make(self):
+    def test_patterns_among_the_names_of_rules_are_asked_for(self):
         self.put("Makefile", "D = .\nX = src/*.c made lib/*.c\nout: $(X) $(D)/src/* $(D)/lib/*.c ; echo $^ > out\n"
                              "made: ; echo > made\n")
         wanted = self.run_in("make", "-n").out
@@ -281,7 +289,7 @@ class Again(Tree):
         self.assertFalse(self.asks("ninja"))
         self.put("src/c.c", "")
         wanted = self.run_in("make", "-n", "-B").out
-        self.assertFalse(self.asks("ninja"))
+        self.assertTrue(self.asks("ninja"))
         self.assertEqual(wanted, f"echo > made\necho {self.read('out').strip()} > out\n")
 
     def test_a_pattern_that_all_names_fit(self):
@@ -289,14 +297,14 @@ class Again(Tree):
         self.assertTrue(self.asks())
         self.put("new", "")
         wanted = "./Makefile ./lib ./new ./src\n"
-        self.assertFalse(self.asks("ninja"))
+        self.assertTrue(self.asks("ninja"))
         self.assertEqual(self.read("../out"), wanted)
 
     def test_a_pattern_that_leaves_letters_out(self):
         self.put("Makefile", "S := $(wildcard src/[^a]*.c)\nout: src/a.c ; echo $(S) > out\n")
         self.assertTrue(self.asks())
         self.put("src/b.c", "")
-        self.assertFalse(self.asks("ninja"))
+        self.assertTrue(self.asks("ninja"))
         self.assertEqual(self.run_in("make", "-n", "-B").out, f"echo {self.read('out').strip()} > out\n")
 
     def test_the_folders_of_patterns_are_watched_by_any_list(self):
@@ -361,7 +369,7 @@ class Again(Tree):
         tool = room / "tools/kati-build"
         self.assertTrue(self.asks(tool=tool))
         self.assertFalse(self.asks(tool=tool))
-        path = room / "share/kati/kati_tools/mending.py"
+        path = room / "share/kati/kati_tools/port/mending.py"
         path.write_text(path.read_text() + "# Another version.\n")
         self.assertTrue(self.asks(tool=tool))
         self.assertFalse(self.asks(tool=tool))
@@ -407,11 +415,10 @@ class Values(Tree):
         self.assertEqual(self.tool("kati-build").status, 0)
         self.assertEqual(self.out(), "2 u2 a.c out.c with\n")
 
-    def test_a_build_finds_what_wildcards_fit_without_make(self):
+    def test_a_build_asks_make_where_a_pattern_fits_others(self):
         self.assertEqual(self.tool("kati-build").status, 0)
         self.put("b.c", "")
-        ran = self.run_in("ninja", MAKE="no/such/make")
-        self.assertEqual(ran.status, 0, ran.all)
+        self.assertIn("kati-build: *.c fits other files: make is asked again\n", self.ninja())
         self.assertEqual(self.out(), "1 u1 a.c b.c without\n")
         self.ninja()
         self.assertIn("no work to do", self.ninja())

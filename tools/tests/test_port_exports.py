@@ -53,7 +53,6 @@ OF_MAKEFILES = {
     "what the environment has without an export":
         ("PATH := /nowhere:$(PATH)\nall: ; echo \"$$PATH\" > out\n", ["SHELL := PATH="]),
     "a home": ("export HOME = /nowhere\nall: ; echo \"$$HOME\" > out\n", []),
-    "where the shell is overridden": ("override SHELL = /bin/sh\nexport A = 1\nall: ; echo \"$$A\" > out\n", []),
     "several lines":
         ("define A\none '1' \"$$X\"\n\t\\two\\n `3`\n\nfour\nendef\nexport A\nall: ; echo \"$$A\" > out\n",
          ["A=\"$$(printf %b "]),
@@ -86,7 +85,7 @@ class Exporting(Tree):
     def port(self, *words, folder="."):
         """What a port says."""
         ran = self.run_in("env", "-C", folder, self.tool_path("kati-port"), "--write", "Makefile", *words)
-        self.assertEqual(ran.status, 0, ran.all)
+        self.assertEqual(ran.status, 5 if "kati's commands differ" in ran.out else 0, ran.all)
         return ran.out
 
     def built(self, folder, *words):
@@ -145,37 +144,16 @@ class Exporting(Tree):
 
     def test_blanks_in_a_value_of_a_target(self):
         self.put_all({"Makefile": "A =\nA += 1\nexport A\nall: a b\na: A += 2\na b: ; echo $$A > $@\n"})
-        self.assertIn("kati's commands are make's, blanks aside\n", self.port())
-        self.assertEqual(self.tool("kati-compare", "--builtin").out,
-                         "same: 2 commands; their environment but for blanks\n")
+        self.assertIn("kati's commands are make's\n", self.port())
+        self.assertEqual(self.tool("kati-compare", "--builtin").out, "same: 2 commands\n")
         self.put("Makefile", self.read("Makefile").replace("A_HERE = 2", "A_HERE = 3"))
         self.assertEqual(self.tool("kati-compare", "--builtin").out,
-                         "- A='1 2' in the environment of a\n+ A=' 1 3' in the environment of a\n"
+                         "- A='1 2' in the environment of a\n+ A='1 3' in the environment of a\n"
                          "differ: the environment of commands; 2 commands the same\n")
 
     def test_a_value_that_is_another_each_time_is_not_told(self):
         self.put_all({"Makefile": "export A = $(B)$(shell date +%N)\nall: a b\na: B = 1\na b: ; echo \"$$A\" > $@\n"})
         self.assertIn("kati's commands are make's\n", self.port())
-
-    def test_what_a_shell_of_its_own_keeps_from_being_asked_is_told(self):
-        self.put_all({"Makefile": "export A = $(B)\nall: a b\na: B = 1\nb: override SHELL = /bin/sh\n"
-                                  "a b: ; echo \"$$A\" > $@\n"})
-        line = "what make's commands have in their environment isn't known for each target\n"
-        self.assertIn(f"Makefile: {line}", self.port())
-        self.assertIn(line, self.tool("kati-compare", "--builtin").out)
-        self.assertEqual(list(self.top.glob("[ab]")), [])
-
-    def test_no_recipe_is_run_where_the_shell_is_overridden_by_another_name(self):
-        rest = "all: a\na: export A = $@\na: ; touch {}; echo 1\n"
-        for override in ("N := SHELL\noverride $(N) := /bin/bash\n",
-                         "E = override $(1) := /bin/bash\n$(eval $(call E,SHELL))\n",
-                         "E = $(1) SHELL := /bin/bash\n$(eval $(call E,override))\n",
-                         "N := SHELL\na: override $(N) := /bin/bash\n"):
-            ran = self.top.parent / "ran"
-            self.put_all({"Makefile": f"ifdef MAKE_VERSION\n{override}endif\n{rest.format(ran)}"})
-            self.assertIn("isn't known for each target\n", self.port())
-            self.assertIn("isn't known for each target\n", self.tool("kati-compare", "--builtin").out)
-            self.assertFalse(ran.exists(), override)
 
     def test_what_does_not_reach_them_is_told(self):
         self.put_all({"Makefile": "define A\n1\n2\n\nendef\nexport A\nexport B = 3\nall: ; echo \"$$A $$B\" > out\n"})

@@ -12,7 +12,7 @@ class Survey(Tree):
         self.put("two/src/makefile", "N := $(shell echo 1)\nall: ; echo $(N)\n")
         self.put("three/Makefile", "all: absent ; echo\n")
         self.put("four/Makefile", ".ONESHELL:\nall: ; echo\n")
-        self.put("five/Makefile", "N := $(shell echo 1)\nall: ; echo $(N) $(MAKEFLAGS)\n")
+        self.put("five/Makefile", "N := $(shell echo 1)\nall: FORCE ; echo $(N) $?\nFORCE:\n")
         self.put("six/Makefile", "all: ; echo six\n")
         self.put("six/configure.ac", "")
 

@@ -2,13 +2,17 @@
 import errno
 import os
 import resource
-import shutil
 import signal
 import subprocess
 
-from support import LONG, TOOLS, Tree, needs
+from ported_trees import PortedTree, tree_of
+from support import LONG, TOOLS, needs, without_at_work
 
-from kati_tools import programs, write_command
+from kati_tools.base import programs
+from kati_tools.port import writing
+
+# The status of a port of which some commands differ from those of make.
+DIFFERS = 5
 
 INCLUDE = "include $(dir $(lastword $(MAKEFILE_LIST)))kati-values.mk"
 # Of each construct: the files, and words that stand in the makefile or in kati-values.mk afterwards.
@@ -19,8 +23,6 @@ CONSTRUCTS = {
         ({"Makefile": "U = $(shell uname -s)\nifeq ($(shell echo a),a)\nB = yes\nendif\nall: ; echo $(U) $(B) > out\n"},
          ["U = $(V_U)", "ifeq ($(V_shell),a)"]),
     "shell in a recipe": ({"Makefile": "all:\n\techo $(shell echo one two) $(sort b a) > out\n"}, ["echo $(V_shell)"]),
-    "shell that varies in a recipe":
-        ({"Makefile": "all: a b\na b:\n\techo $(shell echo made $@) > $@\n"}, ["V_shell = $$(echo made $@)"]),
     "shell in a loop":
         ({"Makefile": "N := $(foreach n,a b,$(shell echo $(n)$(n)))\nall: ; echo $(N) > out\n"},
          ["V_N = $(foreach n,a b,$(shell echo $(n)$(n)))", "V_N := aa bb"]),
@@ -122,7 +124,7 @@ CONSTRUCTS = {
     "a word behind a tab": ({"Makefile": "\tinclude a.mk\nall: ; echo $(A) > out\n", "a.mk": "A = 1\n"},
                             ["        include a.mk"]),
     "header dependencies": ({"Makefile": "all: ; echo > out\n-include *.d\n", "x.d": "all: x.h\n", "x.h": ""},
-                            ["ifdef MAKE_VERSION\n-include *.d\nendif"]),
+                            ["-include *.d\nelse\n-include $(V_names)\nendif", "V_names := x.d\n"]),
     "an include that make makes":
         ({"Makefile": "all: ; echo $(A) > out\ninclude config.mk\nconfig.mk: config.in ; sed s/@/=/ $< > $@\n",
           "config.in": "A @ 5\n"}, []),
@@ -166,61 +168,14 @@ STUCK = {
 }
 
 
-def tree_of(top):
-    """The texts of the files in a folder, but for those of the tools and of ninja."""
-    own = ("build.ninja", ".ninja_log")
-    return {str(path.relative_to(top)): path.read_text() for path in sorted(top.rglob("*"))
-            if path.is_file() and path.name not in own and "build.kati" not in path.parts
-            and path.suffix != ".mk" and path.name != "Makefile"}
-
-
 @needs("kati", "kati-asked", "make", "ninja")
-class Writing(Tree):
-    """A tree for each construct."""
-
-    def put_all(self, files):
-        """Writes a new tree."""
-        shutil.rmtree(self.top)
-        self.top.mkdir()
-        for name, text in files.items():
-            self.put(name, text)
-
-    def makes_commands(self):
-        """What make would do from nothing."""
-        ran = self.run_in("make", "-n", "-B", "--no-print-directory")
-        self.assertEqual(ran.status, 0, ran.all)
-        return ran.out
-
-    def built_by_make(self):
-        """The files after a build by make, in a folder of the same name that is this tree afterwards."""
-        kept = self.top.with_name("kept")
-        shutil.copytree(self.top, kept)
-        ran = self.run_in("make")
-        self.assertEqual(ran.status, 0, ran.all)
-        found = tree_of(self.top)
-        shutil.rmtree(self.top)
-        kept.rename(self.top)
-        return found
-
-    def port(self, *words, status=0):
-        ran = self.tool("kati-port", "--write", "Makefile", *words)
-        self.assertEqual(ran.status, status, ran.all)
-        return ran
+class Writing(PortedTree):
+    """What is written, and what is said."""
 
     def test_each_construct(self):
         for name, (files, words) in CONSTRUCTS.items():
             with self.subTest(name):
-                self.put_all(files)
-                wanted, built = self.makes_commands(), self.built_by_make()
-                said = self.port().out
-                self.assertIn("make's commands are as before", said)
-                text = self.read("Makefile") + "".join(path.read_text() for path in self.top.glob("kati-values.mk"))
-                self.assertEqual([word for word in words if word not in text], [], text)
-                self.assertEqual(self.makes_commands(), wanted, text)
-                self.assertEqual(self.built_by_make(), built, text)
-                ran = self.tool("kati-build", "--builtin", *(["--depth", "400"] if "--depth 400" in said else []))
-                self.assertEqual(ran.status, 0, ran.all + text)
-                self.assertEqual(tree_of(self.top), built, text)
+                self.check_construct(files, words)
 
     def test_where_nothing_is_known_no_file_changes(self):
         for name, (makefile, words) in STUCK.items():
@@ -279,7 +234,7 @@ class Writing(Tree):
     def test_a_word_that_wins_over_the_makefile_is_told(self):
         for words, is_told in (([], False), (["G=2"], False), (["F=2"], True)):
             self.put_all({"Makefile": "override F = 1\nG = 1\nall: ; echo $(F) $(G)\n"})
-            said = self.port(*words).out
+            said = self.port(*words, status=5 if is_told else 0).out
             self.assertEqual("the word F=.. of the command line wins over the makefile for kati" in said, is_told)
 
     def test_what_shell_writes_is_told_and_not_here(self):
@@ -288,10 +243,9 @@ class Writing(Tree):
         self.assertFalse((self.top / "n.h").exists())
 
     def test_what_kati_and_make_do_otherwise_is_told(self):
-        self.put_all({"Makefile": "N := $(shell echo 1)\nall: ; echo $(N) $(MAKEFLAGS)\n"})
-        said = self.port().out
-        self.assertIn("- echo 1 ", said)
-        self.assertIn("+ echo 1\n", said)
+        self.put_all({"Makefile": "N := $(shell echo 1)\nall: ; echo $(N) 'a\\\n\t'\n"})
+        said = self.port(status=5).out
+        self.assertIn("Makefile: make has ['a\\\\n'], kati ['a']: echo 1 'a\\\\n'\n", said)
         self.assertIn("kati's commands differ: 1 of make's alone, 1 of kati's alone", said)
 
     def test_how_makefiles_are_made_is_no_difference(self):
@@ -304,7 +258,7 @@ class Writing(Tree):
     def test_commands_that_are_others_each_time(self):
         self.put_all({"Makefile": "D := $(shell date +%N)\nN := $(shell echo 1)\nall: ; echo $(D) > out; echo $(N)\n"
                                   "\techo $(N) > out\n"})
-        said = self.port().out
+        said = self.port(status=5).out
         self.assertIn("make's commands are as before: 2, 1 of them another one each time\n", said)
         self.assertIn("kati's commands differ: 1 of make's alone, 1 of kati's alone\n", said)
         self.assertEqual(self.makes_commands().splitlines()[1], "echo 1 > out")
@@ -321,15 +275,15 @@ class Writing(Tree):
         self.assertEqual(f"echo {self.read('../out').strip()} > ../out\n", wanted)
 
     def test_blanks_within_quotes_count(self):
-        self.put_all({"Makefile": "N := $(shell echo 1)\nA =\nA += y\nall: ; echo \"[$(A)]\" $(A) $(N) > out\n"})
-        said = self.port().out
-        self.assertIn('- echo "[y]" y 1 > out\n', said)
-        self.assertIn('+ echo "[ y]"  y 1 > out\n', said)
-        self.assertIn("kati's commands are make's but for blanks within quotes, which count: 1\n", said)
-        self.assertIn("but for blanks within quotes, which count: 1\n", self.tool("kati-build", "--port").said)
-        self.put_all({"Makefile": "N := $(shell echo 1)\nA =\nA += y\nall: ; echo -D$(A) $(N) > out\n"})
-        self.assertIn("kati's commands differ: 1 of make's alone, 1 of kati's alone\n", self.port().out)
-        self.put_all({"Makefile": "N := $(shell echo 1)\nA =\nA += y\nall: ; echo $(A) $(N) > out\n"})
+        own = "define T\nA =\nA += y\nendef\n$(eval $(T))\n"
+        self.put_all({"Makefile": f"N := $(shell echo 1)\n{own}all: ; echo \"[$(A)]\" $(A) $(N) > out\n"})
+        said = self.port(status=5).out
+        self.assertIn('make has ["[y]"], kati ["[ y]" ]: echo "[y]" y 1 > out\n', said)
+        self.assertIn("kati's commands differ in blanks within quotes, which count: 1\n", said)
+        self.assertIn("in blanks within quotes, which count: 1\n", self.tool("kati-build", "--port").said)
+        self.put_all({"Makefile": f"N := $(shell echo 1)\n{own}all: ; echo -D$(A) $(N) > out\n"})
+        self.assertIn("kati's commands differ: 1 of make's alone, 1 of kati's alone\n", self.port(status=5).out)
+        self.put_all({"Makefile": f"N := $(shell echo 1)\n{own}all: ; echo $(A) $(N) > out\n"})
         self.assertIn("kati's commands are make's, blanks aside\n", self.port().out)
 
     def test_the_forms_of_files_stay(self):
@@ -394,25 +348,32 @@ class Writing(Tree):
             "{}: conf\n\t@sed 's/^X = .*/X = 2/' $@ > new && mv new $@ && touch made && echo more > conf.old\n"
         for name, makefile, more in (("Makefile", text.format("X", "Makefile"), {}),
                                      ("x.mk", "include x.mk\n" + text.format("Y", "x.mk"), {"x.mk": "X = 1\n"})):
-            self.put_all({"Makefile": makefile, "conf": "", "conf.old": "", **more})
-            os.utime(self.top / name, (1, 1))
-            wanted = self.built_by_make()
-            self.assertEqual(self.tool("kati-build", "--port").status, 0)
-            self.assertEqual(tree_of(self.top), {**wanted, "conf.old": ""})
-            self.assertEqual(self.read("Makefile"), makefile)
-            (self.top / "made").unlink()
+            for again in range(2):
+                self.put_all({"Makefile": makefile, "conf": "", "conf.old": "", **more})
+                os.utime(self.top / name, (1, 1))
+                wanted = self.built_by_make()
+                if not again:
+                    # Ninja makes it first, as make does.
+                    self.assertEqual(self.tool("kati-build", "--port").status, 0)
+                    self.assertEqual(tree_of(self.top), wanted)
             said = self.port().out
             self.assertIn(f"made first, as make does: {' '.join(sorted([name, 'conf.old']))} made\n", said)
             self.assertIn("kati's commands are make's", said)
             self.assertIn("X = 2\n", self.read(name))
             self.assertEqual(self.built_by_make(), wanted)
 
+    def test_a_call_that_varies_in_a_recipe(self):
+        # The recipe's own shell runs it, so that the command has another text.
+        self.check_construct({"Makefile": "all: a b\na b:\n\techo $(shell echo made $@) > $@\n"},
+                             ["V_shell = $$(echo made $@)"], status=DIFFERS)
+
     def test_the_rule_of_default(self):
         # Under -B make would make its makefile by such a rule.
         self.put_all({"Makefile": "all: a b c\n\tcat a b > out\n.DEFAULT:\n\techo $@ > $@\nb: ; echo own > b\n",
                       "c": ""})
         wanted = self.built_by_make()
-        self.port()
+        # make, asked for all commands, tells how it would make c, which is there.
+        self.port(status=DIFFERS)
         self.assertIn("ifdef MAKE_VERSION\n.DEFAULT:\nelse\na:\nendif\n\techo $@ > $@\n", self.read("Makefile"))
         self.assertEqual(self.built_by_make(), wanted)
         self.assertEqual(self.tool("kati-build", "--builtin").status, 0)
@@ -423,7 +384,7 @@ class Writing(Tree):
                       "x.h": ""})
         wanted = self.built_by_make()
         self.port()
-        self.assertIn("ifdef MAKE_VERSION\ninclude depend.mk\nendif", self.read("Makefile"))
+        self.assertIn("ifdef MAKE_VERSION\ninclude depend.mk\nelse\n-include depend.mk\nendif", self.read("Makefile"))
         self.assertEqual(self.built_by_make(), wanted)
         self.assertEqual(self.tool("kati-build", "--builtin").status, 0)
         self.assertEqual(tree_of(self.top), wanted)
@@ -446,7 +407,7 @@ class Writing(Tree):
     def test_where_one_file_cant_be_written_none_is(self):
         self.put_all({"Makefile": "before\n", "file": ""})
         with self.assertRaises(OSError):
-            write_command.write_files({str(self.top / "Makefile"): "after\n", str(self.top / "file/b.mk"): "after\n"})
+            writing.Writing({str(self.top / "Makefile"): "after\n", str(self.top / "file/b.mk"): "after\n"}).write()
         self.assertEqual(self.read("Makefile"), "before\n")
         self.assertEqual(sorted(path.name for path in self.top.iterdir()), ["Makefile", "file"])
 
@@ -456,7 +417,7 @@ class Writing(Tree):
         resource.setrlimit(resource.RLIMIT_FSIZE, (10, limits[1]))
         try:
             with self.assertRaises(OSError) as raised:
-                write_command.write_files({name: "after" * 10})
+                writing.Writing({name: "after" * 10}).write()
         finally:
             resource.setrlimit(resource.RLIMIT_FSIZE, limits)
         self.assertEqual(programs.told(raised.exception), f"{name}: File too large")
@@ -495,6 +456,6 @@ class Writing(Tree):
         os.killpg(process.pid, signal.SIGINT)
         said = process.communicate(timeout=LONG)[0]
         self.assertEqual(process.returncode, 130, said)
-        self.assertEqual(said, "kati-port: interrupted; no file was changed\n")
+        self.assertEqual(without_at_work(said), "kati-port: interrupted; no file was changed\n")
         self.assertEqual(self.made(), before)
         self.assertEqual(sorted(path.name for path in self.top.parent.iterdir()), ["tree"])

@@ -4,9 +4,9 @@ next run has nothing to do.
 The seed is fixed. KATI_RANDOM_TREES says how many trees are tried, and KATI_RANDOM_SEED which."""
 import os
 import random
-import shutil
 
-from support import Tree, needs
+from edited_trees import EditedTree
+from support import needs
 
 TREES = int(os.environ.get("KATI_RANDOM_TREES", "3"))
 SEED = int(os.environ.get("KATI_RANDOM_SEED", "2"))
@@ -124,34 +124,10 @@ class Edits:
 
 
 @needs("kati", "ninja", "make")
-class RandomEdits(Tree):
+class RandomEdits(EditedTree):
     """What ninja makes of them, beside what make makes of a new tree."""
 
     WORDS = ["--deps", "--no-ninja"]
-
-    def lay(self, state, top):
-        """Writes the files that differ, and takes away those that aren't the tree's any more."""
-        wanted = state.files()
-        for name in self.laid - set(wanted):
-            (top / name).unlink()
-        for name, text in wanted.items():
-            path = top / name
-            if not path.exists() or path.read_text() != text:
-                path.parent.mkdir(parents=True, exist_ok=True)
-                path.write_text(text)
-        self.laid = set(wanted)
-
-    def from_nothing(self, state):
-        """What a build from nothing makes of a tree, by make."""
-        fresh, laid, self.laid = self.top.parent / "fresh", self.laid, set()
-        fresh.mkdir()
-        self.lay(state, fresh)
-        ran = self.run_in("make", "-s", "-r", "-R", "-C", fresh)
-        self.assertEqual(ran.status, 0, ran.all)
-        found = (fresh / "prog").read_text()
-        shutil.rmtree(fresh)
-        self.laid = laid
-        return found
 
     def after_edit(self, state, is_faulty):
         """Compares what plain ninja does after an edit."""
@@ -163,22 +139,24 @@ class RandomEdits(Tree):
             return
         self.assertEqual(ran.status, 0, ran.all)
         self.built = self.read("prog")
-        self.assertEqual(self.built, self.from_nothing(state))
-        again = self.made_anew(self.ninja)
-        self.assertEqual([name for name in again if not name.startswith(("build.ninja", "files.txt"))], [])
+        status, said, made = self.from_nothing(state.files(), "-s", "-r", "-R")
+        self.assertEqual(status, 0, said)
+        self.assertEqual(self.built, made["prog"].decode())
+        self.assertEqual(self.made_anew(self.ninja), [])
         self.assertEqual(self.ninja(), "ninja: no work to do.\n")
 
     def one_tree(self, seed, *words):
         """Edits a tree, and compares after each edit."""
-        state, self.laid, done = Edits(random.Random(seed), "--files-from" in words), set(), []
-        self.lay(state, self.top)
+        state, done = Edits(random.Random(seed), "--files-from" in words), []
+        self.begin()
+        self.lay(state.files())
         self.assertEqual(self.tool("kati-build", *self.WORDS, *words).status, 0)
         with self.subTest(seed=seed, edits=done):
             self.after_edit(state, False)
             for _ in range(EDITS):
                 self.let_time_pass()
                 done.append(state.edit())
-                self.lay(state, self.top)
+                self.lay(state.files())
                 self.after_edit(state, state.fault)
 
     def test_ninja_alone_brings_about_what_a_build_from_nothing_would(self):
@@ -192,6 +170,3 @@ class RandomEdits(Tree):
                     self.one_tree(seed)
             else:
                 self.one_tree(seed, "--files-from", "list.txt")
-            shutil.rmtree(self.top)
-            shutil.rmtree(self.top.parent / "up", ignore_errors=True)
-            self.top.mkdir()

@@ -8,6 +8,8 @@ import shutil
 
 from support import Tree, needs
 
+from kati_tools.base.programs import DIFFERS  # noqa: E402
+
 TREES = int(os.environ.get("KATI_RANDOM_TREES", "20"))
 SEED = int(os.environ.get("KATI_RANDOM_SEED", "4"))
 
@@ -119,9 +121,10 @@ class RandomPorts(Tree):
         self.put_all(makefile.files())
         wanted = self.built(makefile.targets, "make")
         ran = self.run_in(self.tool_path("kati-port"), "--write", "Makefile")
-        self.assertEqual(ran.status, 0, ran.all)
+        is_said = "kati's commands are make's" in ran.out
+        self.assertEqual(ran.status, 0 if is_said else DIFFERS, ran.all)
         self.assertEqual(self.built(makefile.targets, "make"), wanted)
-        if "kati's commands are make's" not in ran.out:
+        if not is_said:
             return False
         by_kati = self.built(makefile.targets, self.tool_path("kati-build"), "--builtin")
         self.assertEqual(by_kati, wanted, ran.out)

@@ -1,10 +1,13 @@
 """The copies in which make is asked: values are those of this folder, and of what stands above it."""
+import os
 import shutil
 import unittest
 
 from support import Tree, needs
 
-from kati_tools import above, scratch_builds
+from kati_tools.base import programs
+from kati_tools.makefile import above
+from kati_tools.build import begun, scratch_builds
 
 
 class Levels(unittest.TestCase):
@@ -55,7 +58,7 @@ class Copies(Tree):
     def test_a_file_that_cant_be_copied_is_told(self):
         self.put("Makefile", "N := $(shell wc -c < n.txt)\nall: ; echo $(N)\n")
         self.put("n.txt", "n" * 200_000)
-        ran = self.run_in("sh", "-c", f"ulimit -f 100; {self.tool_path('kati-build')} --port")
+        ran = self.run_in("sh", "-c", f"ulimit -f 100; KATI_COPIES=1 {self.tool_path('kati-build')} --port")
         self.assertEqual(ran.status, 3, ran.all)
         self.assertIn("n.txt: File too large", ran.said)
 
@@ -107,6 +110,16 @@ class OwnFiles(Tree):
                 self.builds(self.tool_path("kati-build"), "--port", *words)
         self.builds("ninja")
         self.builds("ninja", "-f", "other.ninja")
+
+    def test_what_a_run_writes_is_no_change_of_what_it_reads(self):
+        self.wanted(self.FOLDERS + self.LOOP)
+        self.builds(self.tool_path("kati-build"), "--port")
+        with programs.inside(self.top):
+            inputs = begun.Inputs("build.kati")
+            inputs.begin([])
+            for name in ("build.ninja", "b.c"):
+                os.utime(name)
+            self.assertEqual(inputs.changed(["build.ninja", "b.c"]), ["b.c"])
 
     def test_by_a_written_makefile(self):
         self.wanted(self.FOLDERS + self.LOOP)

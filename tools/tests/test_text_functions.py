@@ -8,7 +8,7 @@ import unittest
 
 from support import TOP
 
-from kati_tools import forms
+from kati_tools.makefile import forms
 
 CODE = TOP / "crates/kt_text/src/functions/text_function.rt"
 CALLS = TOP / "crates/kt_eval/src/expanding/calls.rt"

@@ -4,7 +4,7 @@ use Rattle.kati.specs.Prelude.{flat_map, list_any, Rises, Text, AgreeWith, Store
 use Rattle.kt_ninja.specs.Written.{GrowsByFront, SinkSeen, Takes}
 use Rattle.kati.specs.declared.faults.RunFault.TheVariants as faults
 use Rattle.kati.specs.Exits.{exit_code}
-use Rattle.kati.specs.AfterRun.{BlamesDevice, Exits, Leaves}
+use Rattle.kati.specs.AfterRun.{BlamesDevice, Exits, Leaves, LeavesOut}
 use Rattle.kati.specs.ErrorOutput.{ReportsEnd}
 
 -- each name on a line of its own
@@ -37,6 +37,7 @@ pub record NamingExits (args : Args) (code : ℕ) (old new : Devices) : Type 0 w
   pub run : Result Status RunFault
   pub ran : Devices
   pub leaves : (store : Store) → AgreeWith store new.files.answers → Leaves args store run old ran
+  pub output : LeavesOut args.check run old.out ran.out
   pub ended : Result Status RunFault
   pub named : Devices
   pub names : NamesAfter run ended ran.files.names ran.out named.out

@@ -2,7 +2,8 @@
 -- clap's.
 use Rattle.std.specs.Prelude.{◌≡◌, ◌≢◌, ℕ, ◌-◌, ◌==◌, ◌&&◌, ◌||◌, ⊤, Bool, true, false, not, List, [], ◌∷◌, map, filter}
 use Rattle.std.specs.Prelude.{find, codes, length, slice_get, Some, None, option_map, unwrap_or, Result, Ok, Err}
-use Rattle.std.specs.Prelude.{string_bytes, Option}
+use Rattle.std.specs.Prelude.{string_bytes, Option, String}
+use Rattle.std.specs.declared.alloc.Global.{Global}
 use Rattle.std.specs.List.{list_any, before_first, after_first}
 use Rattle.std.specs.Option.{option_map_or}
 use Rattle.std.specs.Str.Parse.{digits_value, without_leading_plus}
@@ -135,3 +136,11 @@ ReportsError error (Help text) = kind_of error ≡ DisplayHelp
 ReportsError error (Usage text) = (kind_of error ≢ OutOfMemory) × (kind_of error ≢ DisplayHelp)
 ReportsError error Memory = ⊤
 ReportsError error (BadMacro word) = ⊥
+
+-- what is told of a fault of this kind: the text that was made of it, and want of memory just where none could be made
+abbrev pub TellsText : {E : Type 0} → ErrorKind → Result (String Global) E → ArgFault → Type 0
+TellsText kind (Ok text) (Help told) = (kind ≡ DisplayHelp) × (told ≡ text)
+TellsText kind (Ok text) (Usage told) = (kind ≢ DisplayHelp) × (told ≡ text)
+TellsText kind (Ok text) Memory = ⊥
+TellsText kind (Ok text) (BadMacro word) = ⊥
+TellsText kind (Err fault) told = told ≡ Memory

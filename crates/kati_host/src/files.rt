@@ -1,11 +1,13 @@
 //! The host's files. No contract says what they hold; contracts see what each read of them answered.
-ghost use Rattle.std.specs.Prelude.{◌≡◌, ◌≤◌, ◌↔◌, [], Err, IsErr, vec_len, IfErr, IfOk, IfSome, IsNone, IsOk};
+ghost use Rattle.std.specs.Prelude.{◌≡◌, ◌≤◌, ◌↔◌, ◌++◌, [], Err, IfErr, IfOk, IfSome, IsErr, IsNone, IsOk, IsSome};
+ghost use Rattle.std.specs.Prelude.{Ok, OnErr, OnOk, Some, option_map, vec_len};
+ghost use Rattle.std.specs.IoError.{error_kind};
 ghost use Rattle.kt_list.specs.Counters.{Rises};
 
 use kt_eval::{FileFault, Files};
 use kt_history::History;
 use std::io::{ErrorKind, Read};
-use std::{fs, slice};
+use std::{fs, io, slice};
 
 /// The maximum number of bytes, and of calls, for reading one file. It makes every read of a file end.
 const MOST: usize = 1_073_741_824;
@@ -53,18 +55,34 @@ fn read_to_end<R: Read>(
 {
     let mut bytes = Vec::new(rt.alloc());
     for _ in 0..MOST {
-        let count = reader.read(block).map_err(|_| FileFault::Device)?;
+        let count = taken(reader.read(block))?;
         if count == 0 {
             return Ok(bytes);
         }
         if MOST.saturating_sub(bytes.len()) < count {
             return Err(FileFault::Device);
         }
-        bytes
-            .extend_from_slice(&block[..count])
-            .map_err(|_| FileFault::Memory)?;
+        put_behind(&mut bytes, &block[..count])?;
     }
     Err(FileFault::Device)
+}
+
+/// How many bytes a call has read; one that failed is a failure of the device.
+fn taken(read: io::Result<usize>) -> Result<usize, FileFault>
+    ensures count { IfOk read (λ count. result ≡ Ok count) }
+    ensures device { OnErr read (result ≡ Err FileFault.Device) }
+{
+    read.map_err(|_| FileFault::Device)
+}
+
+/// Adds a piece at the end.
+fn put_behind(bytes: &mut Vec<u8>, piece: &[u8]) -> Result<(), FileFault>
+    ensures put { OnOk result (bytes.new.items ≡ bytes.old.items ++ piece.now) }
+    ensures refused { IfErr result (λ fault. fault ≡ FileFault.Memory) }
+{
+    bytes
+        .extend_from_slice(piece)
+        .map_err(|_| FileFault::Memory)
 }
 
 /// The result if a file can't be opened: it doesn't exist, or the device failed.
@@ -79,16 +97,33 @@ fn unopened(kind: ErrorKind) -> Result<Option<Vec<u8>>, FileFault>
     }
 }
 
-/// The bytes of the file, or `None` if there is no file.
+/// What was found where a file was to be opened: all its bytes, that it doesn't exist, or that the device failed.
+fn found_in<R: Read + Drop>(
+    rt: &HostRuntime,
+    block: &mut [u8; BLOCK],
+    opened: io::Result<R>,
+) -> Result<Option<Vec<u8>>, FileFault>
+    ensures all { IfOk opened (λ reader. IfOk result (λ found. IfSome (R.remaining reader)
+        (λ all. option_map (λ bytes. bytes.items) found ≡ Some all))) }
+    ensures there { IfOk opened (λ _. IfOk result IsSome) }
+    ensures absent { IfErr opened (λ error. IsOk result ↔ (error_kind error ≡ ErrorKind.NotFound)) }
+    ensures none { OnErr opened (IfOk result IsNone) }
+    ensures device { OnErr opened (IfErr result (λ fault. fault ≡ FileFault.Device)) }
+{
+    match opened {
+        Ok(mut file) => Ok(Some(read_to_end(rt, block, &mut file)?)),
+        Err(error) => unopened(error.kind()),
+    }
+}
+
+/// The bytes of the file, or `None` if there is no file. That it is the file of this name that is opened stands in no
+/// clause.
 fn read_file(
     rt: &HostRuntime,
     block: &mut [u8; BLOCK],
     name: &str,
 ) -> Result<Option<Vec<u8>>, FileFault> {
-    match fs::open(rt, name) {
-        Ok(mut file) => Ok(Some(read_to_end(rt, block, &mut file)?)),
-        Err(error) => unopened(error.kind()),
-    }
+    found_in(rt, block, fs::open(rt, name))
 }
 
 impl<'a> HostFiles<'a> {
@@ -138,25 +173,46 @@ impl<'a> HostFiles<'a> {
     }
 }
 
-impl<'a> Files for HostFiles<'a> {
-    ghost use Rattle.std.specs.Prelude.{map, option_map, string_bytes};
+impl<'a> HostFiles<'a> {
+    ghost use Rattle.std.specs.Prelude.{◌≡◌, ◌≤◌, ◌++◌, ◌∷◌, [], IfOk, OnErr, option_map, string_bytes};
+    ghost use Rattle.kt_eval.specs.files.Files.{AskedAfter, CountedAfter};
+    ghost use Rattle.kati_host.specs.Seen.{files_seen};
 
-    ghost seen = { λ s. record {
-      answers = map (λ p. (string_bytes p.0, option_map (λ v. v.items) p.1)) s.answers.items;
-      names = map string_bytes s.asked.items;
-      failed = s.failures;
-    } };
+    // Notes what came of reading the file of this name, and gives just that, unless the name can't be kept.
+    fn noted(
+        &mut self,
+        name: String,
+        read: Result<Option<Vec<u8>>, FileFault>,
+    ) -> Result<Option<Vec<u8>>, FileFault>
+        ensures found { IfOk result (λ found. read ≡ Ok found) }
+        ensures device { result ≡ Err FileFault.Device → read ≡ Err FileFault.Device }
+        ensures answers { IfOk result (λ found. (files_seen self.new).answers ≡ (files_seen self.old).answers
+            ++ (string_bytes name, option_map (λ bytes. bytes.items) found) ∷ []) }
+        ensures keeps { OnErr result ((files_seen self.new).answers ≡ (files_seen self.old).answers) }
+        ensures asked { AskedAfter result (files_seen self.old) (files_seen self.new) (string_bytes name) }
+        ensures counts { self.old.failures ≤ self.new.failures }
+        ensures fails { CountedAfter result (files_seen self.old) (files_seen self.new) }
+    {
+        match read {
+            Ok(found) => self.answered(name, found),
+            Err(FileFault::Device) => self.failed(name),
+            Err(FileFault::Memory) => Err(FileFault::Memory),
+        }
+    }
+}
+
+impl<'a> Files for HostFiles<'a> {
+    ghost use Rattle.kati_host.specs.Seen.{files_seen};
+
+    ghost seen = { files_seen };
 
     fn read(&mut self, name: &str) -> Result<Option<Vec<u8>>, FileFault> {
         let copy = match name.to_string(self.rt.alloc()) {
             Ok(copy) => copy,
             Err(_) => return Err(FileFault::Memory),
         };
-        match read_file(self.rt, &mut self.block, name) {
-            Ok(found) => self.answered(copy, found),
-            Err(FileFault::Device) => self.failed(copy),
-            Err(FileFault::Memory) => Err(FileFault::Memory),
-        }
+        let read = read_file(self.rt, &mut self.block, name);
+        self.noted(copy, read)
     }
 
     fn asked(&self) -> &[String] {

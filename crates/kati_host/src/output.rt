@@ -1,10 +1,11 @@
 //! The host's outputs. What they took takes no memory: only proofs read it.
-ghost use Rattle.std.specs.Prelude.{◌≡◌, ◌<◌, ◌≤◌, ◌++◌, [], IfOk, OnErr, OnOk, Some, length, take};
-ghost use Rattle.std.specs.Io.KnownBytes.{Appends, Keeps};
+ghost use Rattle.std.specs.Prelude.{◌≡◌, ◌<◌, ◌≤◌, ◌↔◌, ◌++◌, [], IfOk, IsOk, OnErr, OnOk, Some, length, take};
+ghost use Rattle.std.specs.Io.KnownBytes.{Appends};
 ghost use Rattle.kt_list.specs.Counters.{Rises};
 
 use kt_history::History;
 use kt_ninja::{Sink, SinkFault};
+use std::io;
 use std::io::Write;
 
 /// One of the process's outputs. Each write is flushed.
@@ -40,16 +41,18 @@ impl<W: Write + Drop> HostSink<W> {
         count
     }
 
-    // Flushes after this many bytes were taken. Taking none, like a failed flush, is a failure.
-    fn flushed(&mut self, count: usize) -> Result<usize, SinkFault>
+    // What comes of a write that took this many bytes, and of the flush after it. Taking none, like a failed flush, is a
+    // failure.
+    fn flushed(&mut self, count: usize, flush: io::Result<()>) -> Result<usize, SinkFault>
         ensures written { self.new.written.items ≡ self.old.written.items }
-        ensures taken { Keeps (W.contents self.old.output) (W.contents self.new.output) }
-        ensures count { IfOk result (λ n. (n ≡ count) × (0 < n)) }
+        ensures output { self.new.output ≡ self.old.output }
+        ensures count { IfOk result (λ n. n ≡ count) }
+        ensures ended { IsOk result ↔ ((0 < count) × IsOk flush) }
         ensures holds { OnOk result (self.new.failures ≡ self.old.failures) }
         ensures counts { self.old.failures ≤ self.new.failures }
         ensures fails { OnErr result (Rises self.old.failures self.new.failures) }
     {
-        if count > 0 && self.output.flush().is_ok() {
+        if count > 0 && flush.is_ok() {
             return Ok(count);
         }
         self.failures = self.failures.saturating_add(1);
@@ -65,7 +68,8 @@ impl<W: Write + Drop> Sink for HostSink<W> {
             return Ok(0);
         }
         let count = self.hand_on(piece);
-        self.flushed(count)
+        let flush = self.output.flush();
+        self.flushed(count, flush)
     }
 
     fn failures(&self) -> u64 {

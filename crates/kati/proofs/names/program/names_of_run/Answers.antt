@@ -15,6 +15,7 @@ returns g c =
       run = c.run-ran.result;
       ran = devices files ran err;
       leaves = c.run-ran.ensures.leaves;
+      output = c.run-ran.ensures.output;
       ended = c.with_names-ended.result;
       named = devices files out err;
       names = c.with_names-ended.ensures;

@@ -1,0 +1,1 @@
+"""Programs, files, words and locks: what every tool stands on."""

@@ -1,0 +1,79 @@
+"""Whether a translation would be the one that is there, which is seen without kati.
+
+Ninja asks for a translation where a folder has another time, as it has each time where a recipe that always runs makes
+a file and takes it away again. So it is noted what a translation came from: the words, the files that it read, by their
+times, lengths and places, the folders, the list of files, and which files were there that count only where they
+change. What was as new as the start of that run isn't known, and so is another."""
+import os
+
+from ..base import files
+from ..base.programs import bytes_of, text_of
+from . import begun
+
+NAME = ".inputs"
+UNKNOWN = "?"
+
+
+def identity(name):
+    """What tells a file from one that was written since, in its place or in another one."""
+    try:
+        found = os.stat(name)
+    except (OSError, ValueError):
+        return "-"
+    return f"{found.st_mtime_ns} {found.st_ctime_ns} {found.st_size} {found.st_ino}"
+
+
+def state(name):
+    """What counts of a name: of a folder only that it is one."""
+    return "folder" if os.path.isdir(name) else identity(name)
+
+
+class Noted:
+    """What a translation came from, in the folder `room`: words, names of files, folders, and files that are there or
+    aren't."""
+
+    def __init__(self, room):
+        self.path = os.path.join(room, NAME)
+
+    def note(self, words, names, own, folders, looked_at, start):
+        """Notes it, where the start of the run is known; `own` are files that the run wrote itself."""
+        states = [(name, UNKNOWN if start.is_newer(name) and not os.path.isdir(name) else state(name))
+                  for name in dict.fromkeys(names)]
+        states += [(name, identity(name)) for name in own]
+        lines = ["\0".join(words), "\0".join(folders), "\0".join(looked_at),
+                 "\0".join(f"{state} {name}" for name, state in states)]
+        files.replace(self.path, "\n".join(lines) + "\n", os.path.dirname(self.path))
+
+    def forget(self):
+        """Takes the note away."""
+        files.remove(self.path)
+
+    def is_so(self, words):
+        """Whether all is as it was noted, for these words, folders and the list of files aside."""
+        lines = text_of(files.content(self.path) or b"").split("\n")
+        if len(lines) != 5 or lines[0] != "\0".join(words):
+            return False
+        self.folders = lines[1].split("\0")
+        there = all(os.path.exists(one[1:]) == (one[:1] == "+") for one in lines[2].split("\0") if one)
+        states = (one for one in lines[3].split("\0") if one)
+        return there and all(is_as_noted(one) for one in states)
+
+
+def is_as_noted(one):
+    """Whether a file has the state that stands before its name."""
+    if one.startswith("folder "):
+        return os.path.isdir(one[len("folder "):])
+    if one[:2] in ("- ", "? "):
+        return one[0] == "-" and not os.path.lexists(one[2:])
+    mtime, ctime, size, place, name = one.split(" ", 4)
+    return identity(name) == " ".join((mtime, ctime, size, place))
+
+
+def has_same_files(listing, before, made):
+    """Whether a listing gives the list of before, as the text of a file of it: what came since is but what the build
+    makes, which `made` is called for."""
+    now, then = set(listing.names), set(text_of(before).split("\n")) - {""}
+    new = now - then
+    if not then <= now or listing.certain is None:
+        return then == now
+    return new.isdisjoint(listing.certain) and (not new or new <= made())

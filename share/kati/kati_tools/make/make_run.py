@@ -1,0 +1,167 @@
+"""make, asked about a makefile in such a way that it runs no recipe, and still answers $(shell ..)."""
+import os
+import re
+import subprocess
+from collections import Counter
+
+from ..base import files
+from . import make_commands, recipe_shell, shell_calls, target_environment
+from .running import run_make
+from ..base.programs import Stop
+
+NO_GOAL = "kati_port_makes_nothing"
+ANSWER = "@@kati:"
+END = ":kati@@"
+SECONDS = 120
+# The special target in make's database.
+NOT_PARALLEL = re.compile(r"^\.NOTPARALLEL:", re.MULTILINE)
+# What a run that asks has besides -Bn.
+OWN_FLAGS = ("--no-print-directory", "--eval=.SECONDARY:")
+
+
+def shell_in(lines):
+    """The shell that makefiles name by a path, else the usual one."""
+    for line in lines:
+        name, _, value = line.assignment() or ("", "", "")
+        if name == "SHELL" and re.fullmatch(r"/[\w./]+", value) and os.access(value, os.X_OK):
+            return value
+    return "/bin/sh"
+
+
+def answered(out):
+    """What make told of numbered questions: the answers of each, in order."""
+    found = {}
+    for number, value in re.findall(rf"{ANSWER}(\d+) (.*?){END}\n", out, re.DOTALL):
+        found.setdefault(int(number), []).append(value)
+    return found
+
+
+def users_flags(text):
+    """make's flags, as a makefile has them, without those of a run that asks."""
+    letters, *words = text.split(" ")
+    dash = letters[:1] if letters.startswith("-") and not letters.startswith("--") else ""
+    letters = "".join(one for one in letters[len(dash):] if one not in "Bn") if "=" not in letters else letters
+    kept = [one for one in words if one not in OWN_FLAGS and not one.startswith("SHELL=")]
+    return " ".join([dash + letters if letters else "", *(kept if kept != ["--"] else [])])
+
+
+def with_users_flags(out, told):
+    """What make printed, with the flags that a user's run has in the place of those of this one, which it `told`."""
+    for flags in re.findall(rf"{ANSWER}[01] (.*?){END}", told):
+        out = out.replace(flags, users_flags(flags)) if flags else out
+    return out
+
+
+class MakeRun:
+    """How make is asked about one makefile with its goals and macros, in this process's folder."""
+
+    def __init__(self, makefile, goals, macros, room, more):
+        self.makefile, self.goals, self.macros, self.room, self.more = makefile, goals, macros, room, more
+        # Whether the makefile has make run one command at a time.
+        self.is_not_parallel = False
+        self.noop, self.extra = (os.path.join(room, name) for name in ("noop", "question.mk"))
+        self.use_shell("/bin/sh")
+
+    def use_shell(self, shell):
+        """Makes this shell the one that answers $(shell ..)."""
+        make_commands.write_noop(self.noop, shell, self.room)
+
+    def environment(self):
+        """The environment that a makefile is asked in, in which this folder has the name by which the user has gone
+        into it."""
+        here = os.environ.get("PWD", "")
+        is_here = os.path.isabs(here) and os.path.isdir(here) and os.path.samefile(here, os.curdir)
+        return make_commands.environment(**{"PWD": here if is_here else os.getcwd(), **self.more})
+
+    def run(self, words, given=None):
+        """What make says to these words: its status, standard output and standard error; `given` is its environment,
+        where it is another one."""
+        try:
+            return run_make(words, self.room, given or self.environment(), seconds=SECONDS)
+        except subprocess.TimeoutExpired:
+            raise Stop(f"make takes more than {SECONDS} seconds to read {self.makefile}", 1) from None
+
+    def forget_calls(self):
+        """Has each call of $(shell ..) run once more, where a file is another one now."""
+        shell_calls.of_room(self.room).forget()
+
+    def ask(self, goals=None, question=""):
+        """What make would do for the goals; a question is a makefile's text that is read after the makefile."""
+        files.replace(self.extra, make_commands.UNLISTED + recipe_shell.guard(self.room) + question, self.room)
+        words = ["-n", "-B", "--no-print-directory", "--eval=.SECONDARY:", "-f", self.makefile, "-f", self.extra]
+        goals = self.goals if goals is None else goals
+        return self.run([*words, *goals, *self.macros, f"SHELL={self.noop}"])
+
+    def refuse_other_shells(self):
+        """Stops where a line of a recipe would be run by another shell than the one that runs none."""
+        files.replace(self.extra, make_commands.UNLISTED + recipe_shell.ASKED, self.room)
+        words = ["-p", "-n", "-B", "--no-print-directory", "-f", self.makefile, "-f", self.extra, *self.goals]
+
+        def look(**variables):
+            given = {**self.environment(), **variables}
+            return self.run([*words, *self.macros, f"SHELL={self.noop}"], given)[1]
+
+        database = recipe_shell.refuse_others(look, self.makefile, self.room)
+        self.is_not_parallel = NOT_PARALLEL.search(database) is not None
+
+    def database(self, goal):
+        """make's database once it has read the makefile, for a goal for which it makes nothing."""
+        files.replace(self.extra, f".PHONY: {goal}\n{goal}: ;\n", self.room)
+        words = ["-p", "-n", "--no-print-directory", "-f", self.makefile, "-f", self.extra, goal, *self.macros]
+        return self.run([*words, f"SHELL={self.noop}"], {**self.environment(), "LC_ALL": "C"})[1]
+
+    def added_to_environment(self):
+        """What make adds to the environment of its commands."""
+        def ask(rules, more, given):
+            self.run(["-f", self.makefile, "-f", rules, *self.macros, *more], given)
+
+        return make_commands.added_to_environment(self.noop, self.environment(), self.goals, ask)
+
+    def environments(self, shell):
+        """What make's commands have in their environment, line by line of their recipes."""
+        given = self.environment()
+        files.replace(self.extra, make_commands.UNLISTED + recipe_shell.guard(self.room) + ".SECONDARY:\n", self.room)
+        words = ["-B", "--no-print-directory", "-f", self.makefile, "-f", self.extra, *self.goals, *self.macros]
+        return target_environment.all_told(self.room, shell, lambda word: self.run([*words, word], given)[0])
+
+    def make_includes(self):
+        """Has make make the makefiles that it reads, as it does before anything."""
+        question = f".PHONY: {NO_GOAL}\n{NO_GOAL}: ;\n"
+        files.replace(self.extra, question, self.room)
+        return self.run(["-n", "-f", self.makefile, "-f", self.extra, NO_GOAL, *self.macros])
+
+    def values(self, texts):
+        """What these texts expand to behind the makefile, None for those that make doesn't tell."""
+        if not texts:
+            return []
+        asked = "".join(f"$(info {ANSWER}{number} {text}{END})\n" for number, text in enumerate(texts))
+        # The error keeps make from anything but reading.
+        found = answered(self.ask(question=asked + "$(error asked)\n")[1])
+        return [found.get(number, [None])[0] for number in range(len(texts))]
+
+    def values_with_own_shell(self, texts):
+        """The same where make has the shell that the makefile gives it."""
+        asked = "".join(f"$(info {ANSWER}{number} {text}{END})\n" for number, text in enumerate(texts))
+        files.replace(self.extra, f"{make_commands.UNLISTED}{asked}$(error asked)\n", self.room)
+        found = answered(self.run(["-n", "-f", self.makefile, "-f", self.extra, *self.goals, *self.macros])[1])
+        return [found.get(number, [None])[0] for number in range(len(texts))]
+
+    def value(self, text):
+        """The same for one text."""
+        return self.values([text])[0]
+
+    def commands(self, goals=None):
+        """The status, the commands that make would run for the goals, what it says, and the commands before those,
+        which make makefiles."""
+        status, out, said = self.ask(goals)
+        question = f".PHONY: {NO_GOAL}\n{NO_GOAL}: ; : {ANSWER}0 $(MAKEFLAGS){END} {ANSWER}1 $(MFLAGS){END}\n"
+        first = self.ask([NO_GOAL], question)[1]
+        before = [line for line in make_commands.lines_of(first) if ANSWER not in line]
+        left, lines = Counter(before), []
+        for line in make_commands.lines_of(with_users_flags(out, first)):
+            if left[line]:
+                left[line] -= 1
+            else:
+                lines.append(line)
+        return status, lines, said, before
+

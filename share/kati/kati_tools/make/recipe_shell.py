@@ -1,0 +1,89 @@
+"""The shell of recipes: while the tools ask make, it is one that runs no line, given as SHELL on make's command line. A
+makefile that has make take another one is found before a line may run, and refused.
+
+make tells by its database, behind all makefiles and before any goal: which SHELL it has, for all and for targets; what
+MAKEFLAGS has; and texts that would override SHELL once they are expanded in a recipe."""
+import os
+import re
+
+from ..base.programs import Stop
+
+WRONG = 1
+# Where make says that what follows stands, in the locale C; a value, for all, for a target or for a pattern.
+PLACE = re.compile(r"#.* \(from '(.*)', line (\d+)\):?$")
+SHELL = re.compile(r"(?:# |[^\t#=]*: )?(define )?SHELL(?: :{0,3}=)?(?: (.*))?")
+FLAGS = re.compile(r"(?:# |[^\t#=]*: )?MAKEFLAGS :{0,3}= ?(.*)")
+# A text that overrides SHELL where a recipe expands it.
+LATER = re.compile(r"\boverride\b.*\bSHELL\b[ \t]*(?:[:+?!]|::|:::)?=")
+GIVEN_BY_FLAGS = re.compile(r"(?:^|\s)SHELL[:+?!]*=(\S*)")
+# How make names a makefile that it reads as standard input.
+STANDARD_INPUT = re.compile(r"-|.*/Gm\w{6}")
+# What is read behind all makefiles: where they have another shell, make ends before it makes anything.
+GUARD = """\
+ifneq ($(and $(filter command,$(origin SHELL)),$(filter {room}/%,$(firstword $(value SHELL))),\
+$(if $(filter-out SHELL={room}/%,$(filter {forms},$(MAKEFLAGS))),,1)),1)
+$(error the makefiles override SHELL)
+endif
+"""
+
+
+# What is read behind them where make is to tell its database alone.
+ASKED = "$(error asked)\n"
+FORMS = " ".join(f"SHELL{operator}%" for operator in ("=", ":=", "::=", ":::=", "+=", "?=", "!="))
+
+
+class OtherShell(Stop):
+    """A makefile has make run recipes by another shell than the one that it is given."""
+
+    def __init__(self, words):
+        super().__init__(words, WRONG)
+
+
+def guard(room):
+    """The text that is read behind all makefiles, where the shell stands in the folder `room`."""
+    return GUARD.format(forms=FORMS, room=room.replace("$", "$$").replace("#", "\\#").replace("%", "\\%"))
+
+
+def place_of(found, makefile):
+    """The place that make tells, where it reads the makefile as standard input behind one line of the tools' own."""
+    if found is None:
+        return makefile
+    name, number = found.group(1), int(found.group(2))
+    return f"{makefile}:{number - 1}" if STANDARD_INPUT.fullmatch(name) else f"{name}:{number}"
+
+
+def fault_in(line, room, is_body):
+    """What is wrong with a line of the database, where something is."""
+    shell, flags = (None if is_body else form.fullmatch(line) for form in (SHELL, FLAGS))
+    if shell and (shell.group(1) or not (shell.group(2) or "").startswith(room + os.sep)):
+        return "override of SHELL"
+    values = GIVEN_BY_FLAGS.findall(flags.group(1)) if flags else []
+    if any(not value.startswith(room + os.sep) for value in values):
+        return "SHELL by MAKEFLAGS"
+    may_run = not line.startswith("#") and ("eval" in line or not line.startswith("\t"))
+    return "override of SHELL" if may_run and LATER.search(line) else None
+
+
+def first_fault(database, makefile, room):
+    """The place in make's database that tells of a shell that isn't one of the folder `room`, and what is wrong there;
+    None where none is."""
+    place, is_body = None, False
+    for line in database.split("\n"):
+        found = PLACE.fullmatch(line)
+        place = found or (None if line.startswith("# ") and "=" not in line else place)
+        words = fault_in(line, room, is_body)
+        if words:
+            return f"{place_of(place, makefile)}: {words}"
+        is_body = line.startswith("define ") or is_body and line != "endef"
+    return None
+
+
+def refuse_others(look, makefile, room):
+    """Stops where make's database, which `look` answers, tells of a shell that isn't one of the folder `room`; answers
+    the database. The place of a fault is told in the locale C alone."""
+    database = look()
+    if first_fault(database, makefile, room):
+        fault = first_fault(look(LC_ALL="C"), makefile, room)
+        raise OtherShell(f"{fault}, and so lines of recipes would run while make is asked what it would do; make's own "
+                         "command line is to say which shell it has")
+    return database

@@ -1,0 +1,1 @@
+"""Makefiles rewritten until kati takes them; the command kati-build, which leans on that."""

@@ -1,0 +1,155 @@
+"""What a command of `$(shell ..)` reads, as far as its text tells it: files, folders and patterns that it names.
+
+Rather too much is taken than too little: make is only asked once more where a name that means nothing changes. What
+hangs on the machine, as `uname`, has no such words."""
+import os
+import re
+
+from ..base.programs import run, which
+from ..make import shell_text
+from ..make.exported_names import of_the_shell
+from . import watched
+
+# A word of a command that names a file, though none is there.
+ABSENT = re.compile(r"(?:[\w+@.-]+/)*(?:[\w+@][\w+@.-]*|)\.[A-Za-z][\w-]*")
+PLAIN_NAME = re.compile(r"(?!-)(?:[\w+@.-]+/)*[\w+@.-]*[A-Za-z_][\w+@.-]*/?")
+# A file that a command names by its whole path counts up to so many bytes.
+MOST = 2**20
+BREAKS = re.compile(r"[\s;|&()<>`'\"=$,{}]+")
+# Commands that name files and read none; that list folders; and that read what they name, though it be absent.
+NAMING = {"ls", "dir", "echo", "printf", "find", "basename", "dirname", "test", "[", "realpath", "readlink", "cd"}
+LISTING = {"ls", "dir", "find", "tree", "du"}
+READING = {"cat", "ls", "head", "tail", "find", "sed", "awk", "grep", "sort", "wc", "cut", ".", "source", "readlink",
+           "realpath", "sh", "bash", "test", "["}
+KEYWORDS = {"if", "then", "elif", "else", "while", "until", "do", "!", "{", "("}
+# How `test` asks of a file.
+ASKS_OF_FILE = re.compile(r"-[bcdefghknprstuwxLOGNS]")
+# What git's commands hang on beside the commit: each file's changes, or the list of files.
+OF_CHANGES = re.compile(r"--dirty|\b(?:diff|status|diff-index|diff-files|update-index)\b")
+OF_FILES = re.compile(r"\bls-files\b")
+
+
+class Simple:
+    """A simple command: the folder that it runs in, its program and its other words."""
+
+    def __init__(self, words, folder):
+        words = words[next((at for at, word in enumerate(words) if word not in KEYWORDS), len(words)):]
+        self.folder, self.program = folder, os.path.basename(words[0]) if words else ""
+        self.words = words[1:]
+
+    def operands(self):
+        """The words that aren't options; of `test` those that it asks of as of files."""
+        if self.program in ("test", "["):
+            return [word for before, word in zip(self.words, self.words[1:]) if ASKS_OF_FILE.fullmatch(before)]
+        return [word for word in self.words if not word.startswith("-")]
+
+    def listed(self):
+        """The folders that it lists, this one too, as words to watch."""
+        names = [word for word in self.words if not word.startswith("-")]
+        if self.program == "find":
+            names = self.words[:next((at for at, one in enumerate(self.words) if one[:1] in ("-", "!")), None)]
+        patterns = self.found_names() if self.program == "find" else []
+        is_deep = self.program not in ("ls", "dir") or any(re.fullmatch(r"-\w*R\w*", one) for one in self.words)
+        for name in names or ["."]:
+            place = os.path.normpath(os.path.join(self.folder, name))
+            if os.path.isdir(place) and is_deep:
+                yield from (f"{place}{watched.BELOW}/{one}" for one in patterns) if patterns else [
+                    place + watched.BELOW]
+            elif os.path.isdir(place) and "-d" not in self.words:
+                yield place
+
+    def is_recursive_grep(self):
+        """Whether it reads all files of the folders that it names."""
+        return self.program == "grep" and any(re.fullmatch(r"-\w*[rR]\w*|--recursive", one) for one in self.words)
+
+    def found_names(self):
+        """The patterns of the names that `find` finds; none where it finds others, too."""
+        if any(word in ("!", "-not", "-prune") for word in self.words):
+            return []
+        found = [word for before, word in zip(self.words, self.words[1:]) if before == "-name"]
+        return found if all(re.fullmatch(r"[^/\s]+", one) for one in found) else []
+
+    def reads(self):
+        """The words to watch by what this command is."""
+        if self.program in LISTING:
+            yield from self.listed()
+        for word in self.operands():
+            place = os.path.normpath(os.path.join(self.folder, word)) if word else ""
+            if watched.is_pattern(word) and self.program not in NAMING and not re.search(r"\s", word):
+                yield watched.CONTENT + place
+            elif self.is_recursive_grep() and os.path.isdir(place):
+                yield watched.CONTENT + place + watched.BELOW
+            elif self.program in READING and not os.path.exists(place) and PLAIN_NAME.fullmatch(word):
+                yield place
+
+
+def simple_commands(command):
+    """The simple commands in a command, each with the folder in which it runs as far as `cd` tells it."""
+    folder, found = "", []
+    for words in shell_text.simple_commands(command):
+        one = Simple(words, folder)
+        found.append(one)
+        if one.program == "cd" and one.operands():
+            folder = os.path.join(folder, one.operands()[0])
+    return found
+
+
+def counts(name, is_lone):
+    """Whether a name may be that of a file or a folder that a value hangs on: not this folder itself, which is watched
+    where it is listed, nor by a whole path what is large or no plain file, as programs and devices. One that is absent
+    now counts where it has the form of a file's name; `is_lone` says that it is looked for in this folder."""
+    if os.path.isabs(name) and not name.startswith(os.getcwd() + os.sep):
+        return os.path.isfile(name) and os.path.getsize(name) <= MOST
+    if not os.path.lexists(name):
+        return is_lone and ABSENT.fullmatch(name) is not None
+    return os.path.relpath(name).strip("./") != ""
+
+
+def word_of(name):
+    """The word to watch for a name that a command has."""
+    return name.rstrip("/") + watched.BELOW if os.path.isdir(name) else name
+
+
+def reads_of(command):
+    """The words to watch for a command, each once."""
+    simple, found = simple_commands(command), {}
+    folders = dict.fromkeys(["", *(one.folder for one in simple)])
+    is_listed_only = bool(simple) and all(one.program in ("ls", "dir", "cd") for one in simple)
+    for folder in folders:
+        for word in filter(None, BREAKS.split(command)):
+            name = os.path.join(folder, word)
+            if watched.is_pattern(word):
+                found[name] = True
+            elif counts(name, not folder) and not (is_listed_only and os.path.isdir(name)):
+                found[word_of(name)] = True
+    for one in simple:
+        found.update(dict.fromkeys(one.reads()))
+    found.update(dict.fromkeys(f"{watched.ENVIRONMENT}{name}" for name in of_the_shell(command)
+                               if name in os.environ and name != "PWD"))
+    if "git" in BREAKS.split(command):
+        found.update(dict.fromkeys(of_git(command)))
+    return [word for word in found if not re.search(r"[\s,]", word)]
+
+
+def of_git(command):
+    """The words to watch for a command of git: what is checked out, its branch, the tags; the list of files, and which
+    have changes, where it asks for that."""
+    program = which("git")
+    words = ["rev-parse", "--git-dir", "--git-common-dir", "--symbolic-full-name", "HEAD"]
+    told = run([program, *words])[1].split("\n") if program else []
+    if len(told) < 3 or not told[0]:
+        return [".git"]
+    own, common, branch = told[:3]
+    found = [os.path.join(own, "HEAD"), os.path.join(common, "packed-refs"), f"{common}/refs/tags{watched.BELOW}"]
+    found += [os.path.join(common, branch)] if branch.startswith("refs/") else []
+    found += [os.path.join(own, "index")] if OF_FILES.search(command) else []
+    found += [watched.GIT] if OF_CHANGES.search(command) else []
+    return found
+
+
+def reads_of_calls(patterns, commands, links, contents):
+    """The words to watch for what calls were asked for: the patterns of `wildcard`, the commands of `shell`, the names
+    of `realpath`, and what `file` reads."""
+    found = [*" ".join(patterns).split(), *(watched.LINK + word for word in " ".join(links).split()),
+             *(one.strip("< \t") for one in contents), *(word for one in commands for word in reads_of(one))]
+    return list(dict.fromkeys(one for one in found if re.fullmatch(r"[^\s,]+", one)))

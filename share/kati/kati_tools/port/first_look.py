@@ -1,0 +1,92 @@
+"""What make is asked before anything is changed: which makefiles it reads and makes, its commands, and the values of
+what kati refuses."""
+import os
+
+from ..base import files
+from ..make import make_run, recipe_shell
+from . import constructs, dependency_includes, frozen_values, make_probes
+from .stuck import MakeFails, OtherShell
+
+
+def look(port):
+    """Has make make its includes, finds the makefiles, and asks for the values of what kati refuses."""
+    port.load(port.makefile)
+    first = port.copy.times()
+    port.first.shell = make_run.shell_in(port.lines())
+    port.run.use_shell(port.first.shell)
+    refuse_other_shells(port)
+    before = port.copy.times()
+    port.first.by_shell = sorted(set(before) - set(first))
+    make_includes(port, before, changed(first, before))
+    port.first.commands = port.run.commands()
+    if port.first.commands[0]:
+        raise MakeFails(port.first.commands[0], port.first.commands[2])
+    constructs.mend_read(port)
+    port.probes = asked_probes(port)
+    for one in port.menders.values():
+        one.look()
+    texts = [file.before for file in port.ported.values()]
+    port.values.taken = "\n".join([*texts, files.read(frozen_values.NAME) or ""])
+
+
+def make_includes(port, before, by_shell):
+    """Has make make its includes, where files had these times `before`, and loads what it reads; `by_shell` are the
+    files that commands change each time."""
+    status, _, said = port.run.make_includes()
+    if status:
+        raise MakeFails(status, said)
+    told = port.run.value("$(MAKEFILE_LIST)")
+    port.first.read = {os.path.normpath(os.path.relpath(name)) for name in (told or "").split()}
+    load_read(port)
+    port.first.times = after = port.copy.times()
+    sort_made(port, sorted(set(after) - set(before)), sorted(changed(before, after) - by_shell))
+    if after != before:
+        port.run.forget_calls()
+        refuse_other_shells(port)
+
+
+def refuse_other_shells(port):
+    """Stops where make would run a line of a recipe while it is asked."""
+    try:
+        port.run.refuse_other_shells()
+    except recipe_shell.OtherShell as found:
+        raise OtherShell(str(found)) from None
+
+
+def load_read(port):
+    """Loads what make reads, as it is once make has written anew what has a rule and is out of date."""
+    port.ported.clear()
+    for name in [port.makefile, *sorted(port.first.read)]:
+        port.load(name)
+
+
+def asked_probes(port):
+    """The probes, of which make told the values. Where a macro has several, each reference to it gets a probe."""
+    ported, unsettled = list(port.ported.values()), {}
+    while True:
+        probes = make_probes.Probes(ported, unsettled)
+        probes.ask(ported, port.run, port.room)
+        more = probes.still_unsettled(ported)
+        if more == unsettled:
+            return probes
+        unsettled = more
+
+
+def sort_made(port, new, others):
+    """Of the files that make made before anything, or wrote anew: those that the makefiles need, and the
+    dependencies, which aren't there when kati reads."""
+    named = [name for name in {*port.first.read, *new} if dependency_includes.NAMES.search(name)]
+    dependencies = {name for name in named if port.copy.own(name) and dependency_includes.is_one(name)}
+    new_ones, remade = ([name for name in names if name not in dependencies] for names in (new, others))
+    remade = [name for name in remade if files.content(name) != files.content(port.copy.real_path(name))]
+    if not port.first.read.isdisjoint([*new_ones, *remade]):
+        port.first.made, port.first.remade = new_ones, remade
+    there = {name for name in dependencies if os.path.isfile(name)}
+    port.first.hidden = sorted(there.union(new).difference(port.first.made))
+    for name in port.first.hidden:
+        port.ported.pop(name, None)
+
+
+def changed(before, after):
+    """The files of which the times, by their names, aren't those of before."""
+    return {name for name, time in before.items() if after.get(name, time) != time}

@@ -1,0 +1,59 @@
+"""Names with wildcards, which are for kati the names that they fit."""
+import re
+
+from ..makefile import statements
+from . import freezing, frozen_values
+
+WILD = re.compile(r"[*?\[]")
+# What a shell is to read, as `sed 's/[ /]/-/g'` between backquotes, is no pattern of files.
+OF_THE_SHELL = frozenset("'\"`")
+
+
+def freeze_words(port, line, name):
+    """Replaces the words of a rule line that come to a name with a wildcard by what the names fit."""
+    if line.is_body:
+        return False
+    rule, before = statements.Rule(line.joined), len(line.edits)
+    words = [word for word in dict.fromkeys(rule.targets + rule.needs) if "$" in word and word in line.text]
+    for word, names in zip(words, port.run.values(words)):
+        if name in map(plain_name, (names or "").split()):
+            freeze_word(port, line, word, f"{frozen_values.NAMES}{names}", frozen_values.with_fitting(names))
+    return len(line.edits) > before
+
+
+def freeze_word(port, line, word, source, value):
+    """Replaces a word of a line by a macro that is this value for kati, from this source."""
+    place = line.text.index(word), line.text.index(word) + len(word)
+    if place not in line.edits:
+        line.edits[place] = f"$({port.values.add(line, 'names', word, value, source)})"
+        port.tell("frozen", "names with wildcards")
+
+
+def plain_name(name):
+    """A name as kati has it, without `./` before it."""
+    return re.sub(r"^(\./+)+(?=.)", "", name)
+
+
+def freeze_name(port, line, name):
+    """Replaces a name with a wildcard in a line by a macro; answers whether it stands there, as a pattern of files."""
+    found = re.search(rf"(?<![^\s:=]){re.escape(name)}(?![^\s:;|])", line.text)
+    if not found or found.span() in line.edits or not OF_THE_SHELL.isdisjoint(name):
+        return False
+    names = port.fitting.get(name) or port.run.value(f"$(wildcard {name})") or ""
+    macro = port.values.add(line, freezing.wanted_name(line, ""), name, names, f"$(wildcard {name})")
+    line.edits[found.span()] = f"$({macro})"
+    port.tell("frozen", "names with wildcards")
+    return True
+
+
+def freeze_includes(port, lines):
+    """Replaces the words of include lines that come to names with wildcards by what the names fit, which may be
+    nothing; answers whether there are any."""
+    words = [(line, word) for line in lines for word in line.says.names if word in line.text]
+    told = zip(words, port.run.values([word for _, word in words]))
+    meant = [(line, word, f"$(wildcard {' '.join(names.split())})") for (line, word), names in told
+             if names and all(map(WILD.search, names.split()))]
+    before = [len(line.edits) for line in lines]
+    for (line, word, source), value in zip(meant, port.run.values([source for _, _, source in meant])):
+        freeze_word(port, line, word, source, value or "")
+    return before != [len(line.edits) for line in lines]

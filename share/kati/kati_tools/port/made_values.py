@@ -1,0 +1,55 @@
+"""Calls of `shell` in recipes that read a file which the build makes.
+
+make runs such a call when it comes to the recipe, and so after what the recipe needs is made; a value that is asked for
+before the build would be another one. For kati the recipe's own shell runs the command."""
+import os
+import re
+
+from .mender import Mender
+
+# What parts the words of a shell's command that may name files.
+BETWEEN_WORDS = re.compile(r"[\s;|&()<>`'\"=$,]+")
+
+
+def named_by(command):
+    """The names that the words of a shell's command may stand for."""
+    return {os.path.normpath(word) for word in BETWEEN_WORDS.split(command) if word}
+
+
+def is_read_late(line):
+    """Whether make may come to what a line holds after it has begun to build: to recipes, and to what deferred macros
+    have."""
+    assignment = line.assignment()
+    return line.is_tab or line.is_body or assignment is not None and assignment[1] in ("=", "+=", "?=")
+
+
+class MadeValues(Mender):
+    """The calls of a port that were frozen, and that read what the build makes; `told` has a line for each of which
+    kati has the value of before the build."""
+
+    def __init__(self, port):
+        super().__init__(port)
+        self.seen, self.told = set(), []
+
+    def settle(self, translation):
+        """Gives such calls to the recipe's shell; answers whether that changes the makefile."""
+        made = {os.path.normpath(name) for one in translation.statements if one.command is not None
+                for name in one.outputs}
+        return any([self.settle_call(call, made) for line in self.port.lines() if is_read_late(line) and line.edits
+                    for call in self.port.probes.of(line) if call.kind == "shell"])
+
+    def settle_call(self, call, made):
+        """The same for a call, where it is frozen."""
+        probes = self.port.probes
+        read = {name for command in probes.asked_behind(call, probes.commands) for name in named_by(command)} & made
+        span = next((one for one in call.chain if one in call.line.edits), None)
+        if not read or span is None or call in self.seen:
+            return False
+        self.seen.add(call)
+        if span == call.chain[0] and self.port.freezer.by_shell(call, call.line.edits):
+            return True
+        file = next(one.name for one in self.port.ported.values() if call.line in one.lines)
+        self.told.append(f"{file}:{call.line.number}: {call.text()} reads {', '.join(sorted(read))}, which the build "
+                         "makes; kati has what it gives before the build")
+        self.port.note(self.told[-1])
+        return False

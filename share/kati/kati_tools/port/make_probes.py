@@ -1,0 +1,285 @@
+"""Probes: what make makes of each call that kati refuses, and of each reference round it, told in its place.
+
+`$(call kati_probe,N,CALL)` gives what CALL gives, and tells it. So one run of make tells all of them, in deferred
+macros, conditions, recipes and bodies of `define` as well, each as often as make asks for it."""
+import re
+from typing import NamedTuple
+
+from ..base import files
+from ..makefile import references
+from ..makefile.forms import refused_function
+from ..makefile.references import BLANKS
+from ..make.make_run import ANSWER, END, answered
+from . import read_lines
+
+AUTOMATIC = {mark + part for mark in "@<^+?*|%" for part in ("", "D", "F")}
+# Macros of make's own that are empty for kati, and that no assignment can give it: the list of makefiles grows, and by
+# the version the makefile tells the two apart.
+OF_MAKE = {"MAKEFILE_LIST", "MAKE_VERSION"}
+
+
+class Asking(NamedTuple):
+    """Calls of which it is told what they are asked for: the function, what its argument begins with, where the numbers
+    of such probes begin, and the function that hands the text on."""
+
+    function: str
+    beginning: str
+    first: int
+    handing: str
+
+    def is_one(self, reference):
+        """Whether a reference is such a call."""
+        return reference.function == self.function and reference.argument.startswith(self.beginning)
+
+
+# What hands the text on takes commas as they are, and in a command blanks too.
+ASKED = (Asking("wildcard", "", 1_000_000, "$(strip "), Asking("shell", "", 2_000_000, "$(subst ,,"),
+         Asking("realpath", "", 3_000_000, "$(strip "), Asking("file", "<", 4_000_000, "$(subst ,,"))
+# A probe tells its number, what the value depends on, and the value.
+PROBE = f"kati_probe = $(info {ANSWER}$1 $3|$2{END})$2\nkati_number_sign := \\#\n"
+
+
+def is_numbered(reference):
+    """Whether a reference is to an argument of a `call`."""
+    return (reference.name or "").isdigit()
+
+
+def is_automatic(reference):
+    """Whether a reference is to an automatic macro."""
+    return reference.name in AUTOMATIC
+
+
+def is_eval(reference):
+    """Whether a reference is an `eval`."""
+    return reference.function == "eval"
+
+
+def is_in(form, text):
+    """Whether a text holds a reference of which `form` says so."""
+    return any(map(form, references.references(text)))
+
+
+def function_of(text):
+    """The function that a text begins to call; None of another text."""
+    found = references.beginning(text)
+    return found and found.function
+
+
+def bound_names(text, span):
+    """The macros that each `foreach` round a reference binds."""
+    found = []
+
+    def look(outer):
+        for one in outer:
+            if one.start <= span[0] and span[1] <= one.end and (one.start, one.end) != span:
+                found.extend([one.arguments()[0].strip(BLANKS)] if one.function == "foreach" else [])
+                look(one.inner)
+
+    look(references.forest(text))
+    return found
+
+
+def key_of(line, span):
+    """The references in a reference that tell one use of its line from another: arguments of a `call`, what a loop
+    binds, and automatic macros; as a text, empty where it means the same everywhere."""
+    inner, bound = references.references(line.text[span[0]:span[1]]), bound_names(line.text, span)
+    found = [one for form in (is_numbered, is_automatic, lambda one: one.name in bound) for one in inner if form(one)]
+    return "-".join(dict.fromkeys(one.text if one.substitution is None else f"$({one.name})" for one in found))
+
+
+class Call:
+    """A call that kati refuses: its kind, and where it stands in its line, with the references round it, from itself
+    outwards."""
+
+    def __init__(self, line, chain, kind):
+        self.line, self.chain, self.kind = line, chain, kind
+
+    def text(self):
+        start, end = self.chain[0]
+        return self.line.text[start:end]
+
+
+def calls_in(line, kind_of):
+    """The calls of a line for which `kind_of` answers a kind; those that stand in others are the others' own."""
+    found = []
+
+    def look(inner, outer):
+        for one in inner:
+            span = (one.start, one.end)
+            kind = kind_of(one)
+            if kind:
+                found.append(Call(line, [span, *outer], kind))
+            else:
+                look(one.inner, [span, *outer])
+
+    look(references.forest(line.text[:line.expanded_length()]), [])
+    return found
+
+
+def refused_macros(ported):
+    """Macros whose value holds a refused call that depends on `$1`: each `call` of one counts as refused."""
+    found, is_more = {}, True
+    lines = [(name, line) for file in ported for name, line in file.definitions()
+             if is_in(is_numbered, line.text) and not is_in(is_eval, line.text)]
+    while is_more:
+        is_more = False
+        for name, line in lines:
+            calls = [] if name in found else calls_in(line, lambda one: kind_of(one, found))
+            if calls:
+                found[name], is_more = calls[0].kind, True
+    return found
+
+
+def kind_of(reference, refused, unsettled=()):
+    """The kind of a reference that kati refuses or that is empty for it; None of another one."""
+    if reference.name in OF_MAKE:
+        return reference.name
+    if refused_function(reference):
+        return reference.function
+    if reference.name in unsettled:
+        return unsettled[reference.name]
+    arguments = reference.arguments() if reference.function == "call" else []
+    return refused.get(arguments[0].strip(BLANKS)) if len(arguments) > 1 else None
+
+
+class Probes:
+    """The calls of makefiles, by their lines, and the values that make told of them. References to the macros
+    `unsettled`, which have the kinds of the calls in them, count as such calls."""
+
+    def __init__(self, ported, unsettled=None):
+        self.refused, self.unsettled = refused_macros(ported), unsettled or {}
+        self.calls, self.numbers, self.values = {}, {}, {}
+        # What each call of `wildcard`, `shell` and their kin is asked for is told as well, by numbers of their own.
+        self.asked = [{} for _ in ASKED]
+        self.patterns, self.commands, self.links, self.contents = self.asked
+        self.read = read_lines.ReadLines(ported)
+        for line in (line for file in ported for line in file.lines):
+            self.add(line)
+
+    def add(self, line):
+        """Adds a line's calls; answers them."""
+        found = [] if line.joined.lstrip().startswith("#") else self.calls_of(line)
+        if found:
+            self.calls[line] = found
+        for call in found:
+            for span in call.chain:
+                self.numbers.setdefault((line, *span), len(self.numbers))
+            for numbers, asking in zip(self.asked, ASKED):
+                if asking.is_one(references.only(call.text())):
+                    numbers[call] = asking.first + len(numbers)
+        return found
+
+    def calls_of(self, line):
+        """The calls in a line."""
+        return calls_in(line, lambda one: kind_of(one, self.refused, self.unsettled))
+
+    def still_unsettled(self, ported):
+        """The macros of which a call has several values, as one that asks by another macro which changes meanwhile;
+        with those that were so before."""
+        found = dict(self.unsettled)
+        for name, line in (one for file in ported for one in file.definitions() if "$" not in one[0]):
+            for call in self.of(line):
+                counts = [len(self.told(line, span)) for span in call.chain]
+                if max(counts) > 1 and 1 not in counts and not is_in(is_numbered, line.text):
+                    found.setdefault(name, call.kind)
+        return found
+
+    def of(self, line):
+        """The refused calls of a line."""
+        return self.calls.get(line, [])
+
+    def pairs(self, line, span):
+        """What the reference at this place depends on, and its value, for each time that make asked for it."""
+        found = self.values.get(self.numbers.get((line, *span)), [])
+        return [tuple(one.split("|", 1)) for one in found]
+
+    def asked_of(self, call):
+        """The patterns that a wildcard, the commands that a shell was asked for, and so on, each once."""
+        number = next((numbers[call] for numbers in self.asked if call in numbers), None)
+        return dict.fromkeys(one.split("|", 1)[1] for one in self.values.get(number, []))
+
+    def asked_behind(self, call, numbers):
+        """What a call asks for by calls of one kind, which have these numbers; of a macro that has such calls, rather
+        too much."""
+        if any(call in kind for kind in self.asked):
+            return self.asked_of(call) if call in numbers else {}
+        is_plain = references.only(call.text()).name is not None
+        called = [one for one in numbers if is_in(is_numbered, one.text()) != is_plain and not one.line.is_tab]
+        return dict.fromkeys(text for one in called for text in self.asked_of(one))
+
+    def asked_by(self, call):
+        """The pattern that a wildcard was asked for, by what it depends on; none where that doesn't settle it."""
+        found = {}
+        for one in self.values.get(self.patterns.get(call), []):
+            key, pattern = one.split("|", 1)
+            if found.setdefault(key, pattern) != pattern:
+                return {}
+        return found
+
+    def told(self, line, span):
+        """The values of the reference at this place, each once; none where make never asked for it."""
+        return list(dict.fromkeys(value for _, value in self.pairs(line, span)))
+
+    def table(self, line, span):
+        """The values by what they depend on; None where that doesn't settle them."""
+        found = {}
+        for key, value in self.pairs(line, span):
+            if found.setdefault(key, value) != value or not re.fullmatch(r"[\w./+@-]+", key) or "\n" in value:
+                return None
+        return found or None
+
+    def probed(self, line):
+        """The text of a line with its probes."""
+        marks = {}
+        for span in dict.fromkeys(span for call in self.of(line) for span in call.chain):
+            if function_of(line.text[span[0]:span[1]]) != "eval":
+                number = self.numbers[(line, *span)]
+                # What closes comes before what opens; of two at one place the inner one closes, the outer one opens,
+                # first.
+                marks.setdefault(span[1], []).append((0, -span[0], f",{key_of(line, span)})"))
+                marks.setdefault(span[0], []).append((1, -span[1], f"$(call kati_probe,{number},"))
+        for call in self.of(line):
+            self.mark_asked(call, marks)
+        text, last = "", 0
+        for at in sorted(marks):
+            text += line.text[last:at] + "".join(mark for _, _, mark in sorted(marks[at]))
+            last = at
+        return text + line.text[last:]
+
+    def mark_asked(self, call, marks):
+        """Adds a probe of what a call is asked for."""
+        for numbers, asking in zip(self.asked, ASKED):
+            if call in numbers:
+                start, end = call.chain[0]
+                first = start + references.only(call.text()).spans()[0][0]
+                marks.setdefault(first, []).append((1, 0, f"$(call kati_probe,{numbers[call]},{asking.handing}"))
+                marks.setdefault(end - 1, []).append((0, 0, f"),{key_of(call.line, call.chain[0])})"))
+
+    def asked_again(self, line):
+        """A line that assigns by `!=`, with a probe round its command; None for another line."""
+        name, operator, value = line.assignment() or ("", "", "")
+        if operator != "!=":
+            return None
+        number = self.numbers.setdefault((line, 0, 0), len(self.numbers))
+        # Such a macro is deferred. What the command wrote is a value whole, whatever it has of `#`.
+        probe = f"$(call kati_probe,{number},$(shell {value}),)"
+        return f"$(eval {name} = $(subst $(kati_number_sign),\\$(kati_number_sign),{probe}))"
+
+    def ask(self, ported, run, room):
+        """Puts the probes into the files, asks make once, and takes them out again."""
+        self.read = read_lines.ReadLines(ported)
+        status, found = self.answers(ported, run, room, self.read.marked)
+        if status:
+            status, found = self.answers(ported, run, room, lambda line, text: text)
+        self.values, self.read.told = found, set(found)
+        for file in ported:
+            files.replace(file.name, file.before, room)
+
+    def answers(self, ported, run, room, marked):
+        """make's status, and what it tells by these files."""
+        for file in ported:
+            text = file.flat(lambda line: marked(line, self.asked_again(line) or self.probed(line)))
+            head = PROBE if file.name == run.makefile else ""
+            files.replace(file.name, (head + text).replace("\n", file.ending), room)
+        status, out, _ = run.ask()
+        return status, answered(out)

@@ -1,0 +1,30 @@
+"""What mends a construct and has to keep what it has found out: what each such class has."""
+
+
+class Mender:
+    """What mends one construct, or several of one kind, in a port; here, as one that has nothing to do."""
+
+    def __init__(self, port):
+        self.port = port
+
+    def look(self):
+        """Asks make, before anything is changed."""
+
+    def begin(self):
+        """Mends what is known to be refused, before kati is asked."""
+
+    def settle(self, translation):
+        """Mends what kati takes otherwise than make, by its translation; answers whether that changes the makefile."""
+        del translation
+        return False
+
+    def end(self):
+        """Counts what was done, once nothing more is mended."""
+
+    def head(self):
+        """What kati gets at the beginning of the makefile."""
+        return []
+
+    def tail(self):
+        """What kati gets at the end of the makefile."""
+        return []

@@ -1,0 +1,17 @@
+"""What tells of the run, as `CURDIR`: kati is given make's value of it."""
+from ..makefile import syntax
+from ..build import translating
+
+# What tells of the run, and is asked for where a makefile names it.
+RUN = ("CURDIR", "MAKECMDGOALS", "MAKELEVEL", "MAKE_COMMAND", "MAKE_HOST", "PWD", ".FEATURES", ".INCLUDE_DIRS")
+
+
+def ask(port):
+    """Asks for what tells of the run, where the makefiles name it."""
+    asked = syntax.asked_for(port.values.taken)
+    names = [name for name in RUN if name in asked]
+    told = port.run.values([f"$({name})" for name in names]) if names else []
+    assigned = {name for file in port.ported.values() for name, _ in file.definitions()}
+    # Of another run there are goals, where this one has none.
+    port.for_kati.of_the_run = {name: value or "" for name, value in zip(names, told)
+                                if (value or name == translating.GOALS) and name not in assigned}

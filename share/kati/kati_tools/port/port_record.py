@@ -1,0 +1,76 @@
+"""What a port of kati-build came from, and whether all of that is as it was: then so is the port."""
+import hashlib
+import json
+import os
+
+from ..base import files
+from ..build import translating
+from . import watched
+from ..base.programs import SHARE, Stop, bytes_of, find_kati
+
+FOLDER, RECORD = "ported", "ported.json"
+
+
+def sum_of_tools(kati):
+    """What tells these tools, and kati, from others, which may port otherwise."""
+    found = hashlib.sha256()
+    for folder, inner, names in os.walk(SHARE):
+        inner.sort()
+        for name in sorted(name for name in names if name.endswith((".py", ".mk"))):
+            found.update(bytes_of(f"{name}\0{files.read(os.path.join(folder, name))}\0"))
+    program = os.stat(find_kati(kati))
+    return f"{found.hexdigest()} {program.st_size} {program.st_mtime_ns}"
+
+
+class Record:
+    """What a port came from, and what it wrote, in the folder `room`."""
+
+    # What a kept one has, with the types.
+    FORM = {"words": list, "place": str, "tools": str, "watched": dict, "written": dict, "folder": str, "report": list,
+            "taken": list}
+
+    def __init__(self, asked, room):
+        self.asked, self.room, self.path = asked, room, os.path.join(room, RECORD)
+        self.makefile = asked.makefile or translating.default_makefile()
+        if self.makefile is None:
+            raise Stop("no makefile", 2)
+
+    def words(self):
+        """The makefile and the words of the command line."""
+        return [self.makefile, *self.asked.words]
+
+    def has_these_words(self, kept):
+        """Whether a kept record is for these words."""
+        return (kept["words"], kept.get("depth")) == (self.words(), self.asked.depth)
+
+    def given(self):
+        """What a port is for: the makefile, the words, the folder and the tools."""
+        return {"words": self.words(), "depth": self.asked.depth,
+                "place": os.path.realpath("."), "tools": sum_of_tools(self.asked.kati)}
+
+    def kept(self):
+        """The record as it is kept; None where there is none of this form."""
+        try:
+            found = json.loads(files.read(self.path) or "null")
+        except ValueError:
+            return None
+        is_right = isinstance(found, dict) and all(isinstance(found.get(key), one) for key, one in self.FORM.items())
+        return found if is_right and {"differing", "difference"} <= set(found) else None
+
+    def keep(self, record):
+        """Keeps a record."""
+        files.keep(self.path, json.dumps(record, indent=1) + "\n", self.room)
+
+    def changed(self, kept):
+        """What to say of the first thing that isn't as it was, None where all is."""
+        now = self.given()
+        if kept["place"] != now["place"]:
+            return f"this folder was {kept['place']}"
+        if not self.has_these_words(kept):
+            return "other words are given"
+        if kept["tools"] != now["tools"]:
+            return "kati or these tools are others"
+        for name, total in kept["written"].items():
+            if watched.sum_of(os.path.join(self.room, FOLDER, name)) != total:
+                return f"{os.path.join(self.room, FOLDER, name)} isn't as it was written"
+        return watched.first_changed(kept["watched"])

@@ -1,0 +1,45 @@
+"""The rules that make has by itself, and that a makefile takes back: by a rule without a recipe, as `%: %.c`, by an
+empty .SUFFIXES or by -r in MAKEFLAGS. kati gets the list of them for builtin-rules.mk."""
+import os
+import re
+
+from ..base import files
+from ..base.programs import SHARE
+from ..build import translating
+from ..make import command_lists, make_run
+from . import port_report
+from .mender import Mender
+
+# What may take them back.
+MAY_TAKE_BACK = re.compile(r"^ *(?:%[^:=\n]*:[ \t]*%|\.SUFFIXES\b|MAKEFLAGS\b.*r)|--no-builtin-rules", re.MULTILINE)
+KNOWN = re.compile(r"\(filter ([^\s,]+),")
+# The rules of make's database, by what is made and from what; one that is taken back has no recipe.
+LISTED = re.compile(r"^%(\S*): %(\S+)\n#  recipe", re.MULTILINE)
+
+
+class TakenBack(Mender):
+    """Those that make hasn't, once kati's commands aren't make's."""
+
+    def __init__(self, port):
+        super().__init__(port)
+        self.is_settled, self.suffixes = False, []
+
+    def settle(self, translation):
+        """Asks make for its rules; answers whether some are taken back."""
+        texts = [file.before for file in self.port.ported.values()]
+        if self.is_settled or not any(map(MAY_TAKE_BACK.search, texts)):
+            return False
+        self.is_settled = True
+        if command_lists.alone(port_report.commands_of(translation.statements), self.port.first.commands[1]):
+            self.suffixes = self.asked()
+        return bool(self.suffixes)
+
+    def asked(self):
+        """The suffixes of kati's rules that make hasn't."""
+        known = KNOWN.findall(files.read(os.path.join(SHARE, translating.RULES)))
+        told = {f"{need}{target}" for target, need in LISTED.findall(self.port.run.database(make_run.NO_GOAL))}
+        return [one for one in known if one not in told]
+
+    def tail(self):
+        """What kati gets at the end of the makefile."""
+        return [f"KATI_TAKEN_BACK = {' '.join(self.suffixes)}"] if self.suffixes else []

@@ -1,0 +1,55 @@
+"""The packages of the tools: what each may import."""
+import ast
+import unittest
+
+from support import TOP
+
+PACKAGES = ("base", "makefile", "make", "build", "port")
+TOOLS = TOP / "share/kati/kati_tools"
+
+
+def imported(path):
+    """The packages that a module imports from by relative imports, each with its line."""
+    for node in ast.walk(ast.parse(path.read_text())):
+        if isinstance(node, ast.ImportFrom) and node.level:
+            own = node.level == 1
+            yield (path.parent.name if own else node.module.split(".")[0]), node.lineno
+
+
+def modules_imported(path):
+    """The modules that a module imports by relative imports, wherever these stand in it."""
+    for node in ast.walk(ast.parse(path.read_text())):
+        if isinstance(node, ast.ImportFrom) and node.level:
+            package = ".".join(filter(None, [path.parent.name if node.level == 1 else None, node.module]))
+            yield from [f"{package}.{one.name}" for one in node.names]
+            yield package
+
+
+class Packages(unittest.TestCase):
+    """Each module stands in a package, and imports its own and those before it."""
+
+    def test_each_module_stands_in_a_package(self):
+        self.assertEqual([path.name for path in sorted(TOOLS.glob("*.py"))], ["__init__.py"])
+        self.assertEqual({path.parent.name for path in TOOLS.glob("*/*.py")}, set(PACKAGES))
+
+    def test_packages_import_those_before_them(self):
+        seen = 0
+        for path in sorted(TOOLS.glob("*/*.py")):
+            for package, line in imported(path):
+                seen += 1
+                with self.subTest(f"{path.relative_to(TOOLS)}:{line}"):
+                    self.assertIn(package, PACKAGES[:PACKAGES.index(path.parent.name) + 1])
+        self.assertGreater(seen, 100)
+
+    def test_no_module_imports_itself_by_others(self):
+        names = {f"{path.parent.name}.{path.stem}": set(modules_imported(path)) for path in TOOLS.glob("*/*.py")}
+        while True:
+            leaves = {name for name, needed in names.items() if names.keys().isdisjoint(needed)}
+            if not leaves:
+                break
+            names = {name: needed for name, needed in names.items() if name not in leaves}
+        self.assertEqual(names, {})
+
+
+if __name__ == "__main__":
+    unittest.main()

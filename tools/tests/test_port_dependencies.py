@@ -1,0 +1,131 @@
+"""Header dependencies and includes that make makes, as kati-port and kati-build --port have them."""
+from support import Tree, needs
+
+HEADER = {"a.h": "#define A 1\n", "a.c": '#include "a.h"\nint main(void) { return A; }\n'}
+MOVED = """prog: a.o
+	cc -o $@ a.o
+a.o: a.c
+	cc -MMD -MF a.d.tmp -MT $@ -c -o $@ $<
+	@touch a.d.tmp
+	@if cmp a.d.tmp a.d > /dev/null 2> /dev/null; then \\
+		rm -f a.d.tmp; \\
+	else \\
+		mv a.d.tmp a.d; \\
+	fi
+-include a.d
+"""
+REWRITTEN = """prog: a.o
+	cc -o $@ a.o
+a.o: a.c
+	cc -MD -c -o $@ $<
+	@sed -e "s,^,,"  a.d > a.P; rm -f a.d
+-include a.P
+"""
+BY_RULE = """prog: a.o
+	cc -o $@ a.o
+.depend: a.c
+	cc -MM a.c > .depend
+include .depend
+"""
+WRITTEN = "OBJS = a.o\nprog: $(OBJS)\n\tcc -o $@ $^\n%.o: %.c\n\tcc -MMD -MP -c -o $@ $<\n-include $(OBJS:.o=.d)\n"
+MADE = ("all: out\ninclude gen.mk\nV := $(shell echo 1)\ngen.mk: gen.in\n\tsed s/^/GEN=/ gen.in > $@\n"
+        "out:\n\techo $(GEN) > $@\n")
+
+
+@needs("kati", "kati-asked", "make", "ninja", "cc")
+class Dependencies(Tree):
+    """Builds by kati-build --port."""
+
+    def build(self, *words):
+        """What kati-build --port says, which ends well."""
+        ran = self.tool("kati-build", "--port", *words)
+        self.assertEqual(ran.status, 0, ran.all)
+        return ran.all
+
+    def assert_quiet(self):
+        """Tries that the second of two runs has nothing to do."""
+        self.ninja()
+        self.assertEqual(self.ninja(), "ninja: no work to do.\n")
+
+    def test_a_changed_header_is_seen(self):
+        for name, text in (("moved", MOVED), ("rewritten", REWRITTEN), ("by a rule", BY_RULE), ("written", WRITTEN)):
+            with self.subTest(name):
+                self.put_all({"Makefile": text, **HEADER})
+                self.build()
+                self.assert_quiet()
+                self.put("a.h", f"#define A {len(name)}\n")
+                self.ninja()
+                self.assertEqual(self.run_in("./prog").status, len(name))
+                self.assert_quiet()
+
+    def test_files_of_the_compiler_that_make_includes_stay_for_make(self):
+        self.put_all({"Makefile": WRITTEN, **HEADER})
+        self.build()
+        self.assertIn("a.h", self.read("a.d"))
+        self.put("a.h", "#define A 7\n")
+        self.assertIn("-o a.o a.c", self.run_in("make").out)
+        self.assertEqual(self.run_in("./prog").status, 7)
+
+    def test_ninja_reads_what_the_compiler_writes_and_kati_does_not(self):
+        self.put_all({"Makefile": WRITTEN, **HEADER})
+        self.build()
+        self.ninja()
+        self.put("a.h", "#define A 2\n")
+        self.assertNotIn("translating", self.ninja())
+
+    def test_an_include_of_a_wildcard_is_no_header_dependency(self):
+        self.put_all({"Makefile": "include mk/*.mk\nout: in ; cat in extra $(MORE) > $@\n", "mk/a.mk": "out: extra\n",
+                      "in": "1\n", "extra": "1\n"})
+        self.build()
+        self.put("extra", "2\n")
+        self.ninja()
+        self.assertEqual(self.read("out"), "1\n2\n")
+        self.put_all({"mk/b.mk": "MORE = $(shell echo more)\n", "more": "3\n"})
+        self.ninja()
+        self.assertEqual(self.read("out"), "1\n2\n3\n")
+
+    def test_lines_that_end_in_cr_lf_and_an_include_that_is_made(self):
+        self.put("Makefile", "all: out .depend\r\nout:\r\n\techo hi > out\r\n.depend:\r\n\techo \"x.o: x.h\" > $@\r\n"
+                             "include .depend\r\n")
+        for _ in range(2):
+            self.build()
+            self.assert_quiet()
+        self.assertEqual(self.read("out"), "hi\n")
+
+    def test_an_include_that_make_makes_stays_a_statement(self):
+        for is_by_make in (False, True):
+            with self.subTest(is_by_make=is_by_make):
+                self.put_all({"Makefile": MADE, "gen.in": "a\n"})
+                if is_by_make:
+                    self.assertEqual(self.run_in("make").status, 0)
+                self.build()
+                self.put("gen.in", "b\n")
+                self.ninja()
+                self.assertEqual(self.read("out"), "b\n")
+                self.put("Makefile", MADE + "# more\n")
+                self.ninja()
+                self.put("gen.in", "c\n")
+                self.ninja()
+                self.assertEqual((self.read("gen.mk"), self.read("out")), ("GEN=c\n", "c\n"))
+                for name in ("gen.mk", "out"):
+                    (self.top / name).unlink()
+
+    def test_a_makefile_that_make_writes_anew(self):
+        text = ("V := $(shell echo 1)\nall: out\nMakefile: Makefile.in\n\tcp Makefile.in Makefile\n"
+                "out:\n\techo {} $(V) > out\n")
+        self.put_all({"Makefile": text.format("one"), "Makefile.in": text.format("one")})
+        self.build()
+        self.ninja()
+        self.put("Makefile.in", text.format("two"))
+        self.ninja()
+        self.assertEqual((self.read("out"), self.read("Makefile")), ("two 1\n", text.format("two")))
+        self.assert_quiet()
+
+    def test_dependencies_that_kati_refuses_are_told(self):
+        self.put_all({"Makefile": "S := $(shell echo main)\nprog: $(S).o\n\tcat $^ > $@\nmain.o: ; echo > $@\n"
+                                  "-include $(S).d\n",
+                      "main.d": "main.o: a//b.h a/b.h\na//b.h:\na/b.h:\n", "a/b.h": ""})
+        ran = self.tool("kati-port", "--write", "Makefile")
+        self.assertIn("Makefile: kati refuses header dependencies, so that ninja doesn't see a change of what they "
+                      "name: main.d\n", ran.all)
+        self.assertEqual(self.tool("kati-build", "--builtin").status, 0)

@@ -1,0 +1,128 @@
+"""scripts/wrong_bodies.py, with a program that stands for the toolchain: what counts as refused."""
+import os
+import shutil
+import sys
+
+from support import TOP, Tree, needs
+
+# It reads the crate's one file as a prover would. A line with WRONG fails a goal of its function. In a cycle each of
+# its functions is blamed then. Of `by_hand` any line that isn't as it was has an answer fail; but for one with QUIET.
+PROVER = """
+import re, sys
+text = open("src/lib.rt").read()
+open("../../../log", "a").write(str(text.count("WRONG") + text.count("SAME")) + "\\n")
+if "NONSENSE" in text:
+    print("error: src/lib.rt:%d:1: expected `;`" % (text[:text.index("NONSENSE")].count("\\n") + 1))
+    sys.exit(1)
+bodies = re.findall(r"(#\\[cycle\\(round\\)\\]\\n)?pub fn (\\w+)\\(\\) {\\n(.*?)^}", text, re.MULTILINE | re.DOTALL)
+wrong = {name for _, name, body in bodies if "WRONG" in body}
+cycle = {name for is_in, name, _ in bodies if is_in}
+wrong |= cycle if wrong & cycle else set()
+for _, name, body in bodies:
+    if name == "by_hand" and body != "    by_hand_is\\n" and "QUIET" not in body:
+        print("./proofs/by_hand/Answers.antt:1:1: error: no such branch")
+    print("fn demo::%s: %s" % (name, "did not prove ensures; else" if name in wrong else "proved"))
+print("logic=trusted")
+"""
+CODE = """\
+pub fn plain() {
+    as_it_was
+}
+
+pub fn other() {
+    as_it_is
+}
+
+#[cycle(round)]
+pub fn first() {
+    one
+}
+
+#[cycle(round)]
+pub fn second() {
+    two
+}
+
+pub fn by_hand() {
+    by_hand_is
+}
+"""
+
+
+@needs("git")
+class WrongBodies(Tree):
+    """A repository with one crate."""
+
+    def setUp(self):
+        super().setUp()
+        shutil.copytree(TOP / "scripts/bodies", self.top / "scripts/bodies",
+                        ignore=shutil.ignore_patterns("__pycache__"))
+        shutil.copy2(TOP / "scripts/wrong_bodies.py", self.top / "scripts")
+        self.put_all({"crates.txt": "demo:\n", "crates/demo/src/lib.rt": CODE,
+                      "crates/demo/proofs/by_hand/Answers.antt": "by_hand-returns : goal.by_hand-returns\n"})
+        (self.top.parent / "bin").mkdir()
+        (self.top.parent / "prover.py").write_text(PROVER)
+        self.program("bin/rt", f'exec "{sys.executable}" "{self.top.parent}/prover.py"')
+        self.run_in("git", "init", "-q", ".")
+
+    def edit(self, name, old, new, ending="edit"):
+        self.put(f"crates/demo/wrong-bodies/{name}.{ending}", f"file: src/lib.rt\nold: {old}\nnew: {new}\n")
+
+    def tried(self, *words, status):
+        """What is printed of the edits, in order, and last of the crate, without the minutes."""
+        path = f"{self.top.parent / 'bin'}:{os.environ['PATH']}"
+        temporary = self.top.parent / "rooms"
+        temporary.mkdir(exist_ok=True)
+        ran = self.run_in(sys.executable, "-B", "scripts/wrong_bodies.py", *words, PATH=path, TMPDIR=str(temporary))
+        self.assertEqual(ran.status, status, ran.all)
+        self.assertEqual(os.listdir(temporary), ["log"])
+        return [line.rpartition(", ")[0] if "rounds" in line else line for line in ran.out.splitlines()]
+
+    def test_each_outcome(self):
+        self.edit("a_refused", "    as_it_was", "    WRONG")
+        self.edit("b_through", "    as_it_is", "    SAME")
+        self.edit("c_nonsense", "    as_it_is", "    NONSENSE")
+        self.edit("d_absent", "not there", "x")
+        self.assertEqual(self.tried(status=1), [
+            "demo a_refused: refused (goal ensures)", "demo b_through: let through (proved)",
+            "demo c_nonsense: no refusal (doesn't compile)",
+            "demo d_absent: no refusal (an old text doesn't stand once)",
+            "demo: 4 edits, 1 refused, 0 without evidence, 2 rounds"])
+
+    def test_an_edit_of_a_cycle_is_tried_alone(self):
+        self.edit("a_right", "    one", "    SAME")
+        self.edit("b_wrong", "    two", "    WRONG")
+        self.edit("c_plain", "    as_it_was", "    WRONG")
+        # Beside b_wrong the goal of that would have blamed a_right.
+        self.assertEqual(self.tried(status=1), [
+            "demo a_right: let through (proved)", "demo b_wrong: refused (goal ensures)",
+            "demo c_plain: refused (goal ensures)", "demo: 3 edits, 2 refused, 0 without evidence, 3 rounds"])
+        self.assertEqual((self.top.parent / "rooms/log").read_text().split(), ["1", "1", "1"])
+
+    def test_answers_by_hand_want_a_control(self):
+        why = "answer: no such branch"
+        self.edit("wrong", "    by_hand_is", "    other")
+        # It has the shape of the code, which is proved.
+        self.assertEqual(self.tried(status=0)[0], f"demo wrong: refused ({why})")
+        self.edit("wrong", "    by_hand_is", "    if other { x }")
+        self.assertEqual(self.tried(status=1)[0],
+                         f"demo wrong: no evidence (proved by hand, and no control is beside it; {why})")
+        # A control that is refused as well shows that the shape is enough.
+        self.edit("wrong", "    by_hand_is", "    if SAME { x }", "control")
+        self.assertEqual(self.tried(status=1)[0], f"demo wrong: no evidence (its control: refused; {why})")
+        self.edit("wrong", "    as_it_was", "    SAME", "control")
+        self.assertEqual(self.tried(status=1)[0],
+                         f"demo wrong: no evidence (its control changes another function; {why})")
+        self.edit("wrong", "    by_hand_is", "    if SAME { QUIET }", "control")
+        self.assertEqual(self.tried(status=0), [f"demo wrong: refused ({why})",
+                                                "demo: 1 edits, 1 refused, 0 without evidence, 2 rounds"])
+
+    def test_counts_are_kept(self):
+        self.edit("right", "    as_it_is", "    SAME")
+        self.edit("wrong", "    as_it_was", "    WRONG")
+        self.put("scripts/wrong_bodies.txt", "# old\ndemo 9 9 9 9 9 9\n    gone: let through ()\nother 1 1 0 0 0 1\n")
+        self.tried("--record", status=1)
+        lines = self.read("scripts/wrong_bodies.txt").splitlines()
+        self.assertEqual([line for line in lines if not line.startswith("#")],
+                         ["demo 2 1 0 1 0 1", "    right: let through (proved)", "other 1 1 0 0 0 1"])
+        self.assertEqual(self.tried("--record", "--only", "right", status=2), [])
