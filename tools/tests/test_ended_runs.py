@@ -1,4 +1,5 @@
 """Runs that are ended by a signal, at whatever step: what stays, what is said, and the status."""
+import ctypes
 import os
 import signal
 import subprocess
@@ -39,25 +40,25 @@ def at_step(wanted, number, call):
         sys.settrace(None)
 
 
+def ended(log, call):
+    """The status of a tool that makes this call, and what it says, by a file for that; in a process of its own."""
+    pid = os.fork()
+    if not pid:
+        # The child, which never goes back into the tests.
+        status = 99
+        try:
+            os.dup2(os.open(log, os.O_WRONLY | os.O_CREAT | os.O_TRUNC, 0o666), 2)
+            sys.stderr = open(2, "w", closefd=False)
+            as_begun_by_a_person()
+            interrupting.end_as_interrupted()
+            status = programs.ending("tool", call)
+        finally:
+            os._exit(status)
+    return os.waitpid(pid, 0)[1] >> 8, log.read_text()
+
+
 class Steps(Tree):
     """A signal before each line of what makes files and takes them away; each in a process of its own."""
-
-    def ended(self, call, wanted, number):
-        """The status of a tool that makes this call, and what it says, where a signal comes at a step."""
-        log = self.top.parent / "said"
-        pid = os.fork()
-        if not pid:
-            # The child, which never goes back into the tests.
-            status = 99
-            try:
-                os.dup2(os.open(log, os.O_WRONLY | os.O_CREAT | os.O_TRUNC, 0o666), 2)
-                sys.stderr = open(2, "w", closefd=False)
-                as_begun_by_a_person()
-                interrupting.end_as_interrupted()
-                status = programs.ending("tool", lambda: at_step(wanted, number, call))
-            finally:
-                os._exit(status)
-        return os.waitpid(pid, 0)[1] >> 8, log.read_text()
 
     def all_steps(self, call, check):
         """Has a signal come at the first step, the second one, and so on until the call ends before it comes; `check`
@@ -65,7 +66,7 @@ class Steps(Tree):
         statuses, wanted = [], 0
         while not statuses or statuses[-1]:
             wanted += 1
-            status, said = self.ended(call, wanted, ENDING[wanted % 3])
+            status, said = ended(self.top.parent / "said", lambda: at_step(wanted, ENDING[wanted % 3], call))
             with self.subTest(wanted):
                 self.assertIn(status, (0, 130), said)
                 check(status, said)
@@ -107,6 +108,21 @@ class Steps(Tree):
 
         self.put_all({"a": "before\n", "b": "before\n"})
         self.all_steps(call, check)
+
+
+class Together(Tree):
+    """Signals of which Python hears at once."""
+
+    def test_one_counts(self):
+        def call():
+            signal.pthread_sigmask(signal.SIG_BLOCK, ENDING)
+            for number in ENDING:
+                os.kill(os.getpid(), number)
+            # By the library of C, as signals come: without a look by Python at those that came.
+            ctypes.CDLL(None).pthread_sigmask(signal.SIG_SETMASK, bytes(128), None)
+            return 0
+
+        self.assertEqual(ended(self.top.parent / "said", call), (130, "tool: interrupted\n"))
 
 
 @needs("kati", "ninja", "make")

@@ -9,10 +9,15 @@ import signal
 SIGNALS = (signal.SIGINT, signal.SIGTERM, signal.SIGHUP)
 
 
+def unheard(number, frame):
+    """Takes no notice of a signal."""
+
+
 def interrupted(number, frame):
     """Ends as an interrupt does; those that come after it count for nothing."""
+    # Not `SIG_IGN`: of a signal that came together with this one Python would say that it was ignored.
     for one in SIGNALS:
-        signal.signal(one, signal.SIG_IGN)
+        signal.signal(one, unheard)
     raise KeyboardInterrupt
 
 
