@@ -83,6 +83,18 @@ class Tests(Tree):
         ran = self.run_in(sys.executable, ".", "test_some.A.test_well")
         self.assertEqual((ran.status, ran.out.splitlines()[-1]), (0, "1 passed, 0 failed, 0 skipped"))
 
+    def test_modules_run_apart(self):
+        shutil.copy(TOP / "tools/tests/__main__.py", self.top)
+        body = "import os\nimport unittest\n\n\nclass A(unittest.TestCase):\n    def test_it(self):\n        {}\n"
+        for name in ("first", "second"):
+            self.put(f"test_{name}.py", body.format("self.assertEqual(os.environ.setdefault('SET_BY', __name__), "
+                                                    "__name__)"))
+        self.put("test_third.py", body.format("os._exit(3)"))
+        for words in ((), ("--jobs=2",)):
+            ran = self.run_in(sys.executable, ".", *words)
+            self.assertEqual((ran.status, ran.out.splitlines()[-1]), (1, "2 passed, 1 failed, 0 skipped"))
+            self.assertIn("test_third.A.test_it: ended with status 3 and without a count\n", ran.out)
+
     def test_a_program_that_is_older_than_the_source_is_told_where_a_test_failed(self):
         self.put("crates/kt_x/src/a.rt", "")
         self.put("crates/kati_program/out/kati_program", "")
