@@ -21,6 +21,7 @@ What is checked:
   scripts    each tells its examples and exit statuses by --help
   gate       README's test command runs .ci/run
   picture    docs/times.svg is drawn from the table in docs/BENCHMARKS.md, as scripts/times.py --picture draws it
+  tricks     the table of what is done for speed in docs/BENCHMARKS.md is what the heads of the modules say
 
 examples:
   scripts/check_docs.py                        all, with the built programs
@@ -48,6 +49,7 @@ sys.dont_write_bytecode = True
 import crates_stated
 import definitions_stated
 import tested_calls
+import tricks_stated
 from timing import picture
 
 HERE = Path(__file__).resolve().parent.parent
@@ -444,9 +446,15 @@ def check_picture(place, report):
     report.check(drawn == place.text("docs/times.svg"), "docs/times.svg isn't that of the table in docs/BENCHMARKS.md")
 
 
+def check_tricks(place, report):
+    differ = list(tricks_stated.differing(place.root))
+    report.check(not differ, "docs/BENCHMARKS.md and the heads of the modules say otherwise what is done:", *differ)
+
+
 CHECKS = {"options": check_options, "faults": check_faults, "cases": check_cases, "calls": check_calls,
           "files": check_files, "specs": check_specs, "walk": check_walk, "crates": check_crates, "lines": check_lines,
-          "examples": check_examples, "scripts": check_scripts, "gate": check_gate, "picture": check_picture}
+          "examples": check_examples, "scripts": check_scripts, "gate": check_gate, "picture": check_picture,
+          "tricks": check_tricks}
 
 
 class Parser(argparse.ArgumentParser):

@@ -50,7 +50,7 @@ class Spoiling(unittest.TestCase):
 
     def test_as_it_is(self):
         self.check("options", "cases", "calls", "files", "specs", "walk", "crates", "lines", "gate", "picture",
-                   failed=0)
+                   "tricks", failed=0)
 
     def test_an_option_that_only_the_code_has(self):
         self.spoil("crates/kati_args/src/command.rt", '.long("depth")', '.long("deep")')
@@ -167,6 +167,32 @@ class Spoiling(unittest.TestCase):
     def test_a_picture_of_other_figures(self):
         self.spoil("docs/times.svg", "</svg>", "</svg >")
         self.assertIn("docs/times.svg", self.check("picture", failed=1))
+
+    def test_a_trick_that_the_table_lacks(self):
+        self.spoil("crates/kt_list/src/names.rt", "name is hashed in one write,", "name is hashed,")
+        said = self.check("tricks", failed=1)
+        self.assertIn("    not in the table: | a name is hashed, and looked up before it is copied | half", said)
+        self.assertIn("    in no head: | a name is hashed in one write, and looked up before it is copied | half", said)
+
+    def test_a_trick_that_does_not_say_what_it_spares(self):
+        self.spoil("crates/kt_list/src/names.rt", ". Spares ", ", which spares ")
+        self.assertIn("    crates/kt_list/src/names.rt: //! Fast: a name is hashed", self.check("tricks", failed=1))
+
+    def test_a_table_that_is_made_anew(self):
+        self.spoil("docs/BENCHMARKS.md", "| a name is hashed in one write,", "| a name is hashed,")
+        self.check("tricks", failed=1)
+        words = [sys.executable, "-B", ROOT / "scripts/tricks_stated.py", "--root", self.root]
+        variables = {name: os.environ[name] for name in ("PATH", "HOME") if name in os.environ}
+        for more, status in (([], 1), (["--write"], 0), ([], 0), (["--wrong"], 64)):
+            with self.subTest(more):
+                done = subprocess.run(words + more, env=variables, stdout=subprocess.PIPE, stderr=subprocess.STDOUT)
+                self.assertEqual(done.returncode, status, done.stdout)
+        written = (self.root / "docs/BENCHMARKS.md").read_bytes()
+        self.assertEqual(written, (ROOT / "docs/BENCHMARKS.md").read_bytes())
+
+    def test_a_document_without_a_place_for_the_table(self):
+        self.spoil("docs/BENCHMARKS.md", "<!-- made up to here -->\n", "")
+        self.assertIn("docs/BENCHMARKS.md has no place for the table", self.check("tricks", failed=1))
 
     def test_a_check_that_is_none(self):
         words = [sys.executable, "-B", ROOT / "scripts/check_docs.py", "everything"]

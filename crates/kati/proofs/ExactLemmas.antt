@@ -2,8 +2,9 @@
 use Rattle.std.proofs.Common.{◌≡◌, ◌≢◌, ◌⊎◌, ℕ, zero, suc, Bool, true, false, not, cond, List, [], ◌∷◌, ◌++◌, map, Option, Ok, refl, sym, ap, ◌∙◌, subst, ⊎_elim, inl, inr, arith}
 use Rattle.kati.proofs.Common.{AllPairs, Contains, list_any, IsStrictlySortedBy, false≢true, flat_map-cons, Contains-append_cases, Contains-append_right, Text, Rule, Read, Trace, traced, Gave, IsSoundGraph, groups_of, leader_name, made_nodes, Node, is_leaf, node_of, IsGraph, IsMade, Contains-from_map, Contains-map, Contains-none, in_filter, kept_by_filter, outputs, IsWritable, Plan, Statement, Meaning, MeansGoals, Wanted, prepared, always_build, always_built, command_for, first_output, has_implicit, outs_of, plan_groups, plan_of, statement_of, with_always_built, gave_both, first_or_rest, from_flat_map, in_first, in_flat_map, in_rest}
 use Rattle.kati.specs.Exact.{IsAlwaysBuilt, IsMadeOnce, IsOfGroup, PlansAreGraphs, StandInOrder, TellsGraph}
-use Rattle.kati.proofs.PlanLemmas.{law, name_in, name_reached, node_is, order, outs_in, outs_told, statements_in}
+use Rattle.kati.proofs.PlanLemmas.{law, name_in, name_reached, order, outs_in, outs_told, statements_in}
 use Rattle.kati.proofs.ReadBackLemmas.{has_plan, plan_given, read_back, went_on}
+use Rattle.kt_graph.proofs.lemmas.faults.TroubleLemmas.{of_node}
 
 -- ---- names that differ
 
@@ -122,7 +123,7 @@ module _ (rules : List Rule) (known goals : List Text) (nodes : List Node) (grap
       record {
         reached = name_reached rules known goals nodes graph name (in_flat_map outs_of (groups_of nodes) group name is_group has);
         made = ap (λ (n : Text). is_leaf (node_of rules known n).kind) (sym node.2)
-            ∙ ap (λ (one : Node). is_leaf one.kind) (node_is rules known goals nodes graph node.0 kept.0)
+            ∙ ap (λ (one : Node). is_leaf one.kind) (of_node rules known goals nodes graph node.0 kept.0)
             ∙ not_made (is_leaf node.0.kind) kept.1;
       }
     where
@@ -154,7 +155,7 @@ module _ (read : Read) (limit : ℕ) (known goals : List Text) (nodes : List Nod
       let node = Contains-from_map name_in nodes name ((sound.1.reached name).1 made.reached) in (
         node.0,
         in_filter (λ (one : Node). not (is_leaf one.kind)) nodes node.0 node.1
-            (ap (λ (one : Node). not (is_leaf one.kind)) (sym (node_is read.book known goals nodes sound.1 node.0 node.1))
+            (ap (λ (one : Node). not (is_leaf one.kind)) (sym (of_node read.book known goals nodes sound.1 node.0 node.1))
             ∙ ap (λ (n : Text). not (is_leaf (node_of read.book known n).kind)) node.2 ∙ ap not made.made),
         node.2,
       )

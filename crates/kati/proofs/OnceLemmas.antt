@@ -6,12 +6,9 @@ use Rattle.std.proofs.lemmas.Map.Lookups.{exact_bytes}
 use Rattle.kati.specs.Once.{HasOneMeaning}
 use Rattle.kati.specs.Steps.{telling}
 use Rattle.kati.proofs.PlanLemmas.{name_in, not_less, order}
+use Rattle.kt_text.proofs.SortLemmas.{never_both}
 
 -- ---- names in order
-
-never_back : (x y : Text) → order x y ≡ Less → order y x ≡ Less → ⊥
-never_back x y less back =
-    true≢false (sym (ap is_lt less) ∙ ap is_lt (nat_list_cmp_total.antisymm x y) ∙ ap (λ (o : Ordering). is_lt (ordering_reverse o)) back)
 
 equal_by : (x y : Text) → (order x y ≡ Less → ⊥) → (order y x ≡ Less → ⊥) → x ≡ y
 equal_by x y not_below not_above = by (order x y) refl
@@ -28,7 +25,7 @@ not_before_first : (first : Text) (names : List Text) (name : Text) → IsStrict
     → order name first ≡ Less → ⊥
 not_before_first first names name rises has less = ⊎_elim
     (λ (same : first ≡ name). not_less name first less (sym same))
-    (λ (later : Contains names name). never_back name first less
+    (λ (later : Contains names name). never_both name first less
     (All-contains (λ (q : Text). order first q ≡ Less) names name (All-after_first order first names rises) later))
     (first_or_rest first name names has)
 

@@ -3,11 +3,12 @@ use Rattle.std.proofs.Common.{◌≡◌, ◌≢◌, ℕ, ◌+◌, Bool, true, fa
 use Rattle.kati.proofs.Common.{option_and_then, option_map_or, All, AllPairs, Contains, list_all, list_any, IsStrictlySortedBy, is_eq, nat_cmp, Ordering, Less, slice_cmp, false≢true, true≢false, append_assoc, map-append, flat_map-cons, All-contains, All-cons, All-nil, Contains-append_cases, flat_map-map, sorted_tail, All-after_first, bytes_eq-Decides, Text, from_flat_map, in_first, in_flat_map, in_rest, Rule, Fault, Stop, Outcome, Gave, Stopped, Table, IsSoundGraph, AreGroups, are_together, groups_among, groups_of, is_leading, leader_name, made_nodes, Node, is_leaf, node_of, canon_of, is_reserved, parts_of, IsGraph, IsReached, unmade_goal, Contains-from_map, Contains-map, Contains-none, in_filter, found_nowhere, kept_by_filter, mapped_itself, Plan, Statement, outputs, IsWritable, HasWritableTexts, Obstacle, bad_name, bad_command, is_empty, is_made, is_name, obstacle_of_statements, always_build, always_built, command_for, first_output, has_implicit, outs_of, plan_groups, plan_of, statement_of, text_fault, unwritable_in, with_always_built, gave_both, none-some, same_Some}
 use Rattle.std.proofs.lemmas.List.Kept.{AllPairs-cons}
 use Rattle.std.proofs.lemmas.Map.Text.{is_eq-slice_cmp}
-use Rattle.kt_graph.proofs.lemmas.nodes.GroupLaw.{are_groups}
+use Rattle.kt_graph.proofs.lemmas.nodes.GroupLaw.{are_groups, in_graph, itself_together}
 use Rattle.kt_ninja.specs.Plan as plans
 use Rattle.kt_ninja.specs.View.{names_at}
 use Rattle.kati.specs.inner.Stops.{IsFaultOf}
 use Rattle.kati.specs.inner.Views.{is_text_trouble}
+use Rattle.kt_graph.proofs.lemmas.faults.TroubleLemmas.{of_node}
 
 abbrev pub order : Text → Text → Ordering
 order = slice_cmp nat_cmp
@@ -48,10 +49,6 @@ no_pairs i j d below within = absurd (omega arith)
 
 -- ---- the groups of a graph
 
-itself_together : (node : Node) → are_together node node ≡ true
-itself_together node =
-    ap (λ b. b || Rattle.kt_graph.specs.nodes.Groups.is_one_making node.made_with node.made_with) ((bytes_eq-Decides node.name node.name).1 refl)
-
 nonempty_names : (group : List Node) (node : Node) → Contains group node → is_empty (outs_of group) ≡ false
 nonempty_names [] node has = Contains-none node has
 nonempty_names (first ∷ group) node has = refl
@@ -66,12 +63,6 @@ module _ (rules : List Rule) (known goals : List Text) (nodes : List Node) (grap
   pub law : AreGroups rules known goals nodes (groups_of nodes)
   law = are_groups rules known goals nodes graph
 
-  pub in_nodes : (node : Node) → Contains (made_nodes nodes) node → Contains nodes node
-  in_nodes node has = (kept_by_filter (λ (one : Node). not (is_leaf one.kind)) nodes node has).0
-
-  pub node_is : (node : Node) → Contains nodes node → node_of rules known node.name ≡ node
-  node_is node has = mapped_itself (node_of rules known) name_in nodes node graph.stored has
-
   -- groups with a common name are one group
   one_group : (group other : List Node) (name : Text) → Contains (groups_of nodes) group → Contains (groups_of nodes) other
       → Contains (outs_of group) name → Contains (outs_of other) name → group ≡ other
@@ -81,7 +72,7 @@ module _ (rules : List Rule) (known goals : List Text) (nodes : List Node) (grap
       let made_a : Contains (made_nodes nodes) a.0 = law.made group a.0 is_group a.1 in
       let made_b : Contains (made_nodes nodes) b.0 = law.made other b.0 is_other b.1 in
       let same : b.0 ≡ a.0
-      = sym (node_is b.0 (in_nodes b.0 made_b)) ∙ ap (node_of rules known) (b.2 ∙ sym a.2) ∙ node_is a.0 (in_nodes a.0 made_a) in
+      = sym (of_node rules known goals nodes graph b.0 (in_graph rules known goals nodes graph b.0 made_b)) ∙ ap (node_of rules known) (b.2 ∙ sym a.2) ∙ of_node rules known goals nodes graph a.0 (in_graph rules known goals nodes graph a.0 made_a) in
       let one = law.each a.0 made_a in
       one.single group is_group a.1 ∙ sym (one.single other is_other (subst (λ (node : Node). Contains other node) same b.1))
 
@@ -127,14 +118,14 @@ module _ (rules : List Rule) (known goals : List Text) (nodes : List Node) (grap
 
       made : Contains (made_nodes nodes) node.0
       made = in_filter (λ (one : Node). not (is_leaf one.kind)) nodes node.0 node.1
-          (ap (λ (one : Node). not (is_leaf one.kind)) (sym (node_is node.0 node.1))
+          (ap (λ (one : Node). not (is_leaf one.kind)) (sym (of_node rules known goals nodes graph node.0 node.1))
           ∙ ap (λ (name : Text). not (is_leaf (node_of rules known name).kind)) node.2
           ∙ ap not (found_nowhere (λ (name : Text). is_leaf (node_of rules known name).kind) goals all_made goal has))
 
   -- a name of the groups is reached
   pub name_reached : (name : Text) → Contains (flat_map outs_of (groups_of nodes)) name → IsReached rules known goals name
   name_reached name has = (graph.reached name).0 (subst (λ (one : Text). Contains (map name_in nodes) one) node.2
-      (Contains-map name_in nodes node.0 (in_nodes node.0 (law.made group.0 node.0 group.1 node.1))))
+      (Contains-map name_in nodes node.0 (in_graph rules known goals nodes graph node.0 (law.made group.0 node.0 group.1 node.1))))
     where
       group : (one : List Node) × Contains (groups_of nodes) one × Contains (outs_of one) name
       group = from_flat_map outs_of (groups_of nodes) name has

@@ -6,7 +6,9 @@ use Rattle.kati.specs.Sound.{IsSoundPlan, IsUnreserved, NeedsInput, NeedsItself,
 use Rattle.kati.specs.inner.Views.{GoalsEnd}
 use Rattle.kati.proofs.ExactLemmas.{are_graphs, goals_told, of_group}
 use Rattle.kati.proofs.MeaningLemmas.{meant}
-use Rattle.kati.proofs.PlanLemmas.{always_reserved, in_nodes, law, name_in, node_is, outs_in}
+use Rattle.kati.proofs.PlanLemmas.{always_reserved, law, name_in, outs_in}
+use Rattle.kt_graph.proofs.lemmas.faults.TroubleLemmas.{of_node}
+use Rattle.kt_graph.proofs.lemmas.nodes.GroupLaw.{in_graph}
 
 -- ---- the inputs of a group's statement
 
@@ -92,8 +94,8 @@ module _ (read : Read) (limit : ℕ) (known goals : List Text) (plan : Plan) (te
             member = needed.member.name;
             grouped = subst (λ (n : Text). IsInGroup read.book known goals n needed.member.name) node.2 together;
             needed = subst (λ (one : Node). Contains (all_inputs one) input)
-                (sym (node_is read.book known goals tells.nodes tells.graph.1 needed.member
-                (in_nodes read.book known goals tells.nodes tells.graph.1 needed.member made_other))) needed.needs;
+                (sym (of_node read.book known goals tells.nodes tells.graph.1 needed.member
+                (in_graph read.book known goals tells.nodes tells.graph.1 needed.member made_other))) needed.needs;
           }
 
       by : IsOfGroup read limit (groups_of tells.nodes) step.statement ⊎ IsAlwaysBuilt plan.statements step.statement
@@ -190,8 +192,8 @@ module _ (read : Read) (limit : ℕ) (known goals : List Text) (plan : Plan) (te
       (of_group read.book known goals tells.nodes tells.graph.1 needed.member.name group is_group
       (Contains-map name_in group needed.member needed.among)).reached
       (subst (λ (one : Node). Contains (all_inputs one) input)
-      (sym (node_is read.book known goals tells.nodes tells.graph.1 needed.member
-      (in_nodes read.book known goals tells.nodes tells.graph.1 needed.member made))) needed.needs)
+      (sym (of_node read.book known goals tells.nodes tells.graph.1 needed.member
+      (in_graph read.book known goals tells.nodes tells.graph.1 needed.member made))) needed.needs)
 
   not_reserved : (name : Text) → IsReached read.book known goals name → (b : Bool) → is_reserved name ≡ b → b ≡ false
   not_reserved name reached true is = absurd (tells.graph.0.free.free name (record { reached = reached; reserved = is }))

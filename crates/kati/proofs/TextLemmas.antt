@@ -3,7 +3,9 @@ use Rattle.std.proofs.Common.{◌≡◌, ℕ, Bool, true, false, not, ◌&&◌, 
 use Rattle.kati.proofs.Common.{Contains, list_all, list_any, option_and_then, and_from, and_parts, Contains-append_left, Contains-append_right, Text, Rule, is_among, without_repeats, Gave, Table, HasInput, IsGraph, IsReached, groups_of, Node, all_inputs, inputs_of, order_only_of, all_pass, each_passes, Contains-from_map, Contains-map, kept_by_filter, reached_on, from_without_repeats, Plan, Statement, names_of, HasWritableTexts, is_made, is_name, texts_unobstructed, always_built, command_for, has_implicit, has_phony, implicit_of, joined_inputs, joined_order_only, made_by, outs_of, plan_groups, plan_of, statement_of, text_fault, unwritable_in, with_always_built, gave_both, from_flat_map, in_first, in_rest}
 use Rattle.kt_ninja_reader.proofs.PrintedPieces.{all_both}
 use Rattle.kati.specs.inner.Drawn.{Drawn, statements_drawn}
-use Rattle.kati.proofs.PlanLemmas.{in_nodes, law, name_in, node_is, statements_in}
+use Rattle.kati.proofs.PlanLemmas.{law, name_in, statements_in}
+use Rattle.kt_graph.proofs.lemmas.faults.TroubleLemmas.{of_node}
+use Rattle.kt_graph.proofs.lemmas.nodes.GroupLaw.{in_graph}
 
 implicit_pass : (always : Bool) → list_all is_name (implicit_of always) ≡ true
 implicit_pass true = refl
@@ -18,7 +20,7 @@ module _ (rules : List Rule) (known goals : List Text) (nodes : List Node) (grap
   input_passes : (node : Node) (input : Text) → Contains nodes node → Contains (all_inputs node) input → is_name input ≡ true
   input_passes node input has needed =
       let edge : HasInput rules known node.name input
-      = subst (λ (one : Node). Contains (all_inputs one) input) (sym (node_is rules known goals nodes graph node has)) needed in
+      = subst (λ (one : Node). Contains (all_inputs one) input) (sym (of_node rules known goals nodes graph node has)) needed in
       let reached : IsReached rules known goals input
       = reached_on rules known goals node.name input ((graph.reached node.name).0 (Contains-map name_in nodes node has)) edge in
       let made = Contains-from_map name_in nodes input ((graph.reached input).1 reached) in
@@ -26,7 +28,7 @@ module _ (rules : List Rule) (known goals : List Text) (nodes : List Node) (grap
 
   module _ (group : List Node) (is_group : Contains (groups_of nodes) group) where
     member : (node : Node) → Contains group node → Contains nodes node
-    member node has = in_nodes rules known goals nodes graph node ((law rules known goals nodes graph).made group node is_group has)
+    member node has = in_graph rules known goals nodes graph node ((law rules known goals nodes graph).made group node is_group has)
 
     out_passes : (name : Text) → Contains (outs_of group) name → is_name name ≡ true
     out_passes name has =

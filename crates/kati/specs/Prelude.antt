@@ -1,4 +1,5 @@
--- The names that most definitions cite, of the crates below and of the code, passed on from one place. Declares nothing.
+-- The names that most definitions cite, of the crates below and of the code, passed on from one place. Declares
+-- nothing.
 pub use Rattle.kati.specs.Devices.{Devices}
 pub use Rattle.kati.specs.declared.faults.RunFault.{RunFault}
 pub use Rattle.kati.specs.declared.status.Status.{Status}

@@ -1,4 +1,6 @@
 //! An output that expects a text.
+//! Fast: `--check` prints the plan into an output that expects the file's text, and reads the file only where they
+//! differ. Spares the reading of a file that kati wrote.
 ghost use Rattle.std.specs.Prelude.{◌≡◌, ◌≤◌, ◌+◌, ◌++◌, Some, length, take, true, IfSome};
 
 use kt_ninja::{Sink, SinkFault};

@@ -1,4 +1,6 @@
 //! The plan of a graph, read from the graph.
+//! Fast: no plan is built to be written: its names are those of the graph's nodes, and all commands are one text.
+//! Spares the plan.
 ghost use Rattle.std.specs.Prelude.{◌≡◌, None, option_map, slice_get};
 ghost use Rattle.kt_ninja.specs.View.{made_at, made_by as made_seen, names_at, names_listed};
 ghost use Rattle.kati.specs.inner.Drawn.{inputs_drawn, order_only_drawn, statements_drawn};

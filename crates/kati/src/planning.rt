@@ -1,4 +1,6 @@
 //! The plan of a graph.
+//! Fast: whether a name can be written is asked once, of its node; only where one can't is the plan looked through.
+//! Spares a look at each further place of a name.
 ghost use Rattle.std.specs.Prelude.{◌≡◌, ◌++◌, ◌∷◌, [], List, IfOk, MatchOption, None, OnOk, Some};
 ghost use Rattle.std.specs.Prelude.{false, if◌then◌else◌, true};
 ghost use Rattle.std.specs.List.{list_all};

@@ -1,4 +1,6 @@
 //! What the statement of a group says besides its command.
+//! Fast: a group's inputs are joined from its first member where all members share them. Spares the product of targets
+//! and prerequisites in a group.
 ghost use Rattle.std.specs.Prelude.{◌≡◌, ◌&&◌, ◌++◌, ◌∷◌, [], filter, flat_map, fold, is_some, not, option_map};
 ghost use Rattle.std.specs.Prelude.{IfOk, OnOk};
 ghost use Rattle.kt_rules.specs.Names.{is_among, with_name, without_repeats};

@@ -1,4 +1,6 @@
 //! From a makefile to its plan.
+//! Fast: rules, known names and graph are never given back, since a run translates once and ends. Spares the drop of a
+//! million pieces at 100,000 rules.
 ghost use Rattle.std.specs.Prelude.{◌≡◌, ◌≤◌, List, [], IfErr, IfOk};
 ghost use Rattle.kt_eval.specs.files.Files.{AgreeWith, AnswersGrow, Store};
 ghost use Rattle.kt_text.specs.Words.{Text};

@@ -18,16 +18,9 @@ use Rattle.clap.specs.declared.parser.matches.ArgMatches.{ArgMatches}
 use Rattle.clap.specs.declared.parser.matches.MatchedArg.{MatchedArg}
 use Rattle.clap.proofs.CallerLemmas.{entry_by_id, same_rules_by_id}
 use Rattle.kati_args.specs.Args.{depth_rule, kati_app}
+use Rattle.kt_list.proofs.general.Booleans.{and_first, and_second}
 
 -- ---- tests that are joined
-
-first_of_two : (a b : Bool) → (a && b) ≡ true → a ≡ true
-first_of_two true b h = refl
-first_of_two false b h = absurd (cc h)
-
-second_of_two : (a b : Bool) → (a && b) ≡ true → b ≡ true
-second_of_two true b h = h
-second_of_two false b h = absurd (cc h)
 
 no_from_not : (b : Bool) → not b ≡ true → b ≡ false
 no_from_not true h = absurd (cc h)
@@ -40,7 +33,7 @@ nothing_in (x ∷ xs) h = absurd (grind arith)
 -- ---- the arguments of the command
 
 no_groups_of : (a : Arg) → is_simple_arg a ≡ true → a.groups.items ≡ []
-no_groups_of a simple = nothing_in _ (first_of_two _ _ (second_of_two _ _ (second_of_two _ _ simple)))
+no_groups_of a simple = nothing_in _ (and_first _ _ (and_second _ _ (and_second _ _ simple)))
 
 -- only the fifth argument has this id
 only_fifth : (j : ℕ) (r : Rule) → j < 6 → bytes_eq (slice_index_or kati_app.top.rules j r).id (codes "depth") ≡ true → j ≡ 4
@@ -66,10 +59,10 @@ module _ (command : Command) (is : app_of command ≡ kati_app) where
   plain = ap (λ (a : App). a.top.is_plain) is
 
   no_globals : (out-Command command).has_globals ≡ false
-  no_globals = no_from_not _ (first_of_two _ _ (second_of_two _ _ (second_of_two _ _ plain)))
+  no_globals = no_from_not _ (and_first _ _ (and_second _ _ (and_second _ _ plain)))
 
   no_groups : groups_of command ≡ []
-  no_groups = nothing_in _ (first_of_two _ _ plain)
+  no_groups = nothing_in _ (and_first _ _ plain)
 
   no_groups_named : All (λ a. a.groups.items ≡ []) (args_of command)
   no_groups_named k d low =

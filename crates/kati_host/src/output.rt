@@ -41,8 +41,8 @@ impl<W: Write + Drop> HostSink<W> {
         count
     }
 
-    // What comes of a write that took this many bytes, and of the flush after it. Taking none, like a failed flush, is a
-    // failure.
+    // What comes of a write that took this many bytes, and of the flush after it. Taking none, like a failed flush, is
+    // a failure.
     fn flushed(&mut self, count: usize, flush: io::Result<()>) -> Result<usize, SinkFault>
         ensures written { self.new.written.items ≡ self.old.written.items }
         ensures output { self.new.output ≡ self.old.output }

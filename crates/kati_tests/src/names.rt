@@ -7,8 +7,8 @@ use kt_testing::put;
 use std::alloc::Global;
 use std::process::Abort;
 
-/// A run whose devices don't fail: its label, the words after the program's name, the files, the plan and the names that
-/// are written, the exit status, and the error output.
+/// A run whose devices don't fail: its label, the words after the program's name, the files, the plan and the names
+/// that are written, the exit status, and the error output.
 type Row = (
     &'static str,
     &'static [&'static str],

@@ -1,4 +1,5 @@
--- The names that most definitions cite, of the crates below and of the code, passed on from one place. Declares nothing.
+-- The names that most definitions cite, of the crates below and of the code, passed on from one place. Declares
+-- nothing.
 pub use Rattle.kt_eval.specs.Outcome.{AsksNothing, Gave, Gives, IfCut, Outcome, StepOver, Stopped, leaving, left_of}
 pub use Rattle.kt_eval.specs.State.{World, ask, bind, found_of, frozen_world, lookup, message_place, move_to, raw_value, say, set_macro, set_rule, unbind, warn}
 pub use Rattle.kt_eval.specs.Step.{Blames, GoesOn, Keeps, Seen, Step, change, fault_at, files_of, stop}

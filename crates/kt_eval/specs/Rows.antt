@@ -47,7 +47,8 @@ pub record RowsOfCalls : Type 0 where
   pub joined : comes_to [] 9 (codes "$(join a b,1 2 3)") ≡ Gave [] (codes "a1 b2 3")
   pub blank_condition : comes_to (deferred (codes "s") (codes " ") ∷ []) 9 (codes "[$(if $(s),y,n)]")
       ≡ Gave [] (codes "[y]")
-  pub argument : comes_to (deferred (codes "f") (codes "[$(1):$(2)]") ∷ deferred (codes "g") (codes "$(call f,x)$(2)") ∷ []) 9 (codes "$(call g,a,b)")
+  pub argument : comes_to (deferred (codes "f") (codes "[$(1):$(2)]") ∷ deferred (codes "g") (codes "$(call f,x)$(2)")
+      ∷ []) 9 (codes "$(call g,a,b)")
       ≡ Gave [] (codes "[x:]b")
   pub stopped : comes_to [] 9 (codes "$(info a)$(error no)")
       ≡ Stopped (codes "a" ∷ []) (fault_at None 19 (codes "no"))
@@ -66,7 +67,8 @@ pub record RowsOfAssignments : Type 0 where
   pub appended_at_once : assigning operator.Append (Some (set_by_makefile Immediate (codes "x"))) ≡ expands (codes "x ")
   pub appended_new : assigning operator.Append None ≡ defers []
   pub kept : assigning operator.Conditional (Some (set_by_makefile Immediate [])) ≡ keeps
-  pub command_line : assigning operator.Deferred (Some (record { flavour = Deferred; origin = CommandLine; value = codes "1" }))
+  pub command_line : assigning operator.Deferred
+      (Some (record { flavour = Deferred; origin = CommandLine; value = codes "1" }))
       ≡ keeps
   pub parentheses : compared_of (codes "( a , (b,c) ) x") ≡ Some (record { first = codes "a"; second = codes "(b,c)" })
   pub quotes : compared_of (codes "\" a\"'a'") ≡ Some (record { first = codes " a"; second = codes "a" })

@@ -46,7 +46,8 @@ GoesOn old new =
 -- the files are the same; answers, failures, messages and names asked for are only added to
 abbrev pub Keeps : Seen → Seen → Type 0
 Keeps old new =
-    AnswersGrow old.answers new.answers × (new.lender ≡ old.lender) × (old.failed ≤ new.failed) × GoesOn old.world new.world
+    AnswersGrow old.answers new.answers × (new.lender ≡ old.lender) × (old.failed ≤ new.failed)
+    × GoesOn old.world new.world
 
 abbrev pub Step : Type 0 → Type 0
 Step A = StepOver World A

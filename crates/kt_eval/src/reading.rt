@@ -154,7 +154,8 @@ impl<'a, M: Scope, F: Files> Evaluation<'a, M, F> {
         ensures goes_on { (store : Store) → AgreeWith store self.new.answers → IfOk result
             (λ at. reading_from M.writable store below page.now place self.old.world
             ≡ reading_from M.writable store below page.now at self.new.world) }
-        ensures fails { (store : Store) → AgreeWith store self.new.answers → IfErr result (λ stop. Fails stop self.new.world
+        ensures fails { (store : Store) → AgreeWith store self.new.answers
+            → IfErr result (λ stop. Fails stop self.new.world
             (reading_from M.writable store below page.now place self.old.world)) }
         ensures cut { (store : Store) → AgreeWith store self.new.answers → IfCut result (GoesOn self.new.world
             (left_of (reading_from M.writable store below page.now place self.old.world))) }
@@ -184,7 +185,8 @@ impl<'a, M: Scope, F: Files> Evaluation<'a, M, F> {
         ensures goes_on { (store : Store) → AgreeWith store self.new.answers → IfOk result
             (λ at. reading_from M.writable store below page.now place self.old.world
             ≡ reading_from M.writable store below page.now at self.new.world) }
-        ensures fails { (store : Store) → AgreeWith store self.new.answers → IfErr result (λ stop. Fails stop self.new.world
+        ensures fails { (store : Store) → AgreeWith store self.new.answers
+            → IfErr result (λ stop. Fails stop self.new.world
             (reading_from M.writable store below page.now place self.old.world)) }
         ensures cut { (store : Store) → AgreeWith store self.new.answers → IfCut result (GoesOn self.new.world
             (left_of (reading_from M.writable store below page.now place self.old.world))) }
@@ -233,7 +235,8 @@ impl<'a, M: Scope, F: Files> Evaluation<'a, M, F> {
         ensures goes_on { (store : Store) → AgreeWith store self.new.answers → IfOk result
             (λ at. reading_from M.writable store below page.now place self.old.world
             ≡ reading_from M.writable store below page.now at self.new.world) }
-        ensures fails { (store : Store) → AgreeWith store self.new.answers → IfErr result (λ stop. Fails stop self.new.world
+        ensures fails { (store : Store) → AgreeWith store self.new.answers
+            → IfErr result (λ stop. Fails stop self.new.world
             (reading_from M.writable store below page.now place self.old.world)) }
         ensures cut { (store : Store) → AgreeWith store self.new.answers → IfCut result (GoesOn self.new.world
             (left_of (reading_from M.writable store below page.now place self.old.world))) }
@@ -254,7 +257,11 @@ impl<'a, M: Scope, F: Files> Evaluation<'a, M, F> {
     }
 
     #[cycle(evaluate)]
-    #[tactic(auto, using(crate::proofs::Steps::branch_holds_goes), unfolding(crate::specs::reading::Reading::branch_holds))]
+    #[tactic(
+        auto,
+        using(crate::proofs::Steps::branch_holds_goes),
+        unfolding(crate::specs::reading::Reading::branch_holds)
+    )]
     pub(crate) fn branch_holds(
         &mut self,
         below: u64,
@@ -376,7 +383,11 @@ impl<'a, M: Scope, F: Files> Evaluation<'a, M, F> {
     }
 
     #[cycle(evaluate)]
-    #[tactic(auto, using(crate::proofs::Steps::include_line_goes), unfolding(crate::specs::reading::Reading::read_include))]
+    #[tactic(
+        auto,
+        using(crate::proofs::Steps::include_line_goes),
+        unfolding(crate::specs::reading::Reading::read_include)
+    )]
     pub(crate) fn read_include(
         &mut self,
         below: u64,
@@ -441,7 +452,11 @@ impl<'a, M: Scope, F: Files> Evaluation<'a, M, F> {
 
     // A rule line, from its parts.
     #[cycle(evaluate)]
-    #[tactic(auto, using(crate::proofs::Steps::read_rule_steps), unfolding(crate::specs::reading::Rules::rule_of_parts))]
+    #[tactic(
+        auto,
+        using(crate::proofs::Steps::read_rule_steps),
+        unfolding(crate::specs::reading::Rules::rule_of_parts)
+    )]
     pub(crate) fn read_rule(
         &mut self,
         below: u64,

@@ -1,4 +1,6 @@
 //! Texts that macros, bindings and arguments hold.
+//! Fast: a long value is held by all that share it, and grows in place where nothing else holds it. Spares a copy at
+//! each use, and at each `+=`.
 ghost use Rattle.std.specs.Prelude.{◌≡◌, ◌++◌, IfOk, OnErr, OnOk};
 ghost use Rattle.std.specs.Cow.{cow_slice_items};
 

@@ -1,4 +1,5 @@
--- The names that most definitions cite, of the crates below and of the code, passed on from one place. Declares nothing.
+-- The names that most definitions cite, of the crates below and of the code, passed on from one place. Declares
+-- nothing.
 pub use Rattle.kt_graph.specs.declared.nodes.node.NodeKind.{NodeKind}
 pub use Rattle.kt_graph.specs.declared.nodes.node.NodeKind.TheVariants.{Explicit, Implicit, Leaf}
 pub use Rattle.kt_graph.specs.declared.search.choice.Chosen.{Chosen}

@@ -37,7 +37,8 @@ circle = pattern (codes "%.a") (codes "%.b") 1 ∷ pattern (codes "%.b") (codes 
 -- the rule that is chosen, by its number, with the directory, the stem and all prerequisites
 abbrev pub chosen_as : List Rule → List Text → Text → Option (ℕ × Text × Text × List Text)
 chosen_as rules known name =
-    option_map (λ candidate. (candidate.rule, candidate.directory, candidate.stem, all_needs candidate.needs)) (choice_of rules known name)
+    option_map (λ candidate. (candidate.rule, candidate.directory, candidate.stem, all_needs candidate.needs))
+    (choice_of rules known name)
 
 -- choices
 pub record RowsOfChoices : Type 0 where
@@ -46,25 +47,32 @@ pub record RowsOfChoices : Type 0 where
   pub nothing_known : chosen_as objects [] (codes "x.o") ≡ None
   pub circular : chosen_as circle [] (codes "x.a") ≡ None
   pub empty_stem : chosen_as objects (codes ".c" ∷ []) (codes ".o") ≡ None
-  pub directory : chosen_as objects (codes "d/x.c" ∷ []) (codes "d/x.o") ≡ Some (0, codes "d/", codes "x", codes "d/x.c" ∷ [])
-  pub shortest : chosen_as (pattern (codes "%.o") (codes "k") 1 ∷ pattern (codes "x%.o") (codes "k") 2 ∷ []) (codes "k" ∷ []) (codes "xy.o")
+  pub directory : chosen_as objects (codes "d/x.c" ∷ []) (codes "d/x.o")
+      ≡ Some (0, codes "d/", codes "x", codes "d/x.c" ∷ [])
+  pub shortest : chosen_as (pattern (codes "%.o") (codes "k") 1 ∷ pattern (codes "x%.o") (codes "k") 2 ∷ [])
+      (codes "k" ∷ []) (codes "xy.o")
       ≡ Some (1, [], codes "y", codes "k" ∷ [])
-  pub any_name_dropped : chosen_as (pattern (codes "%.o") (codes "q") 1 ∷ pattern (codes "%") (codes "k") 2 ∷ []) (codes "k" ∷ []) (codes "x.o") ≡ None
-  pub terminal : chosen_as (rule TerminalPattern (codes "%.o") (codes "%.c" ∷ []) [] true 1 ∷ pattern (codes "%.c") (codes "%.y") 2 ∷ []) (codes "x.y" ∷ []) (codes "x.o") ≡ None
+  pub any_name_dropped : chosen_as (pattern (codes "%.o") (codes "q") 1 ∷ pattern (codes "%") (codes "k") 2 ∷ [])
+      (codes "k" ∷ []) (codes "x.o") ≡ None
+  pub terminal : chosen_as (rule TerminalPattern (codes "%.o") (codes "%.c" ∷ []) [] true 1 ∷ pattern (codes "%.c")
+      (codes "%.y") 2 ∷ []) (codes "x.y" ∷ []) (codes "x.o") ≡ None
 
 -- questions
 pub record RowsOfQuestions : Type 0 where
   pub met : asked_after objects (codes "x.c" ∷ []) [] (codes "x.o") ≡ (codes "x.o", []) ∷ []
-  pub inner : asked_after objects [] [] (codes "x.o") ≡ (codes "x.o", []) ∷ (codes "x.c", 0 ∷ []) ∷ (codes "x.y", 0 ∷ 1 ∷ []) ∷ []
+  pub inner : asked_after objects [] [] (codes "x.o")
+      ≡ (codes "x.o", []) ∷ (codes "x.c", 0 ∷ []) ∷ (codes "x.y", 0 ∷ 1 ∷ []) ∷ []
 
 -- nodes
 pub record RowsOfNodes : Type 0 where
   pub explicit : (node_of (needing (codes "a") (codes "b") 1 ∷ []) [] (codes "a")).kind ≡ kinds.Explicit
   pub leaf : (node_of (needing (codes "a") (codes "b") 1 ∷ []) [] (codes "b")).kind ≡ kinds.Leaf
   pub phony : (node_of (needing (codes ".PHONY") (codes "b") 1 ∷ []) [] (codes "b")).kind ≡ kinds.Phony
-  pub used_first : inputs_of (node_of (needing (codes "a") (codes "b") 1 ∷ rule SingleColon (codes "a") (codes "c" ∷ []) [] true 2 ∷ []) [] (codes "a"))
+  pub used_first : inputs_of (node_of (needing (codes "a") (codes "b") 1 ∷ rule SingleColon (codes "a") (codes "c" ∷
+      []) [] true 2 ∷ []) [] (codes "a"))
       ≡ codes "c" ∷ codes "b" ∷ []
-  pub without_inputs : order_only_of (node_of (rule SingleColon (codes "t") (codes "x" ∷ []) (codes "x" ∷ codes "y" ∷ []) true 1 ∷ []) [] (codes "t"))
+  pub without_inputs : order_only_of (node_of (rule SingleColon (codes "t") (codes "x" ∷ []) (codes "x" ∷ codes "y" ∷
+      []) true 1 ∷ []) [] (codes "t"))
       ≡ codes "y" ∷ []
 
 -- goals

@@ -1,6 +1,10 @@
 //! A list gives back what it was made from.
-use crate::{Key, Names, Rows, Sequence, Shared, ShortText, Text, narrow};
+use crate::{
+    Key, Lists, ListsOver, Names, NamesOver, Rows, Sequence, Shared, ShortText, Text, narrow,
+    narrow_sum,
+};
 use indexmap::IndexSet;
+use std::alloc::{AllocError, Global};
 use std::test::Fail;
 
 #[test]
@@ -140,5 +144,57 @@ fn holds_short_texts(rt: HostRuntime) -> Result<(), Fail> {
 fn narrows_numbers(rt: HostRuntime) -> Result<(), Fail> {
     assert_eq!(rt; narrow(4_294_967_295)?, 4_294_967_295);
     assert!(rt; narrow(4_294_967_296).is_err());
+    assert_eq!(rt; narrow_sum(4_294_967_290, 5)?, 4_294_967_295);
+    assert!(rt; narrow_sum(4_294_967_290, 6).is_err());
+    assert!(rt; narrow_sum(usize::MAX, 6).is_err());
     Ok(())
+}
+
+#[test]
+fn numbers_each_list_once(rt: HostRuntime) -> Result<(), Fail> {
+    let mut lists = Lists::new(rt.alloc());
+    assert_eq!(rt; lists.add(&[7])?, 0);
+    assert_eq!(rt; lists.add(&[3, 1, 2])?, 1);
+    assert_eq!(rt; lists.add(&[7])?, 0);
+    assert_eq!(rt; lists.get(1), Some([3u32, 1, 2].as_slice()));
+    assert_eq!(rt; lists.number_of(&[1, 3]), None);
+    Ok(())
+}
+
+#[test]
+fn numbers_lists_of_one_hash(rt: HostRuntime) -> Result<(), Fail> {
+    let mut lists = Lists::new(rt.alloc());
+    assert_eq!(rt; lists.add(&[1, 0, 0, 0])?, 0);
+    assert_eq!(rt; lists.add(&[0, 0, 2_135_587_861, 2_654_435_769])?, 1);
+    Ok(())
+}
+
+#[test]
+fn numbers_names_after_those_of_a_table(rt: HostRuntime) -> Result<(), Fail> {
+    let base = names_of(rt.alloc(), b"a")?;
+    let mut names = NamesOver::new(rt.alloc(), &base);
+    assert_eq!(rt; names.number(b"b")?, 1);
+    assert_eq!(rt; names.get(1), Some(b"b".as_slice()));
+    Ok(())
+}
+
+#[test]
+fn numbers_lists_after_those_of_a_table(rt: HostRuntime) -> Result<(), Fail> {
+    let base = lists_of(rt.alloc(), &[2, 1])?;
+    let mut lists = ListsOver::new(rt.alloc(), &base);
+    assert_eq!(rt; lists.add(&[2])?, 1);
+    assert_eq!(rt; lists.get(1), Some([2u32].as_slice()));
+    Ok(())
+}
+
+fn names_of(alloc: Global, name: &[u8]) -> Result<Names, AllocError> {
+    let mut names = Names::new(alloc);
+    names.add(name)?;
+    Ok(names)
+}
+
+fn lists_of(alloc: Global, list: &[u32]) -> Result<Lists, AllocError> {
+    let mut lists = Lists::new(alloc);
+    let _number = lists.add(list)?;
+    Ok(lists)
 }

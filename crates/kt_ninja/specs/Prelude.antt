@@ -1,4 +1,5 @@
--- The names that most definitions cite, of the crates below and of the code, passed on from one place. Declares nothing.
+-- The names that most definitions cite, of the crates below and of the code, passed on from one place. Declares
+-- nothing.
 pub use Rattle.kt_ninja.specs.declared.plan.Made.{Made}
 pub use Rattle.kt_ninja.specs.declared.plan.Made.TheVariants.{Command, Phony}
 pub use Rattle.kt_ninja.specs.declared.plan.Plan.{Plan}

@@ -1,4 +1,6 @@
 //! The text of a plan as a Ninja file.
+//! Fast: a command is asked for once, and so is each list of names, which is read by places. Spares a look-up of the
+//! statement for each name.
 ghost use Rattle.std.specs.Prelude.{◌≡◌, ◌≤◌, ◌<◌, ℕ, OnOk, OnErr, Some, false, length, option_map, slice_get};
 ghost use Rattle.kt_list.specs.Counters.{Rises};
 ghost use Rattle.kt_ninja.specs.Blocks.{Prints, Puts};

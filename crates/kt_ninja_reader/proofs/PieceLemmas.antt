@@ -59,7 +59,7 @@ unfolding pieces_from
 outside-nil = refl
 
 -- after a name without braces, which a byte ends that isn't one of a name
-name_ended : (name : Text) (b : ℕ) (bs : Text) (dollar : Bool) → (b == 36) ≡ dollar
+pub name_ended : (name : Text) (b : ℕ) (bs : Text) (dollar : Bool) → (b == 36) ≡ dollar
     → option_and_then (λ s. option_map (λ later. s.done ++ later) (pieces_from s.next bs)) (Some (outer_step (Variable name ∷ []) b))
     ≡ option_map (λ later. Variable name ∷ later) (option_and_then (λ s. option_map (λ later. s.done ++ later) (pieces_from s.next bs)) (Some (outer_step [] b)))
 name_ended name b bs true h = rw h (ap (option_map (λ later. Variable name ∷ later)) (sym (none_before (pieces_from after_dollar bs))))
@@ -107,7 +107,7 @@ brace_end_by [] b bs h true d = rw d refl
 brace_end_by (f ∷ fs) b bs h true d = rw d refl
 brace_end_by name b bs h false d = rw (d, h) refl
 
-not_brace : (b : ℕ) → is_long_name_byte b ≡ true → (b == 125) ≡ false
+pub not_brace : (b : ℕ) → is_long_name_byte b ≡ true → (b == 125) ≡ false
 not_brace b h = ⊎_elim (λ d. absurd (false≢true (sym (long_before_brace b d) ∙ h))) (λ d. d) (cases_Bool (b == 125))
 
 brace_more : (name : Text) (b : ℕ) (bs : Text) → is_long_name_byte b ≡ true → pieces_from (in_braces name) (b ∷ bs) ≡ pieces_from (in_braces (name ++ b ∷ [])) bs

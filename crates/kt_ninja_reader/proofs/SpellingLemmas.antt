@@ -2,7 +2,7 @@
 use Rattle.std.proofs.Common.{◌≡◌, ℕ, Bool, true, false, ◌==◌, List, [], ◌∷◌, ◌++◌, refl, sym, ◌∙◌, ap, subst, append_assoc, append-nil, Option, Some, None, option_map, ⊎_elim, inl, inr}
 use Rattle.kt_ninja_reader.proofs.Common.{cases_Bool, false≢true, eqb-true, false_from_ne_true, and_from, and_parts, append_cancel_left, list_all-append, concat, list_all, option_and_then, Text, is_empty, Piece, Plain, Escaped, Variable, Where, after_dollar, in_braces, in_name, is_escapable, is_long_name_byte, is_short_name_byte, outer_step, outside, pieces, pieces_from}
 use Rattle.kt_ninja_reader.specs.Spellings.{AreSpelled, IsNameOf, IsSpelled, PieceLaw, name_goes_on}
-use Rattle.kt_ninja_reader.proofs.PieceLemmas.{none_before, escape-brace, escape-escapable, escape-nil, escape-none, escape-short, map_twice, outside-dollar, outside-nil, outside-plain}
+use Rattle.kt_ninja_reader.proofs.PieceLemmas.{none_before, escape-brace, escape-escapable, escape-nil, escape-none, escape-short, map_twice, outside-dollar, outside-nil, outside-plain, name_ended, not_brace}
 
 -- ---- bytes
 
@@ -15,22 +15,7 @@ short_is_no byte none b h =
 short_is_not_escapable : (b : ℕ) → is_short_name_byte b ≡ true → is_escapable b ≡ false
 short_is_not_escapable b h = rw (short_is_no 36 refl b h, short_is_no 32 refl b h, short_is_no 58 refl b h) refl
 
-long_is_no_brace : (b : ℕ) → is_long_name_byte b ≡ true → (b == 125) ≡ false
-long_is_no_brace b h = false_from_ne_true _
-    (λ e. false≢true (subst (λ c. is_long_name_byte c ≡ true) (eqb-true b 125 e) h))
-
 -- ---- runs of names
-
--- a byte ends the name in front of it
-name_ended : (name : Text) (b : ℕ) (bs : Text) (dollar : Bool) → (b == 36) ≡ dollar
-    → option_and_then (λ s. option_map (λ later. s.done ++ later) (pieces_from s.next bs))
-    (Some (outer_step (Variable name ∷ []) b))
-    ≡ option_map (λ later. Variable name ∷ later)
-    (option_and_then (λ s. option_map (λ later. s.done ++ later) (pieces_from s.next bs))
-    (Some (outer_step [] b)))
-name_ended name b bs true h =
-    rw h (ap (option_map (λ later. Variable name ∷ later)) (sym (none_before (pieces_from after_dollar bs))))
-name_ended name b bs false h = rw h (sym (map_twice (Variable name ∷ []) (Plain b ∷ []) (pieces_from outside bs)))
 
 name_run : (bs before after : Text) → list_all is_short_name_byte bs ≡ true → name_goes_on after ≡ false
     → pieces_from (in_name before) (bs ++ after)
@@ -54,7 +39,7 @@ brace_run [] before after all some = let named : is_empty before ≡ false =
 brace_run (b ∷ bs) before after all some =
     let both = and_parts (is_long_name_byte b) (list_all is_long_name_byte bs) all in
     let same = append_assoc before (b ∷ []) bs in
-    rw (long_is_no_brace b both.0, both.0)
+    rw (not_brace b both.0, both.0)
     (none_before (pieces_from (in_braces (before ++ b ∷ [])) (bs ++ 125 ∷ after))
     ∙ brace_run bs (before ++ b ∷ []) after both.1 (ap is_empty same ∙ some)
     ∙ ap (λ (name : Text). option_map (λ later. Variable name ∷ later) (pieces_from outside after)) same)

@@ -32,4 +32,5 @@ pub record LayoutLaw : Type 0 where
   pub comment : (front back : List Continued) (line : Continued) → AreContinued (front ++ line ∷ back)
       → is_sound_line line ≡ true → is_comment (text_of line) ≡ true → SaysNothing front line back
   pub blank : (front back : List Continued) (line : Continued) → AreContinued (front ++ line ∷ back)
-      → is_sound_line line ≡ true → is_blank (text_of line) ≡ true → is_between back ≡ true → SaysNothing front line back
+      → is_sound_line line ≡ true → is_blank (text_of line)
+      ≡ true → is_between back ≡ true → SaysNothing front line back

@@ -1,4 +1,5 @@
--- The names that most definitions cite, of the crates below and of the code, passed on from one place. Declares nothing.
+-- The names that most definitions cite, of the crates below and of the code, passed on from one place. Declares
+-- nothing.
 pub use Rattle.kt_list.specs.Names.{is_among}
 pub use Rattle.kt_ninja.specs.Writable.{is_empty}
 pub use Rattle.kt_ninja.specs.declared.plan.Made.{Made}

@@ -5,7 +5,8 @@ use Rattle.kt_ninja_reader.specs.NinjaRead.{ninja_read}
 
 -- a statement by its fields in order
 abbrev pub statement : List (List ℕ) → Made → List (List ℕ) → List (List ℕ) → List (List ℕ) → Statement
-statement outs made inputs implicit order_only = record { outs = outs; made = made; inputs = inputs; implicit = implicit; order_only = order_only }
+statement outs made inputs implicit order_only = record { outs = outs; made = made; inputs = inputs; implicit =
+    implicit; order_only = order_only }
 
 -- the reading that gives these statements and default targets
 abbrev pub plan : List Statement → List (List ℕ) → Result Plan ℕ
@@ -20,8 +21,10 @@ pub record RowsOfPlans : Type 0 where
       ≡ plan (statement (codes "o" ∷ []) (Command (codes "cat a\nb")) (codes "a" ∷ codes "b" ∷ []) [] [] ∷ []) []
   pub two_outputs : ninja_read (codes "rule r\n command = x >$out\nbuild a b: r\n")
       ≡ plan (statement (codes "a" ∷ codes "b" ∷ []) (Command (codes "x >a b")) [] [] [] ∷ []) []
-  pub compiled : ninja_read (codes "sh = /bin/sh -c\nrule c\n command = $sh 'cc -c $in -o $out'\nbuild a.o: c   a.c\ndefault a.o\n")
-      ≡ plan (statement (codes "a.o" ∷ []) (Command (codes "/bin/sh -c 'cc -c a.c -o a.o'")) (codes "a.c" ∷ []) [] [] ∷ []) (codes "a.o" ∷ [])
+  pub compiled : ninja_read
+      (codes "sh = /bin/sh -c\nrule c\n command = $sh 'cc -c $in -o $out'\nbuild a.o: c   a.c\ndefault a.o\n")
+      ≡ plan (statement (codes "a.o" ∷ []) (Command (codes "/bin/sh -c 'cc -c a.c -o a.o'")) (codes "a.c" ∷ []) [] []
+      ∷ []) (codes "a.o" ∷ [])
   pub joined_name : ninja_read (codes "name = x\nbuild $na$\n  me: phony\ndefault x\n")
       ≡ plan (statement (codes "x" ∷ []) Phony [] [] [] ∷ []) (codes "x" ∷ [])
   pub joined_keyword : ninja_read (codes "$\nbuild t: phony\ndefault t\n")
@@ -32,8 +35,10 @@ pub record RowsOfPlans : Type 0 where
       ≡ plan (statement (codes "t" ∷ []) Phony [] [] (codes "@b" ∷ []) ∷ []) (codes "t" ∷ [])
   pub all_inputs : ninja_read (codes "build t:phony a|b||c\n")
       ≡ plan (statement (codes "t" ∷ []) Phony (codes "a" ∷ []) (codes "b" ∷ []) (codes "c" ∷ []) ∷ []) []
-  pub own_command : ninja_read (codes "rule r\n command = x $in\nbuild a: r b\n command = /bin/sh -c '$$^ $in'\ndefault a\n")
-      ≡ plan (statement (codes "a" ∷ []) (Command (codes "/bin/sh -c '$^ '")) (codes "b" ∷ []) [] [] ∷ []) (codes "a" ∷ [])
+  pub own_command : ninja_read
+      (codes "rule r\n command = x $in\nbuild a: r b\n command = /bin/sh -c '$$^ $in'\ndefault a\n")
+      ≡ plan (statement (codes "a" ∷ []) (Command (codes "/bin/sh -c '$^ '")) (codes "b" ∷ []) [] [] ∷ []) (codes "a"
+      ∷ [])
   pub command_of_phony : ninja_read (codes "build t: phony\n command = x\ndefault t\n")
       ≡ plan (statement (codes "t" ∷ []) Phony [] [] [] ∷ []) (codes "t" ∷ [])
   pub equals_is_a_path : ninja_read (codes "build =: phony\ndefault =\n")

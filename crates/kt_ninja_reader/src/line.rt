@@ -1,4 +1,6 @@
 //! A joined line and its text.
+//! Fast: a line borrows its text from the file; one that is joined, or has no newline, is held apart. Spares a copy of
+//! the file, and room in each line.
 ghost use Rattle.std.specs.Prelude.{◌≡◌, ◌++◌, [], IfOk, IfSome, OnOk};
 
 use std::alloc::{AllocError, Global};

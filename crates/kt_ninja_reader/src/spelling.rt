@@ -1,4 +1,5 @@
 //! Paths and values as a Ninja file spells them.
+//! Fast: a path or a value is read where it lies in the file. Spares a copy of each.
 ghost use Rattle.std.specs.Prelude.{◌≡◌, ◌≤◌, ◌<◌, ◌++◌, ◌∷◌, [], false, true, is_some, length, map, IfNone, IfOk};
 ghost use Rattle.std.specs.Prelude.{MatchOption, None, OnOk, Some};
 ghost use Rattle.std.specs.List.{list_any, prefix_len};

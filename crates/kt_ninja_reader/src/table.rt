@@ -1,4 +1,5 @@
 //! Finite maps from names.
+//! Fast: a rule's name is a slice of the file. Spares a copy of each.
 ghost use Rattle.std.specs.Prelude.{◌≡◌, [], is_some, OnOk};
 ghost use Rattle.std.specs.Option.{option_copied};
 ghost use Rattle.kt_ninja_reader.specs.Scopes.{find_in, put_in};

@@ -1,5 +1,5 @@
-//! Tests of kt_ninja and kt_ninja_reader, which call what these make public. They stand in a crate of their own, since a
-//! crate that has tests is proved once more with them.
+//! Tests of kt_ninja and kt_ninja_reader, which call what these make public. They stand in a crate of their own, since
+//! a crate that has tests is proved once more with them.
 #![tactic(auto)]
 
 #[cfg(test)]

@@ -5,9 +5,7 @@ use Rattle.kt_eval.specs.declared.macros.Flavour.{Flavour}
 use Rattle.kt_eval.proofs.lemmas.expanding.LiteralLemmas.{stays}
 use Rattle.kt_recipe.specs.inner.Plain.{is_plain, if_plain, plain_value, spaced, plain_shell}
 use Rattle.kt_recipe.proofs.TermLemmas.{shell_terms}
-
-no_text : (text : Text) → None ≡ Some text → ⊥
-no_text text is = true≢false (sym (ap is_some is))
+use Rattle.kt_eval.proofs.lemmas.expanding.PlainLemmas.{no_text}
 
 -- ---- a value
 

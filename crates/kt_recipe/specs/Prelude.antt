@@ -1,4 +1,5 @@
--- The names that most definitions cite, of the crates below and of the code, passed on from one place. Declares nothing.
+-- The names that most definitions cite, of the crates below and of the code, passed on from one place. Declares
+-- nothing.
 pub use Rattle.kt_eval.specs.Outcome.{Gave, Outcome, Stopped}
 pub use Rattle.kt_eval.specs.Step.{Step, fault_at}
 pub use Rattle.kt_eval.specs.files.Files.{Store, look}

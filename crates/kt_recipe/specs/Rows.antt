@@ -11,14 +11,16 @@ line number text = record { text = text; place = record { file = codes "m"; line
 
 abbrev pub part : List RecipeLine → Text → List Text → List Text → Part
 part lines stem prerequisites order_only =
-    record { recipe = Some lines; stem = stem; needs = record { prerequisites = prerequisites; order_only = order_only } }
+    record { recipe = Some lines; stem = stem;
+      needs = record { prerequisites = prerequisites; order_only = order_only } }
 
 -- a target with prerequisites of all kinds
 abbrev pub sample : Node
 sample = record {
   name = codes "t";
   kind = Explicit;
-  parts = part [] (codes "d/t") (codes "a/x" ∷ codes "b" ∷ codes "a/x" ∷ []) (codes "c" ∷ codes "b" ∷ codes "c" ∷ []) ∷ [];
+  parts = part [] (codes "d/t") (codes "a/x" ∷ codes "b" ∷ codes "a/x" ∷ []) (codes "c" ∷ codes "b" ∷ codes "c" ∷ [])
+      ∷ [];
   made_with = None;
 }
 
@@ -35,7 +37,8 @@ abbrev pub doubled : Node
 doubled = record {
   name = codes "a";
   kind = DoubleColon;
-  parts = part (line 1 (codes "one $<") ∷ []) [] (codes "b" ∷ []) [] ∷ part (line 2 (codes "two $<") ∷ []) [] (codes "c" ∷ []) [] ∷ [];
+  parts = part (line 1 (codes "one $<") ∷ []) [] (codes "b" ∷ []) [] ∷ part (line 2 (codes "two $<") ∷ []) []
+      (codes "c" ∷ []) [] ∷ [];
   made_with = None;
 }
 

@@ -16,4 +16,5 @@ with_joint (byte ∷ text) = (byte ∷ text) ++ codes " && "
 
 -- what a line at a place is expanded with
 abbrev pub setting_at : Shell → Place → Setting
-setting_at shell place = setting_of shell.expander.now.table (automatic_in shell.node.now shell.part) shell.expander.now.limit place
+setting_at shell place = setting_of shell.expander.now.table (automatic_in shell.node.now shell.part)
+    shell.expander.now.limit place

@@ -1,4 +1,6 @@
 //! The lines of the recipe that was expanded last.
+//! Fast: a line is kept by its place in a recipe, up to 64, and the next node's line with the same text there only has
+//! its automatic macros put in. Spares its expansion.
 ghost use Rattle.std.specs.Prelude.{◌≡◌, IfOk, IfSome, MatchOption, false, true};
 ghost use Rattle.kt_recipe.specs.inner.Prepared.{IsFilled, IsRightLine, filled};
 

@@ -1,4 +1,6 @@
 //! A shell whose values expand to themselves.
+//! Fast: a shell whose two values are their own texts is expanded once a run. Spares its expansion for each piece of a
+//! recipe.
 ghost use Rattle.std.specs.Prelude.{◌≡◌, ◌++◌, ◌==◌, IfOk, codes, option_map};
 ghost use Rattle.std.specs.List.{list_any};
 ghost use Rattle.kt_eval.specs.macros.Macros.{find};

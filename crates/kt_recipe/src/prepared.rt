@@ -1,4 +1,6 @@
 //! Texts of which all but the automatic macros is known before any node is.
+//! Fast: a line of which all but the automatic macros is known, calls of text functions and conditions too, is
+//! expanded once, to pieces. Spares the search for references, a hash for each macro, and each call.
 ghost use Rattle.std.specs.Prelude.{◌≡◌, ◌++◌, [], IfOk, IfSome, OnOk, false, map, option_map, true};
 ghost use Rattle.kt_text.specs.Words.{stripped};
 ghost use Rattle.kt_syntax.specs.Terms.{reference, token_of};

@@ -175,8 +175,8 @@ impl<'a, 'm, 'g> Shell<'a, 'm, 'g> {
         Ok(())
     }
 
-    // Appends the commands of the line with a number. It is expanded only if its expansion isn't known but for automatic
-    // macros.
+    // Appends the commands of the line with a number. It is expanded only if its expansion isn't known but for
+    // automatic macros.
     fn put_line(
         &self,
         number: usize,

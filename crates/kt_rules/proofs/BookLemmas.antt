@@ -1,12 +1,13 @@
 -- What a book keeps beside its rules, as rules are added.
-use Rattle.std.proofs.Common.{◌≡◌, ℕ, ◌+◌, Bool, true, false, cond, ◌&&◌, ◌||◌, if◌then◌else◌, List, [], ◌∷◌, ◌++◌, length, map, filter, fold, find, drop, set, ◌≤◌, Option, Some, None, refl, sym, ap, ◌∙◌, arith, subst, is_some, is_none, ◌⊎◌, inl, inr, ⊎_elim, length-append, true≢false}
-use Rattle.kt_rules.proofs.Common.{option_map, option_and_then, option_or, option_map_or, flat_map, cons_option, list_any, bytes_eq, or_parts, append-nil, length_push, filter-append, list_any-append, flat_map-append, fold-append, bytes_eq-Decides, or_nothing, Text, Target, Spot, GotNames, HoldsAll, Rule, bad_group, both_colons, two_recipes, is_among, with_name, suffixes_of, suffixes_after, start_suffixes, AreApart, GroupsStandAlone, is_made, made_targets, target_rules, rules_of, recipes_of, has_recipe, is_double, is_group, phony_of, is_phony, xor, differ_in_colons, is_beside_group, both_colons_in, beside_group_in, two_recipes_in, refusal_of, spots_at, rules_in, slot_rule, target_rule, spot_rule, found, first_of, spot_at, target_spots, spots_from, spots_for, AreBefore, AreIn, GrewIn, GotSpots, GotRecipes, AreAlike, IsIndexOf, IsKept}
+use Rattle.std.proofs.Common.{◌≡◌, ℕ, ◌+◌, Bool, true, false, cond, ◌&&◌, ◌||◌, if◌then◌else◌, List, [], ◌∷◌, ◌++◌, length, map, filter, fold, find, drop, take, slice_get, ◌≤◌, Option, Some, None, refl, sym, ap, ◌∙◌, arith, subst, is_some, is_none, ◌⊎◌, inl, inr, ⊎_elim, length-append, true≢false}
+use Rattle.kt_rules.proofs.Common.{option_map, take-append_seam, option_and_then, option_or, option_map_or, flat_map, cons_option, list_any, bytes_eq, or_parts, append-nil, length_push, filter-append, list_any-append, flat_map-append, fold-append, bytes_eq-Decides, or_nothing, Text, Target, Spot, HoldsAll, Rule, bad_group, both_colons, two_recipes, is_among, with_name, suffixes_after, start_suffixes, AreApart, is_made, made_targets, target_rules, rules_of, recipes_of, has_recipe, is_double, is_group, phony_of, is_phony, xor, differ_in_colons, is_beside_group, both_colons_in, beside_group_in, two_recipes_in, refusal_of, spots_at, target_rule, spot_rule, found, first_of, spot_at, target_spots, spots_from, spots_for, AreBefore, AreIn, ForgotFrom, GrewIn, GotSpots, GotRecipes, AreAlike, IsIndexOf, IsKept}
+use Rattle.kt_list.specs.Prefixes.{HasMore}
 use Rattle.std.proofs.lemmas.List.Quantifiers.{all_pairs_push}
 use Rattle.kt_rules.specs.inner.Lists.{Notes}
 use Rattle.kt_rules.proofs.FindLemmas.{find_none, some_none}
 use Rattle.kt_rules.proofs.GroupLemmas.{apart_last}
 use Rattle.kt_rules.proofs.NoteLemmas.{names_after}
-use Rattle.kt_rules.proofs.SlotLemmas.{rules_in-none, rules_in-some, found-before, found-in_none, found-append, before_more, before_in, before_append, in_spots_from, first_target, put_last, slot_last}
+use Rattle.kt_rules.proofs.SpotLemmas.{found-before, found-append, before_more, before_in, before_append, in_spots_from, first_target, rule_last, taken_back}
 
 -- the rules of a name among those of one rule
 abbrev of_name : Rule → Text → List (Rule × Target)
@@ -47,84 +48,67 @@ recipes_of-more rules rule name =
 
 -- ---- what the spots of a new rule find
 
-one_found : (slots : List (Option Rule)) (spot : Spot) (rule : Rule) (target : Target) (name : Text) (rest : List (Rule × Target)) (others : List Target)
-    → spot_rule slots spot ≡ Some (rule, target)
+one_found : (rules : List Rule) (spot : Spot) (rule : Rule) (target : Target) (name : Text) (rest : List (Rule × Target)) (others : List Target)
+    → spot_rule rules spot ≡ Some (rule, target)
     → rest ≡ filter (λ (made : Rule × Target). bytes_eq name made.1.name) (map (λ t. (rule, t)) others)
     → (b c : Bool) → bytes_eq name target.name ≡ c
-    → found slots (if b then (if c then spot ∷ [] else []) else []) ++ rest
+    → found rules (if b then (if c then spot ∷ [] else []) else []) ++ rest
     ≡ filter (λ (made : Rule × Target). bytes_eq name made.1.name) (map (λ t. (rule, t)) (cond b (target ∷ others) others))
 unfolding found
-one_found slots spot rule target name rest others at tail true true e =
+one_found rules spot rule target name rest others at tail true true e =
     ap (λ r. cons_option r [] ++ rest) at ∙ ap (λ xs. (rule, target) ∷ xs) tail
     ∙ sym (ap (λ d. cond d ((rule, target) ∷ filter (λ (made : Rule × Target). bytes_eq name made.1.name) (map (λ t. (rule, t)) others)) (filter (λ (made : Rule × Target). bytes_eq name made.1.name) (map (λ t. (rule, t)) others))) e)
-one_found slots spot rule target name rest others at tail true false e =
+one_found rules spot rule target name rest others at tail true false e =
     tail
     ∙ sym (ap (λ d. cond d ((rule, target) ∷ filter (λ (made : Rule × Target). bytes_eq name made.1.name) (map (λ t. (rule, t)) others)) (filter (λ (made : Rule × Target). bytes_eq name made.1.name) (map (λ t. (rule, t)) others))) e)
-one_found slots spot rule target name rest others at tail false c e = tail
+one_found rules spot rule target name rest others at tail false c e = tail
 
-found-own : (slots : List (Option Rule)) (rule : Rule) (name : Text) (number : ℕ) (targets : List Target) → targets ≡ drop number rule.targets
-    → found (slots ++ Some rule ∷ []) (spots_from rule (length slots) number targets name)
+found-own : (rules : List Rule) (rule : Rule) (name : Text) (number : ℕ) (targets : List Target) → targets ≡ drop number rule.targets
+    → found (rules ++ rule ∷ []) (spots_from rule (length rules) number targets name)
     ≡ filter (λ (made : Rule × Target). bytes_eq name made.1.name) (map (λ t. (rule, t)) (filter (is_made rule) targets))
 unfolding spots_from found
-found-own slots rule name number [] h = refl
-found-own slots rule name number (target ∷ targets) h =
+found-own rules rule name number [] h = refl
+found-own rules rule name number (target ∷ targets) h =
     let at = first_target rule.targets number target targets h in
-    let here : spot_rule (slots ++ Some rule ∷ []) (spot_at (length slots) number) ≡ Some (rule, target)
-    = ap (λ r. option_and_then (λ x. target_rule x number) r) (slot_last slots (Some rule)) ∙ ap (option_map (λ t. (rule, t))) at.0 in
-    found-append (slots ++ Some rule ∷ []) (target_spots rule target (spot_at (length slots) number) name) (spots_from rule (length slots) (number + 1) targets name)
-    ∙ one_found (slots ++ Some rule ∷ []) (spot_at (length slots) number) rule target name _ (filter (is_made rule) targets) here
-    (found-own slots rule name (number + 1) targets at.1) (is_made rule target) (bytes_eq name target.name) refl
+    let here : spot_rule (rules ++ rule ∷ []) (spot_at (length rules) number) ≡ Some (rule, target)
+    = ap (λ r. option_and_then (λ x. target_rule x number) r) (rule_last rules rule) ∙ ap (option_map (λ t. (rule, t))) at.0 in
+    found-append (rules ++ rule ∷ []) (target_spots rule target (spot_at (length rules) number) name) (spots_from rule (length rules) (number + 1) targets name)
+    ∙ one_found (rules ++ rule ∷ []) (spot_at (length rules) number) rule target name _ (filter (is_made rule) targets) here
+    (found-own rules rule name (number + 1) targets at.1) (is_made rule target) (bytes_eq name target.name) refl
 
-found-for : (slots : List (Option Rule)) (rule : Rule) (name : Text) (b : Bool)
-    → found (slots ++ Some rule ∷ []) (if b then spots_for rule (length slots) name else []) ≡ (if b then of_name rule name else [])
+found-for : (rules : List Rule) (rule : Rule) (name : Text) (b : Bool)
+    → found (rules ++ rule ∷ []) (if b then spots_for rule (length rules) name else []) ≡ (if b then of_name rule name else [])
 unfolding found
-found-for slots rule name true = found-own slots rule name 0 rule.targets refl
-found-for slots rule name false = refl
+found-for rules rule name true = found-own rules rule name 0 rule.targets refl
+found-for rules rule name false = refl
 
 -- ---- what an index finds
 
-before_new : (slots : List (Option Rule)) (slot : Option Rule) (spots more : List Spot) → AreBefore (length slots) spots → AreIn (length slots) more
-    → AreBefore (length (slots ++ slot ∷ [])) (spots ++ more)
-before_new slots slot spots more h k =
-    rw (length_push slots slot) (before_append (length slots + 1) spots more (before_more (length slots) spots h) (before_in (length slots) more k))
-
--- an entry that isn't added leaves what an index finds, whatever was noted
-pub tells_none : (slots : List (Option Rule)) (old new : Notes) (rules : Text → List (Rule × Target))
-    → IsIndexOf slots old rules → GrewIn (length slots) old new → IsIndexOf (slots ++ None ∷ []) new rules
-tells_none slots old new rules told grew = record {
-  all = λ name.
-      let more = grew name in
-      ap (found (slots ++ None ∷ [])) more.1
-      ∙ found-append (slots ++ None ∷ []) (spots_at old name) more.0
-      ∙ ap (λ xs. xs ++ found (slots ++ None ∷ []) more.0) (found-before slots None (spots_at old name) (told.before name))
-      ∙ ap (λ xs. found slots (spots_at old name) ++ xs) (found-in_none slots more.0 more.2)
-      ∙ append-nil (found slots (spots_at old name))
-      ∙ told.all name;
-  before = λ name.
-      let more = grew name in
-      subst (AreBefore (length (slots ++ None ∷ []))) (sym more.1) (before_new slots None (spots_at old name) more.0 (told.before name) more.2);
-}
+before_new : (rules : List Rule) (rule : Rule) (spots more : List Spot) → AreBefore (length rules) spots → AreIn (length rules) more
+    → AreBefore (length (rules ++ rule ∷ [])) (spots ++ more)
+before_new rules rule spots more h k =
+    rw (length_push rules rule) (before_append (length rules + 1) spots more (before_more (length rules) spots h) (before_in (length rules) more k))
 
 in_if_spots : (rule : Rule) (place : ℕ) (name : Text) (b : Bool) → AreIn place (if b then spots_for rule place name else [])
 in_if_spots rule place name true = in_spots_from rule place 0 rule.targets name
 in_if_spots rule place name false = tt
 
 -- one more rule is found
-pub tells_more : (slots : List (Option Rule)) (rule : Rule) (old new : Notes) (first later : Text → List (Rule × Target)) (b : Bool)
-    → IsIndexOf slots old first
-    → ((name : Text) → spots_at new name ≡ spots_at old name ++ (if b then spots_for rule (length slots) name else []))
+pub tells_more : (rules : List Rule) (rule : Rule) (old new : Notes) (first later : Text → List (Rule × Target)) (b : Bool)
+    → IsIndexOf rules old first
+    → ((name : Text) → spots_at new name ≡ spots_at old name ++ (if b then spots_for rule (length rules) name else []))
     → ((name : Text) → later name ≡ first name ++ (if b then of_name rule name else []))
-    → IsIndexOf (slots ++ Some rule ∷ []) new later
-tells_more slots rule old new first later b told got is = record {
+    → IsIndexOf (rules ++ rule ∷ []) new later
+tells_more rules rule old new first later b told got is = record {
   all = λ name.
-      ap (found (slots ++ Some rule ∷ [])) (got name)
-      ∙ found-append (slots ++ Some rule ∷ []) (spots_at old name) (if b then spots_for rule (length slots) name else [])
-      ∙ ap (λ xs. xs ++ found (slots ++ Some rule ∷ []) (if b then spots_for rule (length slots) name else [])) (found-before slots (Some rule) (spots_at old name) (told.before name) ∙ told.all name)
-      ∙ ap (λ xs. first name ++ xs) (found-for slots rule name b)
+      ap (found (rules ++ rule ∷ [])) (got name)
+      ∙ found-append (rules ++ rule ∷ []) (spots_at old name) (if b then spots_for rule (length rules) name else [])
+      ∙ ap (λ xs. xs ++ found (rules ++ rule ∷ []) (if b then spots_for rule (length rules) name else [])) (found-before rules rule (spots_at old name) (told.before name) ∙ told.all name)
+      ∙ ap (λ xs. first name ++ xs) (found-for rules rule name b)
       ∙ sym (is name);
   before = λ name.
-      subst (AreBefore (length (slots ++ Some rule ∷ []))) (sym (got name))
-      (before_new slots (Some rule) (spots_at old name) _ (told.before name) (in_if_spots rule (length slots) name b));
+      subst (AreBefore (length (rules ++ rule ∷ []))) (sym (got name))
+      (before_new rules rule (spots_at old name) _ (told.before name) (in_if_spots rule (length rules) name b));
 }
 
 -- ---- rules that are alike
@@ -299,24 +283,24 @@ kept_new targets recipes t r = record {
 }
 
 -- without rules, as the parts are made
-pub kept_made : (slots : List (Option Rule)) (targets recipes : Notes) (phony suffixes : List Text)
-    → slots ≡ [] → ((name : Text) → spots_at targets name ≡ []) → ((name : Text) → spots_at recipes name ≡ []) → phony ≡ [] → suffixes ≡ start_suffixes
-    → IsKept slots targets recipes phony suffixes
-kept_made slots targets recipes phony suffixes s t r p f =
+pub kept_made : (rules : List Rule) (targets recipes : Notes) (phony suffixes : List Text)
+    → rules ≡ [] → ((name : Text) → spots_at targets name ≡ []) → ((name : Text) → spots_at recipes name ≡ []) → phony ≡ [] → suffixes ≡ start_suffixes
+    → IsKept rules targets recipes phony suffixes
+kept_made rules targets recipes phony suffixes s t r p f =
     subst (λ xs. IsKept xs targets recipes phony suffixes) (sym s)
     (subst (λ xs. IsKept [] targets recipes xs suffixes) (sym p)
     (subst (λ xs. IsKept [] targets recipes [] xs) (sym f) (kept_new targets recipes t r)))
 
 -- names that are added at the end change nothing
-tells_same : (slots : List (Option Rule)) (old new : Notes) (rules : Text → List (Rule × Target)) → ((name : Text) → spots_at new name ≡ spots_at old name)
-    → IsIndexOf slots old rules → IsIndexOf slots new rules
-tells_same slots old new rules same told = record {
-  all = λ name. ap (found slots) (same name) ∙ told.all name;
-  before = λ name. subst (AreBefore (length slots)) (sym (same name)) (told.before name);
+tells_same : (rules : List Rule) (old new : Notes) (own : Text → List (Rule × Target)) → ((name : Text) → spots_at new name ≡ spots_at old name)
+    → IsIndexOf rules old own → IsIndexOf rules new own
+tells_same rules old new own same told = record {
+  all = λ name. ap (found rules) (same name) ∙ told.all name;
+  before = λ name. subst (AreBefore (length rules)) (sym (same name)) (told.before name);
 }
 
-pub holds_grown : (old new : List Text × List (Option Rule)) (targets recipes : List (List Spot)) (phony suffixes : List Text)
-    → GotNames old.0 new.0 → new.1 ≡ old.1 → HoldsAll old targets recipes phony suffixes → HoldsAll new targets recipes phony suffixes
+pub holds_grown : (old new : List Text × List Rule) (targets recipes : List (List Spot)) (phony suffixes : List Text)
+    → HasMore old.0 new.0 → new.1 ≡ old.1 → HoldsAll old targets recipes phony suffixes → HoldsAll new targets recipes phony suffixes
 holds_grown old new targets recipes phony suffixes got same holds =
     let longer : length new.0 ≡ length old.0 + length got.0 = ap length got.1 ∙ length-append old.0 got.0 in
     let kept = holds.kept in
@@ -325,7 +309,7 @@ holds_grown old new targets recipes phony suffixes got same holds =
     let r : (name : Text) → spots_at (new.0, recipes) name ≡ spots_at (old.0, recipes) name
     = λ name. ap (λ ns. spots_at (ns, recipes) name) got.1 ∙ names_after old.0 got.0 recipes name holds.recipes_within in
     record {
-      kept = subst (λ slots. IsKept slots (new.0, targets) (new.0, recipes) phony suffixes) (sym same) (record {
+      kept = subst (λ rules. IsKept rules (new.0, targets) (new.0, recipes) phony suffixes) (sym same) (record {
         targets_view = tells_same old.1 (old.0, targets) (new.0, targets) _ t kept.targets_view;
         recipes_told = tells_same old.1 (old.0, recipes) (new.0, recipes) _ r kept.recipes_told;
         phony_told = kept.phony_told;
@@ -338,74 +322,49 @@ holds_grown old new targets recipes phony suffixes got same holds =
       recipes_within = omega (arith, holds.recipes_within, longer);
     }
 
--- an entry that isn't added
-pub kept_none : (slots : List (Option Rule)) (targets targets' recipes recipes' : Notes) (phony phony' suffixes suffixes' : List Text)
-    → IsKept slots targets recipes phony suffixes
-    → GrewIn (length slots) targets targets' → GrewIn (length slots) recipes recipes' → phony' ≡ phony → suffixes' ≡ suffixes
-    → IsKept (slots ++ None ∷ []) targets' recipes' phony' suffixes'
-kept_none slots targets targets' recipes recipes' phony phony' suffixes suffixes' kept t r p s =
-    let e = rules_in-none slots in
-    record {
-      targets_view = subst (λ rules. IsIndexOf (slots ++ None ∷ []) targets' (rules_of rules)) (sym e) (tells_none slots targets targets' _ kept.targets_view t);
-      recipes_told = subst (λ rules. IsIndexOf (slots ++ None ∷ []) recipes' (recipes_of rules)) (sym e) (tells_none slots recipes recipes' _ kept.recipes_told r);
-      phony_told = λ name. ap (λ names. is_among names name) p ∙ kept.phony_told name ∙ sym (ap (λ rules. is_phony rules name) e);
-      suffixes_told = s ∙ kept.suffixes_told ∙ sym (ap suffixes_of e);
-      colons = λ name. subst (λ rules. AreAlike (λ (made : Rule × Target). is_double made.0.kind) (rules_of rules name)) (sym e) (kept.colons name);
-      groups = λ name. subst (λ rules. AreAlike (λ (made : Rule × Target). is_group made.0.kind) (recipes_of rules name)) (sym e) (kept.groups name);
-      apart = subst GroupsStandAlone (sym e) kept.apart;
-    }
-
 -- one more rule
-pub kept_some : (slots : List (Option Rule)) (rule : Rule) (targets targets' recipes recipes' : Notes) (phony phony' suffixes suffixes' : List Text)
-    → IsKept slots targets recipes phony suffixes → refusal_of (rules_in slots) rule ≡ None
-    → GotSpots rule (length slots) targets targets' → GotRecipes rule (length slots) recipes recipes'
+pub kept_some : (rules : List Rule) (rule : Rule) (targets targets' recipes recipes' : Notes) (phony phony' suffixes suffixes' : List Text)
+    → IsKept rules targets recipes phony suffixes → refusal_of rules rule ≡ None
+    → GotSpots rule (length rules) targets targets' → GotRecipes rule (length rules) recipes recipes'
     → phony' ≡ fold with_name phony (phony_of rule) → suffixes' ≡ suffixes_after suffixes rule
-    → IsKept (slots ++ Some rule ∷ []) targets' recipes' phony' suffixes'
-kept_some slots rule targets targets' recipes recipes' phony phony' suffixes suffixes' kept fine t r p s =
-    let e = rules_in-some slots rule in
-    let none = refused_none (rules_in slots) rule fine in
+    → IsKept (rules ++ rule ∷ []) targets' recipes' phony' suffixes'
+kept_some rules rule targets targets' recipes recipes' phony phony' suffixes suffixes' kept fine t r p s =
+    let none = refused_none rules rule fine in
     record {
-      targets_view = tells_more slots rule targets targets' _ _ true kept.targets_view t
-          (λ name. ap (λ rules. rules_of rules name) e ∙ rules_of-more (rules_in slots) rule name);
-      recipes_told = tells_more slots rule recipes recipes' _ _ (is_some rule.recipe) kept.recipes_told r
-          (λ name. ap (λ rules. recipes_of rules name) e ∙ recipes_of-more (rules_in slots) rule name);
+      targets_view = tells_more rules rule targets targets' _ _ true kept.targets_view t (rules_of-more rules rule);
+      recipes_told = tells_more rules rule recipes recipes' _ _ (is_some rule.recipe) kept.recipes_told r (recipes_of-more rules rule);
       phony_told = λ name.
           ap (λ names. is_among names name) p ∙ among_fold phony (phony_of rule) name
           ∙ ap (λ b. b || is_among (phony_of rule) name) (kept.phony_told name)
-          ∙ sym (phony_more (rules_in slots) rule name) ∙ sym (ap (λ rules. is_phony rules name) e);
-      suffixes_told =
-          s ∙ ap (λ names. suffixes_after names rule) kept.suffixes_told
-          ∙ sym (fold-append suffixes_after start_suffixes (rules_in slots) (rule ∷ [])) ∙ sym (ap suffixes_of e);
-      colons = λ name.
-          subst (λ rules. AreAlike (λ (made : Rule × Target). is_double made.0.kind) (rules_of rules name)) (sym e)
-          (colons_more (rules_in slots) rule name (kept.colons name) none.0);
+          ∙ sym (phony_more rules rule name);
+      suffixes_told = s ∙ ap (λ names. suffixes_after names rule) kept.suffixes_told ∙ sym (fold-append suffixes_after start_suffixes rules (rule ∷ []));
+      colons = λ name. colons_more rules rule name (kept.colons name) none.0;
       groups = λ name.
-          subst (λ rules. AreAlike (λ (made : Rule × Target). is_group made.0.kind) (recipes_of rules name)) (sym e)
-          (subst (AreAlike (λ (made : Rule × Target). is_group made.0.kind)) (sym (recipes_of-more (rules_in slots) rule name))
-          (groups_more (rules_in slots) rule name (is_some rule.recipe) refl (kept.groups name) none.1));
-      apart = subst GroupsStandAlone (sym e) (all_pairs_push AreApart (rules_in slots) rule kept.apart (apart_last (rules_in slots) rule none.1));
+          subst (AreAlike (λ (made : Rule × Target). is_group made.0.kind)) (sym (recipes_of-more rules rule name))
+          (groups_more rules rule name (is_some rule.recipe) refl (kept.groups name) none.1);
+      apart = all_pairs_push AreApart rules rule kept.apart (apart_last rules rule none.1);
     }
 
 -- ---- a rule that a book got, with its names
 
-module _ (old pushed : List Text × List (Option Rule)) (entry : Rule) (place : ℕ) (targets targets' recipes recipes' : List (List Spot))
-    (phony phony' suffixes suffixes' : List Text) (holds : HoldsAll old targets recipes phony suffixes) (got : GotNames old.0 pushed.0)
-    (is : pushed.1 ≡ old.1 ++ Some entry ∷ []) (at : place ≡ length old.1) where
-  -- it is in its slot
-  pub pushed_rule : slot_rule pushed.1 place ≡ Some entry
-  pushed_rule = ap (λ slots. slot_rule slots place) is ∙ ap (slot_rule (old.1 ++ Some entry ∷ [])) at ∙ slot_last old.1 (Some entry)
+module _ (old pushed : List Text × List Rule) (entry : Rule) (place : ℕ) (targets targets' recipes recipes' : List (List Spot))
+    (phony phony' suffixes suffixes' : List Text) (holds : HoldsAll old targets recipes phony suffixes) (got : HasMore old.0 pushed.0)
+    (is : pushed.1 ≡ old.1 ++ entry ∷ []) (at : place ≡ length old.1) where
+  -- it is at its place
+  pub pushed_rule : slice_get pushed.1 place ≡ Some entry
+  pushed_rule = ap (λ rules. slice_get rules place) is ∙ ap (slice_get (old.1 ++ entry ∷ [])) at ∙ rule_last old.1 entry
 
   named : HoldsAll (pushed.0, old.1) targets recipes phony suffixes
   named = holds_grown old (pushed.0, old.1) targets recipes phony suffixes got refl holds
 
   -- what it says was added
-  pub holds_learned : refusal_of (rules_in old.1) entry ≡ None
+  pub holds_learned : refusal_of old.1 entry ≡ None
       → GotSpots entry place (pushed.0, targets) (pushed.0, targets') → GotRecipes entry place (pushed.0, recipes) (pushed.0, recipes')
       → phony' ≡ fold with_name phony (phony_of entry) → suffixes' ≡ suffixes_after suffixes entry
       → (length targets ≤ length pushed.0 → length targets' ≤ length pushed.0) → (length recipes ≤ length pushed.0 → length recipes' ≤ length pushed.0)
       → HoldsAll pushed targets' recipes' phony' suffixes'
   holds_learned fine t r p s targets_in recipes_in = record {
-    kept = subst (λ slots. IsKept slots (pushed.0, targets') (pushed.0, recipes') phony' suffixes') (sym is)
+    kept = subst (λ rules. IsKept rules (pushed.0, targets') (pushed.0, recipes') phony' suffixes') (sym is)
         (kept_some old.1 entry (pushed.0, targets) (pushed.0, targets') (pushed.0, recipes) (pushed.0, recipes') phony phony' suffixes suffixes' named.kept fine
         (subst (λ n. GotSpots entry n (pushed.0, targets) (pushed.0, targets')) at t)
         (subst (λ n. GotRecipes entry n (pushed.0, recipes) (pushed.0, recipes')) at r) p s);
@@ -413,28 +372,37 @@ module _ (old pushed : List Text × List (Option Rule)) (entry : Rule) (place : 
     recipes_within = recipes_in named.recipes_within;
   }
 
-  -- its slot was emptied
-  pub holds_emptied : (new : List Text × List (Option Rule)) → new.0 ≡ pushed.0 → new.1 ≡ set pushed.1 place None
-      → GrewIn place (pushed.0, targets) (pushed.0, targets') → GrewIn place (pushed.0, recipes) (pushed.0, recipes') → phony' ≡ phony → suffixes' ≡ suffixes
-      → (length targets ≤ length pushed.0 → length targets' ≤ length pushed.0) → (length recipes ≤ length pushed.0 → length recipes' ≤ length pushed.0)
-      → HoldsAll new targets' recipes' phony' suffixes'
-  holds_emptied new same emptied t r p s targets_in recipes_in =
-      let slots : new.1 ≡ old.1 ++ None ∷ [] = emptied ∙ put_last old.1 pushed.1 place (Some entry) None is at in
-      let kept : IsKept (old.1 ++ None ∷ []) (pushed.0, targets') (pushed.0, recipes') phony' suffixes'
-      = kept_none old.1 (pushed.0, targets) (pushed.0, targets') (pushed.0, recipes) (pushed.0, recipes') phony phony' suffixes suffixes' named.kept
-      (subst (λ n. GrewIn n (pushed.0, targets) (pushed.0, targets')) at t)
-      (subst (λ n. GrewIn n (pushed.0, recipes) (pushed.0, recipes')) at r) p s in
-      record {
-        kept = subst (λ names. IsKept new.1 (names, targets') (names, recipes') phony' suffixes') (sym same)
-            (subst (λ xs. IsKept xs (pushed.0, targets') (pushed.0, recipes') phony' suffixes') (sym slots) kept);
-        targets_within = subst (λ (names : List Text). length targets' ≤ length names) (sym same) (targets_in named.targets_within);
-        recipes_within = subst (λ (names : List Text). length recipes' ≤ length names) (sym same) (recipes_in named.recipes_within);
-      }
-
   -- the rules are as they were
-  pub rules_emptied : (new : List (Option Rule)) → new ≡ set pushed.1 place None → rules_in new ≡ rules_in old.1
-  rules_emptied new emptied = ap rules_in (emptied ∙ put_last old.1 pushed.1 place (Some entry) None is at) ∙ rules_in-none old.1
+  pub rules_back : (new : List Rule) → new ≡ take place pushed.1 → new ≡ old.1
+  rules_back new taken = taken ∙ (λ j. take (at j) (is j)) ∙ take-append_seam old.1 (entry ∷ [])
 
-  -- there is one rule more
-  pub rules_learned : rules_in pushed.1 ≡ rules_in old.1 ++ entry ∷ []
-  rules_learned = ap rules_in is ∙ rules_in-some old.1 entry
+  -- it was taken back, with its spots
+  pub holds_back : (new : List Text × List Rule) (targets'' recipes'' : List (List Spot)) → new.0 ≡ pushed.0 → new.1 ≡ take place pushed.1
+      → GrewIn place (pushed.0, targets) (pushed.0, targets') → GrewIn place (pushed.0, recipes) (pushed.0, recipes')
+      → ForgotFrom place targets' targets'' → ForgotFrom place recipes' recipes''
+      → length targets'' ≡ length targets' → length recipes'' ≡ length recipes' → phony' ≡ phony → suffixes' ≡ suffixes
+      → (length targets ≤ length pushed.0 → length targets' ≤ length pushed.0) → (length recipes ≤ length pushed.0 → length recipes' ≤ length pushed.0)
+      → HoldsAll new targets'' recipes'' phony' suffixes'
+  holds_back new targets'' recipes'' same taken t r t_back r_back t_many r_many p s targets_in recipes_in =
+      let kept = named.kept in
+      let t_before : (name : Text) → AreBefore place (spots_at (pushed.0, targets) name)
+      = λ name. subst (λ n. AreBefore n (spots_at (pushed.0, targets) name)) (sym at) (kept.targets_view.before name) in
+      let r_before : (name : Text) → AreBefore place (spots_at (pushed.0, recipes) name)
+      = λ name. subst (λ n. AreBefore n (spots_at (pushed.0, recipes) name)) (sym at) (kept.recipes_told.before name) in
+      let held : HoldsAll (pushed.0, old.1) targets'' recipes'' phony' suffixes' = record {
+        kept = record {
+          targets_view = tells_same old.1 (pushed.0, targets) (pushed.0, targets'') _
+              (λ name. taken_back pushed.0 place targets targets' targets'' name (t_before name) t t_back) kept.targets_view;
+          recipes_told = tells_same old.1 (pushed.0, recipes) (pushed.0, recipes'') _
+              (λ name. taken_back pushed.0 place recipes recipes' recipes'' name (r_before name) r r_back) kept.recipes_told;
+          phony_told = λ name. ap (λ names. is_among names name) p ∙ kept.phony_told name;
+          suffixes_told = s ∙ kept.suffixes_told;
+          colons = kept.colons;
+          groups = kept.groups;
+          apart = kept.apart;
+        };
+        targets_within = subst (λ n. n ≤ length pushed.0) (sym t_many) (targets_in named.targets_within);
+        recipes_within = subst (λ n. n ≤ length pushed.0) (sym r_many) (recipes_in named.recipes_within);
+      } in
+      subst (λ (names : List Text). HoldsAll (names, new.1) targets'' recipes'' phony' suffixes') (sym same)
+      (subst (λ (rules : List Rule). HoldsAll (pushed.0, rules) targets'' recipes'' phony' suffixes') (sym (rules_back new.1 taken)) held)

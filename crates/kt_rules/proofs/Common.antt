@@ -12,7 +12,7 @@ unfoldable pub use Rattle.kt_rules.specs.Names.{after_dots, cut_place, is_member
 pub use Rattle.kt_rules.specs.Refusals.{Fault, GivesExpected, Refusal, ReportsFault, bad_group, both_colons, fault_at, faults_at, two_recipes}
 pub use Rattle.kt_rules.specs.RuleLine.{line_of}
 unfoldable pub use Rattle.kt_rules.specs.RuleLine.{after_double, colon_cut, first_refusal, group_targets, head_of, is_bad_group, is_bar, line_refusal, mixes_patterns, name_refusal, needs_of, target_refusal, tested_needs}
-pub use Rattle.kt_rules.specs.Slots.{AreAlike, AreBefore, AreIn, GotRecipes, GotSpots, GrewAt, GrewIn, IsIndexOf, IsKept, first_found, first_of, list_of, rule_view, rules_in, slot_rule, spot_at, spot_rule, spots_at, spots_for, target_rule, target_spots, unless}
+pub use Rattle.kt_rules.specs.Slots.{AreAlike, AreBefore, AreIn, ForgotFrom, GotRecipes, GotSpots, GrewAt, GrewIn, IsIndexOf, IsKept, first_found, first_of, list_of, rule_view, spot_at, spot_rule, spots_at, spots_before, spots_for, target_rule, target_spots, unless}
 unfoldable pub use Rattle.kt_rules.specs.Slots.{explicit_left, found, spots_from}
 pub use Rattle.kt_rules.specs.Suffixes.{all_needs, is_bare, is_cut_at, is_empty, is_suffix_rule, percent, suffix_cut, suffix_patterns, suffixes_after, suffixes_of}
 unfoldable pub use Rattle.kt_rules.specs.Suffixes.{start_suffixes}
@@ -23,10 +23,11 @@ pub use Rattle.kt_rules.specs.declared.cutting.Cut.TheVariants.{Colon, Separator
 pub use Rattle.kt_rules.specs.declared.entry.RecipeLine.{RecipeLine}
 pub use Rattle.kt_rules.specs.declared.fault.RuleFault.{RuleFault}
 pub use Rattle.kt_rules.specs.declared.fault.RuleFault.TheVariants.{Memory, Refused}
-pub use Rattle.kt_rules.specs.inner.Held.{AreHeld, AreNumbersOf, GotLists, GotNames, GotRow, HasOneMore, HasRows, HoldsAll, IsKnown, IsLast, IsRow, needs_held, numbered_target, rule_held, rule_in, sees, slots_held}
+pub use Rattle.kt_rules.specs.inner.Dictionary.{AreNumbersOf, Grows, IsListOf, IsNumberOf}
+pub use Rattle.kt_rules.specs.inner.Held.{AreHeld, AreNeeds, AreRuleNumbers, HoldsAll, IsKnown, IsLast, needs_held, numbered_target, rule_held, rules_held, sees}
 pub use Rattle.kt_rules.specs.inner.SuffixCuts.{HaveLengths, KeepLengths, earlier, goes_on, is_bare_at, is_number, with_number}
 unfoldable pub use Rattle.kt_rules.specs.inner.SuffixCuts.{cut_after, end_of_length, first_cut, first_end, lengths_with}
-pub use Rattle.kt_text.proofs.BegunLemmas.{on_err}
+pub use Rattle.kt_list.proofs.general.Results.{on_err}
 pub use Rattle.kt_text.proofs.MatchLemmas.{list_any-place}
 pub use Rattle.kt_text.proofs.PlaceLemmas.{differ_turned, drop-prefix_len, first_byte_place, occurs_found}
 pub use Rattle.kt_text.specs.Functions.{quotes_percent, with_stem}
@@ -51,4 +52,4 @@ pub use Rattle.std.specs.Cmp.Lexicographic.{as_long, nat_list_eq_equiv, pointwis
 pub use Rattle.std.specs.List.{AllByRecursion, Contains, IsDistinct, after_first, before_first, cons_option, filter_map, onto_first, position_or_len, prefix_len, slice_split, starts_with, suffix_len}
 pub use Rattle.std.specs.Option.{option_and_then, option_to_list}
 pub use Rattle.std.specs.Vec.{with_item}
-pub use Rattle.kt_rules.specs.Prelude.{All, AreBelow, Head, HeldRule, Kind, Line, List, Needs, Rule, Spot, Target, Text, [], bytes_eq, empty_line, ends_with, enumerate_from, flat_map, is_among, is_colon, is_nil, is_nonempty, list_all, list_any, option_list, option_map, option_map_or, option_or, place_of, position_from, range_with_len, rule_by, target_of, tested_line, unwrap_or, with_name}
+pub use Rattle.kt_rules.specs.Prelude.{All, AreBelow, Head, Kind, Line, List, Needs, Rule, Spot, Target, Text, [], bytes_eq, empty_line, ends_with, enumerate_from, flat_map, is_among, is_colon, is_nil, is_nonempty, list_all, list_any, option_list, option_map, option_map_or, option_or, place_of, position_from, range_with_len, rule_by, target_of, tested_line, unwrap_or, with_name}

@@ -1,6 +1,6 @@
 -- Explicit rules and goals, rule by rule.
 use Rattle.std.proofs.Common.{◌≡◌, Bool, true, false, cond, not, ◌&&◌, ◌||◌, if◌then◌else◌, List, [], ◌∷◌, ◌++◌, filter, find, Option, Some, None, refl, sym, ap, ◌∙◌, is_some}
-use Rattle.kt_rules.proofs.Common.{false≢true, or_parts, option_map, option_or, option_map_or, All, filter_map, flat_map, cons_option, list_any, bytes_eq, All-append, All-filter, All-head, All-map, All-nil, All-tail, All-weaker, list_any_none, Text, Kind, Target, Spot, Rule, is_bare_at, is_bare, suffix_patterns, suffixes_of, goal_in, has_recipe, is_goal, made_targets, first_goal_by, target_rules, explicit_rules, rules_of, recipes_of, is_double, is_group, xor, differ_in_colons, is_beside_group, spots_at, rules_in, found, first_of, first_found, spot_rule, unless, explicit_left, IsKept}
+use Rattle.kt_rules.proofs.Common.{false≢true, or_parts, option_map, option_or, option_map_or, All, filter_map, flat_map, cons_option, list_any, bytes_eq, All-append, All-filter, All-head, All-map, All-nil, All-tail, All-weaker, list_any_none, Text, Kind, Target, Spot, Rule, is_bare_at, is_bare, suffix_patterns, suffixes_of, goal_in, has_recipe, is_goal, made_targets, first_goal_by, target_rules, explicit_rules, rules_of, recipes_of, is_double, is_group, xor, differ_in_colons, is_beside_group, spots_at, found, first_of, first_found, spot_rule, unless, explicit_left, IsKept}
 use Rattle.kt_rules.specs.inner.Lists.{Notes}
 use Rattle.kt_rules.proofs.BookLemmas.{alike_first}
 
@@ -42,10 +42,10 @@ filter_unless test f [] = refl
 filter_unless test f (x ∷ xs) = unless_one test (f x) (filter_map (λ z. unless test (f z)) xs) (filter_map f xs) (filter_unless test f xs)
 
 -- the explicit rules at spots are those found there that are explicit
-pub explicit_found : (skips : Bool) (slots : List (Option Rule)) (spots : List Spot)
-    → explicit_left skips slots spots ≡ filter (λ made. not (is_bare made && skips)) (found slots spots)
+pub explicit_found : (skips : Bool) (held : List Rule) (spots : List Spot)
+    → explicit_left skips held spots ≡ filter (λ made. not (is_bare made && skips)) (found held spots)
 unfolding explicit_left found
-explicit_found skips slots spots = filter_unless (λ made. is_bare made && skips) (spot_rule slots) spots
+explicit_found skips held spots = filter_unless (λ made. is_bare made && skips) (spot_rule held) spots
 
 -- the rules of a target are among all
 made_are : (test : Kind → Bool) (rules : List Rule) → All (λ rule. test rule.kind ≡ false) rules
@@ -82,22 +82,22 @@ none_beside rules rule name own none =
     (λ made other. λ j. own j || other j) (recipes_of rules name)
     (All-filter has_recipe (λ (made : Rule × Target). is_group made.0.kind ≡ false) (rules_of rules name) (rules_are is_group rules name none)))
 
-module _ (slots : List (Option Rule)) (targets recipes : Notes) (phony suffixes : List Text) (kept : IsKept slots targets recipes phony suffixes)
-    (rules : List Rule) (view : rules_in slots ≡ rules) (rule : Rule) (name : Text) (first : Option (Rule × Target)) where
+module _ (held : List Rule) (targets recipes : Notes) (phony suffixes : List Text) (kept : IsKept held targets recipes phony suffixes)
+    (rules : List Rule) (view : held ≡ rules) (rule : Rule) (name : Text) (first : Option (Rule × Target)) where
   -- the first rule of a target decides how many colons its rules have
-  pub colons_by_first : first ≡ first_found slots (spots_at targets name)
+  pub colons_by_first : first ≡ first_found held (spots_at targets name)
       → option_map_or (λ (made : Rule × Target). xor (is_double made.0.kind) (is_double rule.kind)) first false ≡ list_any (differ_in_colons rule) (rules_of rules name)
   colons_by_first at =
       ap (λ o. option_map_or (λ (made : Rule × Target). xor (is_double made.0.kind) (is_double rule.kind)) o false) (at ∙ ap first_of (kept.targets_view.all name))
-      ∙ sym (alike_first (λ t. xor t (is_double rule.kind)) (λ (made : Rule × Target). is_double made.0.kind) (rules_of (rules_in slots) name) (kept.colons name))
+      ∙ sym (alike_first (λ t. xor t (is_double rule.kind)) (λ (made : Rule × Target). is_double made.0.kind) (rules_of held name) (kept.colons name))
       ∙ ap (λ rs. list_any (differ_in_colons rule) (rules_of rs name)) view
 
   -- the first rule with a recipe decides whether they are groups
-  pub group_by_first : first ≡ first_found slots (spots_at recipes name)
+  pub group_by_first : first ≡ first_found held (spots_at recipes name)
       → option_map_or (λ (made : Rule × Target). is_group rule.kind || is_group made.0.kind) first false ≡ list_any (is_beside_group rule) (recipes_of rules name)
   group_by_first at =
       ap (λ o. option_map_or (λ (made : Rule × Target). is_group rule.kind || is_group made.0.kind) o false) (at ∙ ap first_of (kept.recipes_told.all name))
-      ∙ sym (alike_first (λ t. is_group rule.kind || t) (λ (made : Rule × Target). is_group made.0.kind) (recipes_of (rules_in slots) name) (kept.groups name))
+      ∙ sym (alike_first (λ t. is_group rule.kind || t) (λ (made : Rule × Target). is_group made.0.kind) (recipes_of held name) (kept.groups name))
       ∙ ap (λ rs. list_any (is_beside_group rule) (recipes_of rs name)) view
 
 bare_cons : (one : Option (Rule × Target)) (rest : List (Rule × Target)) (b : Bool) → b ≡ list_any is_bare rest
@@ -106,10 +106,10 @@ bare_cons None rest b h = h
 bare_cons (Some made) rest b h = ap (λ c. is_bare made || c) h
 
 -- testing the rules at spots is testing the rules found there
-bare_found : (slots : List (Option Rule)) (spots : List Spot) → list_any (is_bare_at slots) spots ≡ list_any is_bare (found slots spots)
+bare_found : (held : List Rule) (spots : List Spot) → list_any (is_bare_at held) spots ≡ list_any is_bare (found held spots)
 unfolding found
-bare_found slots [] = refl
-bare_found slots (spot ∷ spots) = bare_cons (spot_rule slots spot) (found slots spots) (list_any (is_bare_at slots) spots) (bare_found slots spots)
+bare_found held [] = refl
+bare_found held (spot ∷ spots) = bare_cons (spot_rule held spot) (found held spots) (list_any (is_bare_at held) spots) (bare_found held spots)
 
 keep_one : (made : Rule × Target) (rest one other : List (Rule × Target)) (skips a b : Bool) → is_bare made ≡ a → (a || b) ≡ false → one ≡ other
     → cond (not (a && false)) (made ∷ one) one ≡ cond (not (a && skips)) (made ∷ other) other
@@ -129,18 +129,18 @@ guarded : (skips any : Bool) (rules : List (Rule × Target)) → list_any is_bar
 guarded skips true rules h = refl
 guarded skips false rules h = none_bare skips rules h
 
-module _ (slots : List (Option Rule)) (targets recipes : Notes) (phony suffixes : List Text) (kept : IsKept slots targets recipes phony suffixes)
-    (rules : List Rule) (view : rules_in slots ≡ rules) (name : Text) where
+module _ (held : List Rule) (targets recipes : Notes) (phony suffixes : List Text) (kept : IsKept held targets recipes phony suffixes)
+    (rules : List Rule) (view : held ≡ rules) (name : Text) where
   -- the explicit rules of a target
-  pub explicit_by_spots : (skips : Bool) (all : List (Option Rule)) (spots : List Spot) → skips ≡ (list_any (is_bare_at all) spots && is_some (suffix_patterns suffixes name))
-      → all ≡ slots → spots ≡ spots_at targets name → explicit_left skips all spots ≡ explicit_rules rules name
+  pub explicit_by_spots : (skips : Bool) (all : List Rule) (spots : List Spot) → skips ≡ (list_any (is_bare_at all) spots && is_some (suffix_patterns suffixes name))
+      → all ≡ held → spots ≡ spots_at targets name → explicit_left skips all spots ≡ explicit_rules rules name
   unfolding explicit_rules
   explicit_by_spots skips all spots skip one two =
       explicit_found skips all spots
       ∙ ap (λ b. filter (λ (made : Rule × Target). not (is_bare made && b)) (found all spots)) skip
       ∙ guarded (is_some (suffix_patterns suffixes name)) (list_any (is_bare_at all) spots) (found all spots) (sym (bare_found all spots))
       ∙ ap (λ xs. filter (λ (made : Rule × Target). not (is_bare made && is_some (suffix_patterns suffixes name))) (found xs spots)) one
-      ∙ ap (λ xs. filter (λ (made : Rule × Target). not (is_bare made && is_some (suffix_patterns suffixes name))) (found slots xs)) two
+      ∙ ap (λ xs. filter (λ (made : Rule × Target). not (is_bare made && is_some (suffix_patterns suffixes name))) (found held xs)) two
       ∙ ap (filter (λ (made : Rule × Target). not (is_bare made && is_some (suffix_patterns suffixes name)))) (kept.targets_view.all name)
-      ∙ ap (λ names. filter (λ (made : Rule × Target). not (is_bare made && is_some (suffix_patterns names name))) (rules_of (rules_in slots) name)) kept.suffixes_told
+      ∙ ap (λ names. filter (λ (made : Rule × Target). not (is_bare made && is_some (suffix_patterns names name))) (rules_of held name)) kept.suffixes_told
       ∙ ap (λ rs. filter (λ (made : Rule × Target). not (is_bare made && is_some (suffix_patterns (suffixes_of rs) name))) (rules_of rs name)) view

@@ -1,293 +1,158 @@
 -- Rules whose names are held as numbers.
-use Rattle.std.proofs.Common.{◌≡◌, ℕ, zero, suc, ◌+◌, ◌<◌, ◌≤◌, Bool, true, false, if◌then◌else◌, List, [], ◌∷◌, ◌++◌, length, map, take, drop, set, slice_get, get_or, Option, Some, None, is_some, option_map, unwrap_or, refl, sym, ap, ◌∙◌, subst, arith, length-append}
-use Rattle.kt_rules.proofs.Common.{All, option_and_then, drop-append_seam, get_or-append_seam, take-append_seam, append-nil, append_assoc, drop-map, get_or_append_left, map-append, length-set, take-map, All-append, All-cons, All-drop, All-get_or, All-head, All-nil, All-push, All-set, All-tail, All-take, All-weaker, get_or_from_slice_get, slice_get-get_or, slice_get_within, head_is, tail_is, Text, HeldRule, Kinds, Kind, Needs, RecipeLine, Rule, rule_by, is_among, with_name, is_double, is_group, rules_in, slot_rule, all_needs, names_at, AreHeld, AreNumbersOf, GotLists, GotNames, GotRow, HasOneMore, HasRows, IsKnown, IsLast, IsRow, rule_held, rule_in, sees, slots_held, AreBelow}
-use Rattle.kt_list.specs.Rows.{with_item}
-use Rattle.kt_list.proofs.RowLemmas.{item_last}
-use Rattle.kt_rules.specs.declared.book.rules.LastList.{LastList}
+use Rattle.std.proofs.Common.{◌≡◌, ℕ, zero, suc, ◌+◌, min, Bool, true, false, if◌then◌else◌, List, [], ◌∷◌, ◌++◌, length, take, get_or, slice_get, Option, Some, None, is_some, option_map, unwrap_or, refl, sym, ap, ◌∙◌, subst, arith, length-append}
+use Rattle.kt_rules.proofs.Common.{All, length-take, All-cons, All-head, All-nil, All-push, All-tail, All-take, All-weaker, Text, Kinds, Kind, Needs, RecipeLine, Rule, rule_by, is_double, is_group, AreHeld, AreNeeds, AreRuleNumbers, Grows, IsKnown, IsLast, needs_held, rule_held, rules_held, sees}
+use Rattle.kt_rules.proofs.DictionaryLemmas.{list_stays, number_named_if, number_stays_if, numbers_named}
+use Rattle.kt_rules.specs.declared.book.row.NeedsNumbers.{NeedsNumbers}
+use Rattle.kt_rules.specs.declared.book.row.Row.{Row}
+use Rattle.kt_rules.specs.declared.book.row.RuleNumbers.{RuleNumbers}
+use Rattle.kt_rules.specs.declared.book.rules.LastNeeds.{LastNeeds}
 use Rattle.kt_rules.specs.declared.entry.Kind.TheVariants.{SingleColon, DoubleColon, Group, Pattern, TerminalPattern}
-use Rattle.kt_list.specs.Prefixes.{HasMore}
 
--- ---- numbers of names
+-- ---- a rule by its numbers
 
--- names that are added at the end leave a name its number
-number_stays : (names more : List Text) (number : ℕ) (name : Text) → slice_get names number ≡ Some name → slice_get (names ++ more) number ≡ Some name
-number_stays names more number name at =
-    let within = slice_get_within names number name at in
-    slice_get-get_or (names ++ more) number [] (omega (arith, within, length-append names more))
-    ∙ ap Some (get_or_append_left names more [] number within ∙ get_or_from_slice_get names number name [] at)
+needs_named : (d : List Text × List (List ℕ)) (needs : Needs) (numbers : NeedsNumbers) → AreNeeds d needs numbers → needs_held d numbers ≡ needs
+needs_named d needs numbers are =
+    let first = numbers_named d.0 (get_or d.1 numbers.prerequisites []) needs.prerequisites are.0.numbers in
+    let second = numbers_named d.0 (get_or d.1 numbers.order_only []) needs.order_only are.1.numbers in
+    λ j. record { prerequisites = first j; order_only = second j }
 
-numbers_stay : (names more : List Text) (numbers : List ℕ) (list : List Text) → AreNumbersOf names numbers list → AreNumbersOf (names ++ more) numbers list
-numbers_stay names more [] list are = are
-numbers_stay names more (number ∷ numbers) [] are = absurd (cc are)
-numbers_stay names more (number ∷ numbers) (name ∷ list) are =
-    let first = number_stays names more number name (head_is (slice_get names number) (Some name) (map (slice_get names) numbers) (map Some list) are) in
-    let others = numbers_stay names more numbers list (tail_is (slice_get names number) (Some name) (map (slice_get names) numbers) (map Some list) are) in
-    λ j. first j ∷ others j
+-- the rule that has these names
+pub rule_named : (d : List Text × List (List ℕ)) (lines : List RecipeLine) (row : Row) (targets : List Text) (pattern : Option Text) (needs : Needs)
+    → AreRuleNumbers d targets pattern needs row.numbers
+    → rule_held d lines row ≡ rule_by row.kind targets pattern needs (if row.has_recipe then Some lines else None) row.place
+rule_named d lines row targets pattern needs are =
+    let front = numbers_named d.0 (get_or d.1 row.numbers.targets []) targets are.of_targets.numbers in
+    let between = number_named_if d.0 row.numbers.pattern pattern are.of_pattern in
+    let end = needs_named d needs row.numbers.needs are.of_needs in
+    λ j. rule_by row.kind (front j) (between j) (end j) (if row.has_recipe then Some lines else None) row.place
 
-pub numbers_named : (names : List Text) (numbers : List ℕ) (list : List Text) → AreNumbersOf names numbers list → names_at names numbers ≡ list
-numbers_named names [] [] are = refl
-numbers_named names [] (name ∷ list) are = absurd (cc are)
-numbers_named names (number ∷ numbers) [] are = absurd (cc are)
-numbers_named names (number ∷ numbers) (name ∷ list) are =
-    let first = get_or_from_slice_get names number name [] (head_is (slice_get names number) (Some name) (map (slice_get names) numbers) (map Some list) are) in
-    let others = numbers_named names numbers list (tail_is (slice_get names number) (Some name) (map (slice_get names) numbers) (map Some list) are) in
-    λ j. first j ∷ others j
+-- ---- what is held, when the dictionary grows
 
-numbers_below : (names : List Text) (numbers : List ℕ) (list : List Text) → AreNumbersOf names numbers list → AreBelow (length names) numbers
-numbers_below names [] list are = All-nil (λ number. number < length names)
-numbers_below names (number ∷ numbers) [] are = absurd (cc are)
-numbers_below names (number ∷ numbers) (name ∷ list) are =
-    All-cons (λ number. number < length names) number numbers
-    (slice_get_within names number name (head_is (slice_get names number) (Some name) (map (slice_get names) numbers) (map Some list) are))
-    (numbers_below names numbers list (tail_is (slice_get names number) (Some name) (map (slice_get names) numbers) (map Some list) are))
+pub needs_stay : (old new : List Text × List (List ℕ)) (needs : Needs) (numbers : NeedsNumbers) → Grows old new → AreNeeds old needs numbers → AreNeeds new needs numbers
+needs_stay old new needs numbers grew are =
+    (list_stays old new numbers.prerequisites needs.prerequisites grew are.0, list_stays old new numbers.order_only needs.order_only grew are.1)
 
--- ---- names that are added
+rule_stays : (old new : List Text × List (List ℕ)) (targets : List Text) (pattern : Option Text) (needs : Needs) (numbers : RuleNumbers) → Grows old new
+    → AreRuleNumbers old targets pattern needs numbers → AreRuleNumbers new targets pattern needs numbers
+rule_stays old new targets pattern needs numbers grew are = record {
+  of_targets = list_stays old new numbers.targets targets grew are.of_targets;
+  of_pattern = number_stays_if old.0 new.0 numbers.pattern pattern grew.0 are.of_pattern;
+  of_needs = needs_stay old new needs numbers.needs grew are.of_needs;
+}
 
-pub got_none : (names : List Text) → GotNames names names
-got_none names = ([], sym (append-nil names))
+pub last_stays : (old new : List Text × List (List ℕ)) (last : Option LastNeeds) → Grows old new → IsLast old last → IsLast new last
+last_stays old new None grew is = tt
+last_stays old new (Some last) grew is = needs_stay old new last.needs.value.1 last.numbers grew is
 
-pub got_twice : (names mid new : List Text) → GotNames names mid → GotNames mid new → GotNames names new
-got_twice names mid new one two =
-    (one.0 ++ two.0, two.1 ∙ ap (λ (xs : List Text). xs ++ two.0) one.1 ∙ append_assoc names one.0 two.0)
+known_more : (old new : List Text × List (List ℕ)) (kinds kinds' : Kinds) → Grows old new → ((other : Kind) → sees kinds other ≡ true → sees kinds' other ≡ true)
+    → (row : Row) → IsKnown kinds old row → IsKnown kinds' new row
+known_more old new kinds kinds' grew kept row known = record {
+  seen = kept row.kind known.seen;
+  targets = known.targets;
+  pattern = known.pattern;
+  needs = known.needs;
+  told = rule_stays old new known.targets known.pattern known.needs row.numbers grew known.told;
+}
 
-pub name_got : (names new : List Text) (name : Text) → new ≡ with_name names name → GotNames names new
-name_got names new name is = subst (GotNames names) (sym is) (by (is_among names name))
-  where
-    by : (b : Bool) → GotNames names (if b then names else names ++ name ∷ [])
-    by true = got_none names
-    by false = (name ∷ [], refl)
+module _ (old new : List Text × List (List ℕ)) (grew : Grows old new) (kinds : Kinds) where
+  row_more : (lines : List RecipeLine) (row : Row) → IsKnown kinds old row → rule_held new lines row ≡ rule_held old lines row
+  row_more lines row known =
+      rule_named new lines row known.targets known.pattern known.needs (rule_stays old new known.targets known.pattern known.needs row.numbers grew known.told)
+      ∙ sym (rule_named old lines row known.targets known.pattern known.needs known.told)
 
--- ---- a row of numbers
+  rules_more : (recipes : List (List RecipeLine)) (rows : List Row) → All (IsKnown kinds old) rows → rules_held new recipes rows ≡ rules_held old recipes rows
+  rules_more [] rows known = refl
+  rules_more (lines ∷ recipes) [] known = refl
+  rules_more (lines ∷ recipes) (row ∷ rows) known =
+      let first = row_more lines row (All-head (IsKnown kinds old) row rows known) in
+      let others = rules_more recipes rows (All-tail (IsKnown kinds old) row rows known) in
+      λ j. first j ∷ others j
 
-pub row_longer : (front rows new : List (List ℕ)) (number : ℕ) → new ≡ with_item rows number → HasOneMore front rows → HasOneMore front new
-row_longer front rows new number is one =
-    (one.0 ++ number ∷ [], is ∙ ap (λ (all : List (List ℕ)). with_item all number) one.1 ∙ item_last front one.0 number)
+module _ (old new : List Text × List (List ℕ)) (recipes : List (List RecipeLine)) (rows : List Row) (kinds : Kinds) (last : Option LastNeeds)
+    (grew : Grows old new) (held : AreHeld old recipes rows kinds last) where
+  pub grown_rules : rules_held new recipes rows ≡ rules_held old recipes rows
+  grown_rules = rules_more old new grew kinds recipes rows held.known
 
--- the rows before those that were added
-pub rows_before : (front rows : List (List ℕ)) → HasMore front rows → take (length front) rows ≡ front
-rows_before front rows more = ap (take (length front)) more.1 ∙ take-append_seam front more.0
+  pub grown_held : AreHeld new recipes rows kinds last
+  grown_held = record {
+    many = held.many;
+    known = All-weaker (IsKnown kinds old) (IsKnown kinds new) (known_more old new kinds kinds grew (λ other seen. seen)) rows held.known;
+    remembered = last_stays old new last grew held.remembered;
+  }
 
-pub row_open : (names : List Text) (front rows : List (List ℕ)) → rows ≡ front ++ [] ∷ [] → GotRow names front rows []
-row_open names front rows is = ([], is, refl)
+-- ---- places
 
-pub row_named : (names new : List Text) (front rows added : List (List ℕ)) (before : List Text) (name : Text) (number : ℕ) → GotNames names new
-    → slice_get new number ≡ Some name → added ≡ with_item rows number → GotRow names front rows before → GotRow new front added (before ++ name ∷ [])
-unfolding row_longer
-row_named names new front rows added before name number grew at is got =
-    let longer = row_longer front rows added number is (got.0, got.1) in
-    let stay : AreNumbersOf new got.0 before = subst (λ (all : List Text). AreNumbersOf all got.0 before) (sym grew.1) (numbers_stay names grew.0 got.0 before got.2) in (
-      longer.0,
-      longer.1,
-      map-append (slice_get new) got.0 (number ∷ [])
-          ∙ ap (λ (xs : List (Option Text)). xs ++ slice_get new number ∷ []) stay
-          ∙ ap (λ (one : Option Text). map Some before ++ one ∷ []) at
-          ∙ sym (map-append Some before (name ∷ [])),
-    )
+-- the rule at a place
+rule_found : (d : List Text × List (List ℕ)) (recipes : List (List RecipeLine)) (rows : List Row) (place : ℕ) → length recipes ≡ length rows
+    → slice_get (rules_held d recipes rows) place ≡ option_map (rule_held d (get_or recipes place [])) (slice_get rows place)
+rule_found d [] [] place many = refl
+rule_found d [] (row ∷ rows) place many = absurd (omega (arith, many))
+rule_found d (lines ∷ recipes) [] place many = refl
+rule_found d (lines ∷ recipes) (row ∷ rows) zero many = refl
+rule_found d (lines ∷ recipes) (row ∷ rows) (suc place) many = rule_found d recipes rows place (omega (arith, many))
 
--- a row that was added
-pub row_added : (names : List Text) (front rows : List (List ℕ)) (row : ℕ) (list : List Text) → row ≡ length front → GotRow names front rows list → IsRow names rows row list
-row_added names front rows row list at got =
-    let same : get_or rows row [] ≡ got.0
-    = ap (λ (n : ℕ). get_or rows n []) at ∙ ap (λ (all : List (List ℕ)). get_or all (length front) []) got.1 ∙ get_or-append_seam front got.0 [] [] in
-    let longer : length rows ≡ length front + 1 = ap length got.1 ∙ length-append front (got.0 ∷ []) in
-    record {
-      within = omega (arith, at, longer);
-      numbers = subst (λ (numbers : List ℕ). AreNumbersOf names numbers list) (sym same) got.2;
-    }
-
-pub lists_added : (names : List Text) (front rows : List (List ℕ)) (list : List Text) → GotRow names front rows list → GotLists names front rows
-lists_added names front rows list got =
-    (got.0 ∷ [], got.1, All-cons (AreBelow (length names)) got.0 [] (numbers_below names got.0 list got.2) (All-nil (AreBelow (length names))))
-
--- a row stays where names and rows are added
-pub row_stays : (names new : List Text) (lists lists' : List (List ℕ)) (row : ℕ) (list : List Text) → GotNames names new → HasMore lists lists'
-    → IsRow names lists row list → IsRow new lists' row list
-row_stays names new lists lists' row list grew more is =
-    let same : get_or lists' row [] ≡ get_or lists row []
-    = ap (λ (all : List (List ℕ)). get_or all row []) more.1 ∙ get_or_append_left lists more.0 [] row is.within in
-    let longer : length lists' ≡ length lists + length more.0 = ap length more.1 ∙ length-append lists more.0 in
-    record {
-      within = omega (arith, is.within, longer);
-      numbers = subst (λ (numbers : List ℕ). AreNumbersOf new numbers list) (sym same)
-          (subst (λ (all : List Text). AreNumbersOf all (get_or lists row []) list) (sym grew.1) (numbers_stay names grew.0 (get_or lists row []) list is.numbers));
-    }
-
-below_more : (names new : List Text) (lists : List (List ℕ)) → GotNames names new → All (AreBelow (length names)) lists → All (AreBelow (length new)) lists
-below_more names new lists grew below =
-    let longer : length new ≡ length names + length grew.0 = ap length grew.1 ∙ length-append names grew.0 in
-    All-weaker (AreBelow (length names)) (AreBelow (length new))
-    (λ numbers own. All-weaker (λ n. n < length names) (λ n. n < length new) (λ n h. omega (arith, h, longer)) numbers own) lists below
-
-pub lists_twice : (names new : List Text) (lists mid lists' : List (List ℕ)) → GotNames names new → GotLists names lists mid → GotLists new mid lists' → GotLists new lists lists'
-lists_twice names new lists mid lists' grew one two = (
-  one.0 ++ two.0,
-  two.1 ∙ ap (λ (all : List (List ℕ)). all ++ two.0) one.1 ∙ append_assoc lists one.0 two.0,
-  All-append (AreBelow (length new)) one.0 two.0 (below_more names new one.0 grew one.2) two.2,
-)
-
--- ---- what is held, when names and rows are added
-
--- numbers have the same names
-names_more : (names more : List Text) (numbers : List ℕ) → AreBelow (length names) numbers → names_at (names ++ more) numbers ≡ names_at names numbers
-names_more names more [] below = refl
-names_more names more (number ∷ numbers) below =
-    let first = get_or_append_left names more [] number (All-head (λ n. n < length names) number numbers below) in
-    let others = names_more names more numbers (All-tail (λ n. n < length names) number numbers below) in
-    λ j. first j ∷ others j
-
-module _ (names new : List Text) (lists lists' : List (List ℕ)) (grew : GotNames names new) (more : GotLists new lists lists') (below : All (AreBelow (length names)) lists) where
-  named_same : (numbers : List ℕ) → AreBelow (length names) numbers → names_at new numbers ≡ names_at names numbers
-  named_same numbers own = ap (λ (all : List Text). names_at all numbers) grew.1 ∙ names_more names grew.0 numbers own
-
-  rows_same : (row : ℕ) → row < length lists → get_or lists' row [] ≡ get_or lists row []
-  rows_same row within = ap (λ (all : List (List ℕ)). get_or all row []) more.1 ∙ get_or_append_left lists more.0 [] row within
-
-  rule_more : (lines : List RecipeLine) (held : HeldRule) → held.rows.targets < length lists → held.rows.needs < length lists
-      → rule_in new lists' lines held ≡ rule_in names lists lines held
-  rule_more lines held first second =
-      let is_below = λ (n : ℕ). n < length names in
-      let own = get_or lists held.rows.targets [] in
-      let needs = get_or lists held.rows.needs [] in
-      let needs_below = All-get_or (AreBelow (length names)) lists held.rows.needs [] second below in
-      let own_same = rows_same held.rows.targets first in
-      let needs_same = rows_same held.rows.needs second in
-      let targets = named_same own (All-get_or (AreBelow (length names)) lists held.rows.targets [] first below) in
-      let one = named_same (take held.prerequisites needs) (All-take is_below held.prerequisites needs needs_below) in
-      let two = named_same (drop held.prerequisites needs) (All-drop is_below held.prerequisites needs needs_below) in
-      (λ j. rule_held new (own_same j) (needs_same j) lines held)
-      ∙ (λ j. rule_by held.kind (targets j) held.pattern (record { prerequisites = one j; order_only = two j }) (if held.has_recipe then Some lines else None) held.place)
-
-  slots_more : (recipes : List (List RecipeLine)) (slots : List (Option HeldRule)) (kinds : Kinds) → All (IsKnown kinds (length lists)) slots
-      → slots_held new lists' recipes slots ≡ slots_held names lists recipes slots
-  slots_more [] slots kinds known = refl
-  slots_more (lines ∷ recipes) [] kinds known = refl
-  slots_more (lines ∷ recipes) (None ∷ slots) kinds known =
-      ap (λ xs. None ∷ xs) (slots_more recipes slots kinds (All-tail (IsKnown kinds (length lists)) None slots known))
-  slots_more (lines ∷ recipes) (Some held ∷ slots) kinds known =
-      let rows = All-head (IsKnown kinds (length lists)) (Some held) slots known in
-      let rule = rule_more lines held rows.1 rows.2 in
-      let others = slots_more recipes slots kinds (All-tail (IsKnown kinds (length lists)) (Some held) slots known) in
-      λ j. Some (rule j) ∷ others j
-
-known_more : (kinds kinds' : Kinds) (count more : ℕ) → ((other : Kind) → sees kinds other ≡ true → sees kinds' other ≡ true) → count ≤ more
-    → (slot : Option HeldRule) → IsKnown kinds count slot → IsKnown kinds' more slot
-known_more kinds kinds' count more kept longer None known = tt
-known_more kinds kinds' count more kept longer (Some held) known =
-    (kept held.kind known.0, omega (arith, known.1, longer), omega (arith, known.2, longer))
-
-pub last_stays : (names new : List Text) (lists lists' : List (List ℕ)) (last : Option LastList) → GotNames names new → HasMore lists lists'
-    → IsLast names lists last → IsLast new lists' last
-last_stays names new lists lists' None grew more is = tt
-last_stays names new lists lists' (Some last) grew more is = row_stays names new lists lists' last.row (all_needs last.needs.value.1) grew more is
-
-module _ (names new : List Text) (lists lists' : List (List ℕ)) (recipes : List (List RecipeLine)) (slots : List (Option HeldRule)) (kinds : Kinds) (last : Option LastList)
-    (grew : GotNames names new) (more : GotLists new lists lists') (held : AreHeld names lists recipes slots kinds last) where
-  pub grown_slots : slots_held new lists' recipes slots ≡ slots_held names lists recipes slots
-  grown_slots = slots_more names new lists lists' grew more held.below recipes slots kinds held.known
-
-  pub grown_held : AreHeld new lists' recipes slots kinds last
-  grown_held =
-      let more_rows : length lists' ≡ length lists + length more.0 = ap length more.1 ∙ length-append lists more.0 in
-      let before = below_more names new lists grew held.below in
-      record {
-        below = subst (All (AreBelow (length new))) (sym more.1) (All-append (AreBelow (length new)) lists more.0 before more.2);
-        many = held.many;
-        known = All-weaker (IsKnown kinds (length lists)) (IsKnown kinds (length lists'))
-            (known_more kinds kinds (length lists) (length lists') (λ other seen. seen) (omega (arith, more_rows))) slots held.known;
-        remembered = last_stays names new lists lists' last grew (more.0, more.1) held.remembered;
-      }
-
--- no rows
-pub lists_none : (names : List Text) (lists lists' : List (List ℕ)) → lists' ≡ lists → GotLists names lists lists'
-lists_none names lists lists' same = ([], same ∙ sym (append-nil lists), All-nil (AreBelow (length names)))
-
--- ---- slots
-
--- what is in a slot
-slot_found : (names : List Text) (lists : List (List ℕ)) (recipes : List (List RecipeLine)) (slots : List (Option HeldRule)) (place : ℕ)
-    → length recipes ≡ length slots
-    → slice_get (slots_held names lists recipes slots) place ≡ option_map (option_map (rule_in names lists (get_or recipes place []))) (slice_get slots place)
-slot_found names lists [] [] place many = refl
-slot_found names lists [] (slot ∷ slots) place many = absurd (omega (arith, many))
-slot_found names lists (lines ∷ recipes) [] place many = refl
-slot_found names lists (lines ∷ recipes) (slot ∷ slots) zero many = refl
-slot_found names lists (lines ∷ recipes) (slot ∷ slots) (suc place) many = slot_found names lists recipes slots place (omega (arith, many))
-
-pub slots_many : (names : List Text) (lists : List (List ℕ)) (recipes : List (List RecipeLine)) (slots : List (Option HeldRule))
-    → length recipes ≡ length slots → length (slots_held names lists recipes slots) ≡ length slots
-slots_many names lists [] slots many = many
-slots_many names lists (lines ∷ recipes) [] many = refl
-slots_many names lists (lines ∷ recipes) (slot ∷ slots) many =
-    let others = slots_many names lists recipes slots (omega (arith, many)) in omega (arith, others)
-
-joined : {A B : Type 0} (f : A → B) (slot : Option (Option A)) → option_and_then (λ one. one) (option_map (option_map f) slot) ≡ option_map f (option_and_then (λ one. one) slot)
-joined f None = refl
-joined f (Some slot) = refl
+pub rules_many : (d : List Text × List (List ℕ)) (recipes : List (List RecipeLine)) (rows : List Row) → length recipes ≡ length rows
+    → length (rules_held d recipes rows) ≡ length rows
+rules_many d [] rows many = many
+rules_many d (lines ∷ recipes) [] many = refl
+rules_many d (lines ∷ recipes) (row ∷ rows) many = let others = rules_many d recipes rows (omega (arith, many)) in omega (arith, others)
 
 -- the same as a book's rules have it
-pub slot_told : (told : List Text × List (Option Rule)) (names : List Text) (lists : List (List ℕ)) (recipes : List (List RecipeLine))
-    (slots : List (Option HeldRule)) (place : ℕ) (held : Option HeldRule) → (names, slots_held names lists recipes slots) ≡ told
-    → length recipes ≡ length slots → held ≡ option_and_then (λ slot. slot) (slice_get slots place)
-    → option_map (rule_in names lists (get_or recipes place [])) held ≡ slot_rule told.1 place
-slot_told told names lists recipes slots place held view many is =
-    let rule = rule_in names lists (get_or recipes place []) in
-    ap (option_map rule) is
-    ∙ sym (ap (option_and_then (λ one. one)) (slot_found names lists recipes slots place many) ∙ joined rule (slice_get slots place))
-    ∙ ap (λ (all : List Text × List (Option Rule)). slot_rule all.1 place) view
+pub rule_told : (told : List Text × List Rule) (d : List Text × List (List ℕ)) (recipes : List (List RecipeLine)) (rows : List Row) (place : ℕ) (row : Option Row)
+    → (d.0, rules_held d recipes rows) ≡ told → length recipes ≡ length rows → row ≡ slice_get rows place
+    → option_map (rule_held d (get_or recipes place [])) row ≡ slice_get told.1 place
+rule_told told d recipes rows place row view many is =
+    ap (option_map (rule_held d (get_or recipes place []))) is ∙ sym (rule_found d recipes rows place many)
+    ∙ ap (λ (all : List Text × List Rule). slice_get all.1 place) view
 
 -- one more
-slots_push : (names : List Text) (lists : List (List ℕ)) (recipes : List (List RecipeLine)) (slots : List (Option HeldRule))
-    (lines : List RecipeLine) (held : HeldRule) → length recipes ≡ length slots
-    → slots_held names lists (recipes ++ lines ∷ []) (slots ++ Some held ∷ []) ≡ slots_held names lists recipes slots ++ Some (rule_in names lists lines held) ∷ []
-slots_push names lists [] [] lines held many = refl
-slots_push names lists (own ∷ recipes) [] lines held many = absurd (omega (arith, many))
-slots_push names lists [] (slot ∷ slots) lines held many = absurd (omega (arith, many))
-slots_push names lists (own ∷ recipes) (slot ∷ slots) lines held many =
-    ap (λ xs. option_map (rule_in names lists own) slot ∷ xs) (slots_push names lists recipes slots lines held (omega (arith, many)))
+rules_push : (d : List Text × List (List ℕ)) (recipes : List (List RecipeLine)) (rows : List Row) (lines : List RecipeLine) (row : Row) → length recipes ≡ length rows
+    → rules_held d (recipes ++ lines ∷ []) (rows ++ row ∷ []) ≡ rules_held d recipes rows ++ rule_held d lines row ∷ []
+rules_push d [] [] lines row many = refl
+rules_push d (own ∷ recipes) [] lines row many = absurd (omega (arith, many))
+rules_push d [] (other ∷ rows) lines row many = absurd (omega (arith, many))
+rules_push d (own ∷ recipes) (other ∷ rows) lines row many = ap (λ xs. rule_held d own other ∷ xs) (rules_push d recipes rows lines row (omega (arith, many)))
 
--- one that is emptied
-pub slots_emptied : (names : List Text) (lists : List (List ℕ)) (recipes : List (List RecipeLine)) (slots : List (Option HeldRule)) (place : ℕ)
-    → slots_held names lists recipes (set slots place None) ≡ set (slots_held names lists recipes slots) place None
-slots_emptied names lists [] slots place = refl
-slots_emptied names lists (lines ∷ recipes) [] place = refl
-slots_emptied names lists (lines ∷ recipes) (slot ∷ slots) zero = refl
-slots_emptied names lists (lines ∷ recipes) (slot ∷ slots) (suc place) =
-    ap (λ xs. option_map (rule_in names lists lines) slot ∷ xs) (slots_emptied names lists recipes slots place)
+-- the first ones
+pub rules_first : (d : List Text × List (List ℕ)) (recipes : List (List RecipeLine)) (rows : List Row) (count : ℕ)
+    → rules_held d (take count recipes) (take count rows) ≡ take count (rules_held d recipes rows)
+rules_first d [] [] zero = refl
+rules_first d [] [] (suc count) = refl
+rules_first d [] (row ∷ rows) zero = refl
+rules_first d [] (row ∷ rows) (suc count) = refl
+rules_first d (lines ∷ recipes) [] zero = refl
+rules_first d (lines ∷ recipes) [] (suc count) = refl
+rules_first d (lines ∷ recipes) (row ∷ rows) zero = refl
+rules_first d (lines ∷ recipes) (row ∷ rows) (suc count) = ap (λ xs. rule_held d lines row ∷ xs) (rules_first d recipes rows count)
 
-pub emptied_held : (names : List Text) (lists : List (List ℕ)) (recipes : List (List RecipeLine)) (slots : List (Option HeldRule)) (kinds : Kinds) (last : Option LastList)
-    (place : ℕ) → AreHeld names lists recipes slots kinds last → AreHeld names lists recipes (set slots place None) kinds last
-emptied_held names lists recipes slots kinds last place held =
-    let same = length-set slots place None in
-    record {
-      below = held.below;
-      many = omega (arith, held.many, same);
-      known = All-set (IsKnown kinds (length lists)) slots place None tt held.known;
-      remembered = held.remembered;
-    }
+pub first_held : (d : List Text × List (List ℕ)) (recipes recipes' : List (List RecipeLine)) (rows rows' : List Row) (kinds : Kinds) (last : Option LastNeeds) (count : ℕ)
+    → recipes' ≡ take count recipes → rows' ≡ take count rows → AreHeld d recipes rows kinds last → AreHeld d recipes' rows' kinds last
+first_held d recipes recipes' rows rows' kinds last count lines is held = record {
+  many = ap length lines ∙ length-take count recipes ∙ ap (min count) held.many ∙ sym (length-take count rows) ∙ sym (ap length is);
+  known = subst (All (IsKnown kinds d)) (sym is) (All-take (IsKnown kinds d) count rows held.known);
+  remembered = held.remembered;
+}
 
 -- ---- the kinds of the rules
 
 -- no rule is of a kind that there can't be
-none_held : (test : Kind → Bool) (names : List Text) (lists : List (List ℕ)) (recipes : List (List RecipeLine)) (slots : List (Option HeldRule)) (kinds : Kinds) (count : ℕ)
-    → ((kind : Kind) → sees kinds kind ≡ true → test kind ≡ false) → All (IsKnown kinds count) slots
-    → All (λ rule. test rule.kind ≡ false) (rules_in (slots_held names lists recipes slots))
-none_held test names lists [] slots kinds count none known = All-nil (λ rule. test rule.kind ≡ false)
-none_held test names lists (lines ∷ recipes) [] kinds count none known = All-nil (λ rule. test rule.kind ≡ false)
-none_held test names lists (lines ∷ recipes) (None ∷ slots) kinds count none known =
-    none_held test names lists recipes slots kinds count none (All-tail (IsKnown kinds count) None slots known)
-none_held test names lists (lines ∷ recipes) (Some held ∷ slots) kinds count none known =
-    All-cons (λ rule. test rule.kind ≡ false) (rule_in names lists lines held) (rules_in (slots_held names lists recipes slots))
-    (none held.kind (All-head (IsKnown kinds count) (Some held) slots known).0)
-    (none_held test names lists recipes slots kinds count none (All-tail (IsKnown kinds count) (Some held) slots known))
+none_held : (test : Kind → Bool) (d : List Text × List (List ℕ)) (recipes : List (List RecipeLine)) (rows : List Row) (kinds : Kinds)
+    → ((kind : Kind) → sees kinds kind ≡ true → test kind ≡ false) → All (IsKnown kinds d) rows
+    → All (λ rule. test rule.kind ≡ false) (rules_held d recipes rows)
+none_held test d [] rows kinds none known = All-nil (λ rule. test rule.kind ≡ false)
+none_held test d (lines ∷ recipes) [] kinds none known = All-nil (λ rule. test rule.kind ≡ false)
+none_held test d (lines ∷ recipes) (row ∷ rows) kinds none known =
+    All-cons (λ rule. test rule.kind ≡ false) (rule_held d lines row) (rules_held d recipes rows)
+    (none row.kind (All-head (IsKnown kinds d) row rows known).seen) (none_held test d recipes rows kinds none (All-tail (IsKnown kinds d) row rows known))
 
-module _ (told : List Text × List (Option Rule)) (names : List Text) (lists : List (List ℕ)) (recipes : List (List RecipeLine)) (slots : List (Option HeldRule))
-    (kinds : Kinds) (last : Option LastList) (view : (names, slots_held names lists recipes slots) ≡ told) (held : AreHeld names lists recipes slots kinds last) where
-  none_told : (test : Kind → Bool) → ((kind : Kind) → sees kinds kind ≡ true → test kind ≡ false) → All (λ rule. test rule.kind ≡ false) (rules_in told.1)
+module _ (told : List Text × List Rule) (d : List Text × List (List ℕ)) (recipes : List (List RecipeLine)) (rows : List Row)
+    (kinds : Kinds) (last : Option LastNeeds) (view : (d.0, rules_held d recipes rows) ≡ told) (held : AreHeld d recipes rows kinds last) where
+  none_told : (test : Kind → Bool) → ((kind : Kind) → sees kinds kind ≡ true → test kind ≡ false) → All (λ rule. test rule.kind ≡ false) told.1
   none_told test none =
-      subst (λ (all : List Text × List (Option Rule)). All (λ rule. test rule.kind ≡ false) (rules_in all.1)) view
-      (none_held test names lists recipes slots kinds (length lists) none held.known)
+      subst (λ (all : List Text × List Rule). All (λ rule. test rule.kind ≡ false) all.1) view
+      (none_held test d recipes rows kinds none held.known)
 
-  pub none_double : kinds.double ≡ false → All (λ rule. is_double rule.kind ≡ false) (rules_in told.1)
+  pub none_double : kinds.double ≡ false → All (λ rule. is_double rule.kind ≡ false) told.1
   none_double unseen = none_told is_double by
     where
       by : (kind : Kind) → sees kinds kind ≡ true → is_double kind ≡ false
@@ -297,7 +162,7 @@ module _ (told : List Text × List (Option Rule)) (names : List Text) (lists : L
       by Pattern seen = refl
       by TerminalPattern seen = refl
 
-  pub none_group : kinds.group ≡ false → All (λ rule. is_group rule.kind ≡ false) (rules_in told.1)
+  pub none_group : kinds.group ≡ false → All (λ rule. is_group rule.kind ≡ false) told.1
   none_group unseen = none_told is_group by
     where
       by : (kind : Kind) → sees kinds kind ≡ true → is_group kind ≡ false
@@ -313,51 +178,36 @@ recipe_back : (recipe : Option (List RecipeLine)) → (if is_some recipe then So
 recipe_back None = refl
 recipe_back (Some lines) = refl
 
--- the rule of its numbers
-rule_back : (names : List Text) (own numbers : List ℕ) (lines : List RecipeLine) (held : HeldRule) (targets : List Text) (needs : Needs) (recipe : Option (List RecipeLine))
-    → held.prerequisites ≡ length needs.prerequisites → held.has_recipe ≡ is_some recipe → lines ≡ unwrap_or recipe []
-    → AreNumbersOf names own targets → AreNumbersOf names numbers (all_needs needs)
-    → rule_held names own numbers lines held ≡ rule_by held.kind targets held.pattern needs recipe held.place
-rule_back names own numbers lines held targets needs recipe few has is are are_too =
-    let front = numbers_named names own targets are in
-    let named = numbers_named names numbers (all_needs needs) are_too in
-    let first : names_at names (take held.prerequisites numbers) ≡ needs.prerequisites =
-    sym (take-map (λ n. get_or names n []) held.prerequisites numbers)
-    ∙ ap (take held.prerequisites) named ∙ ap (λ (n : ℕ). take n (all_needs needs)) few ∙ take-append_seam needs.prerequisites needs.order_only in
-    let second : names_at names (drop held.prerequisites numbers) ≡ needs.order_only =
-    sym (drop-map (λ n. get_or names n []) held.prerequisites numbers)
-    ∙ ap (drop held.prerequisites) named ∙ ap (λ (n : ℕ). drop n (all_needs needs)) few ∙ drop-append_seam needs.prerequisites needs.order_only in
-    let made : (if held.has_recipe then Some lines else None) ≡ recipe =
-    ap (λ (b : Bool). if b then Some lines else None) has ∙ ap (λ (ls : List RecipeLine). if is_some recipe then Some ls else None) is ∙ recipe_back recipe in
-    λ j. rule_by held.kind (front j) held.pattern (record { prerequisites = first j; order_only = second j }) (made j) held.place
-
-module _ (names new : List Text) (lists lists' : List (List ℕ)) (recipes recipes' : List (List RecipeLine)) (slots slots' : List (Option HeldRule))
-    (kinds : Kinds) (last : Option LastList) (lines : List RecipeLine) (rule : HeldRule) (targets : List Text) (needs : Needs) (grew : GotNames names new)
-    (more : GotLists new lists lists') (held : AreHeld names lists recipes slots kinds last) (rows : HasRows new lists' targets (all_needs needs) rule.rows)
-    (lined : recipes' ≡ recipes ++ lines ∷ []) (is : slots' ≡ slots ++ Some rule ∷ []) where
-  pub pushed_held : (kinds' : Kinds) (last' : Option LastList) → ((other : Kind) → sees kinds other ≡ true → sees kinds' other ≡ true) → sees kinds' rule.kind ≡ true
-      → (IsLast new lists' last → IsLast new lists' last') → AreHeld new lists' recipes' slots' kinds' last'
-  pushed_held kinds' last' kept known next =
-      let before = grown_held names new lists lists' recipes slots kinds last grew more held in
-      let many : length slots' ≡ length slots + 1 = ap length is ∙ length-append slots (Some rule ∷ []) in
+module _ (old new : List Text × List (List ℕ)) (recipes recipes' : List (List RecipeLine)) (rows rows' : List Row)
+    (kinds : Kinds) (last : Option LastNeeds) (lines : List RecipeLine) (row : Row) (targets : List Text) (pattern : Option Text) (needs : Needs)
+    (grew : Grows old new) (held : AreHeld old recipes rows kinds last) (are : AreRuleNumbers new targets pattern needs row.numbers) (lined : recipes' ≡ recipes ++ lines ∷ []) (is : rows' ≡ rows ++ row ∷ []) where
+  pub pushed_held : (kinds' : Kinds) (last' : Option LastNeeds) → ((other : Kind) → sees kinds other ≡ true → sees kinds' other ≡ true) → sees kinds' row.kind ≡ true
+      → (IsLast new last → IsLast new last') → AreHeld new recipes' rows' kinds' last'
+  pushed_held kinds' last' kept seen next =
+      let many : length rows' ≡ length rows + 1 = ap length is ∙ length-append rows (row ∷ []) in
       let many_recipes : length recipes' ≡ length recipes + 1 = ap length lined ∙ length-append recipes (lines ∷ []) in
       record {
-        below = before.below;
         many = omega (arith, many, many_recipes, held.many);
-        known = subst (All (IsKnown kinds' (length lists'))) (sym is)
-            (All-push (IsKnown kinds' (length lists')) slots (Some rule)
-            (All-weaker (IsKnown kinds (length lists')) (IsKnown kinds' (length lists')) (known_more kinds kinds' (length lists') (length lists') kept (omega arith)) slots before.known)
-            (known, rows.0.within, rows.1.within));
-        remembered = next before.remembered;
+        known = subst (All (IsKnown kinds' new)) (sym is)
+            (All-push (IsKnown kinds' new) rows row (All-weaker (IsKnown kinds old) (IsKnown kinds' new) (known_more old new kinds kinds' grew kept) rows held.known)
+            (record {
+              seen = seen;
+              targets = targets;
+              pattern = pattern;
+              needs = needs;
+              told = are;
+            }));
+        remembered = next (last_stays old new last grew held.remembered);
       }
 
   -- the rule that it holds
-  pub pushed_rule : (recipe : Option (List RecipeLine)) → rule.prerequisites ≡ length needs.prerequisites → rule.has_recipe ≡ is_some recipe → lines ≡ unwrap_or recipe []
-      → slots_held new lists' recipes' slots' ≡ slots_held names lists recipes slots ++ Some (rule_by rule.kind targets rule.pattern needs recipe rule.place) ∷ []
-  pushed_rule recipe few has own =
-      ap (λ (all : List (List RecipeLine)). slots_held new lists' all slots') lined
-      ∙ ap (λ (all : List (Option HeldRule)). slots_held new lists' (recipes ++ lines ∷ []) all) is
-      ∙ slots_push new lists' recipes slots lines rule held.many
-      ∙ ap (λ (all : List (Option Rule)). all ++ Some (rule_in new lists' lines rule) ∷ []) (grown_slots names new lists lists' recipes slots kinds last grew more held)
-      ∙ ap (λ (one : Rule). slots_held names lists recipes slots ++ Some one ∷ [])
-      (rule_back new (get_or lists' rule.rows.targets []) (get_or lists' rule.rows.needs []) lines rule targets needs recipe few has own rows.0.numbers rows.1.numbers)
+  pub pushed_rule : (recipe : Option (List RecipeLine)) → row.has_recipe ≡ is_some recipe → lines ≡ unwrap_or recipe []
+      → rules_held new recipes' rows' ≡ rules_held old recipes rows ++ rule_by row.kind targets pattern needs recipe row.place ∷ []
+  pushed_rule recipe has own =
+      let made : (if row.has_recipe then Some lines else None) ≡ recipe =
+      ap (λ (b : Bool). if b then Some lines else None) has ∙ ap (λ (ls : List RecipeLine). if is_some recipe then Some ls else None) own ∙ recipe_back recipe in
+      let rule : rule_held new lines row ≡ rule_by row.kind targets pattern needs recipe row.place =
+      rule_named new lines row targets pattern needs are ∙ ap (λ (one : Option (List RecipeLine)). rule_by row.kind targets pattern needs one row.place) made in
+      (λ j. rules_held new (lined j) (is j))
+      ∙ rules_push new recipes rows lines row held.many
+      ∙ (λ j. grown_rules old new recipes rows kinds last grew held j ++ rule j ∷ [])

@@ -13,7 +13,7 @@ abbrev pub items_of : {A : Type 0} → Option (Vec A Global) → List A
 items_of {A} found = unwrap_or (option_map (λ (items : Vec A Global). items.items) found) []
 
 -- if two names differ, no key is both
-apart : (name other : Text) → bytes_eq other name ≡ false → (key : Text) → bytes_eq name key ≡ true → bytes_eq other key ≡ false
+pub apart : (name other : Text) → bytes_eq other name ≡ false → (key : Text) → bytes_eq name key ≡ true → bytes_eq other key ≡ false
 apart name other differ key is =
     nat_list_eq_equiv.symm other key
     ∙ sym (nat_list_eq_equiv.congr name key other is)

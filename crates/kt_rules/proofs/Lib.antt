@@ -12,10 +12,11 @@ mod SpecialLemmas
 pub mod NoneLemmas
 pub mod RefusedLemmas
 pub mod SignLemmas
-pub mod SlotLemmas
+pub mod SpotLemmas
 pub mod FindLemmas
 pub mod NoteLemmas
 pub mod TargetLemmas
+pub mod DictionaryLemmas
 pub mod HeldLemmas
 mod TableLemmas
 pub mod StartLemmas

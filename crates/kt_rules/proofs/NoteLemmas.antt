@@ -3,7 +3,7 @@ use Rattle.std.proofs.Common.{◌≡◌, ℕ, zero, suc, ◌+◌, ◌<◌, ◌�
 use Rattle.kt_rules.proofs.Common.{bytes_eq, AllByRecursion, IsDistinct, position_from, option_or, eqb-true, eq-eqb, nat_list_eq_equiv, append-nil, append_assoc, get_or_past, drop_all, position_from-zero, bytes_eq-Decides, place_of, number_found, Text, Target, Spot, is_made, Rule, list_of, spots_at, spot_at, target_spots, spots_from, spots_for, AreIn, GrewAt, GrewIn}
 use Rattle.std.proofs.lemmas.Map.Keys.{IsDistinct-head, IsDistinct-tail}
 use Rattle.kt_rules.specs.inner.Lists.{Notes, list_at}
-use Rattle.kt_rules.proofs.SlotLemmas.{in_append, in_target_spots}
+use Rattle.kt_rules.proofs.SpotLemmas.{in_append, in_target_spots}
 
 -- ---- names in a list
 

@@ -1,6 +1,6 @@
 -- The numbers of the entries of explicit rules.
-use Rattle.std.proofs.Common.{◌≡◌, ℕ, ◌+◌, ◌<◌, ◌≤◌, ◌&&◌, not, Bool, true, false, cond, if◌then◌else◌, List, [], ◌∷◌, ◌++◌, length, map, filter, drop, get_or, suc, Option, Some, None, slice_get, refl, sym, ap, ◌∙◌, arith}
-use Rattle.kt_rules.proofs.Common.{enumerate_from, flat_map, bytes_eq, drop_more, map-append, filter-append, bytes_eq-Decides, Text, Target, Rule, suffixes_of, is_suffix_rule, is_made, is_explicit, target_rules, rules_of, explicit_rules, numbers_in, explicit_numbers, NumbersTellRules, rules_in}
+use Rattle.std.proofs.Common.{◌≡◌, ℕ, ◌+◌, ◌<◌, ◌&&◌, not, Bool, true, false, cond, if◌then◌else◌, List, [], ◌∷◌, ◌++◌, length, map, filter, drop, get_or, suc, Option, Some, slice_get, refl, sym, ap, ◌∙◌, arith}
+use Rattle.kt_rules.proofs.Common.{enumerate_from, flat_map, bytes_eq, drop_more, map-append, filter-append, bytes_eq-Decides, Text, Target, Rule, suffixes_of, is_suffix_rule, is_made, is_explicit, target_rules, rules_of, explicit_rules, numbers_in, explicit_numbers, NumbersTellRules}
 
 -- a number for each item that passes a test, from a place on
 pub numbers_at : {A : Type 0} (test : A → Bool) (n : ℕ) (xs : List A) (i : ℕ) (x : A) → i < length xs → x ≡ get_or xs i x
@@ -39,12 +39,6 @@ pub numbers_step : (suffixes : List Text) (name : Text) (rule : Rule) (left rest
 numbers_step suffixes name rule left rest count next are more =
     ap (λ rs. flat_map (numbers_in suffixes name) (enumerate_from count rs)) are
     ∙ ap (λ n. numbers_in suffixes name (count, rule) ++ flat_map (numbers_in suffixes name) (enumerate_from n rest)) (sym more)
-
--- there are no more rules than slots
-pub rules_fit : (slots : List (Option Rule)) → length (rules_in slots) ≤ length slots
-rules_fit [] = omega arith
-rules_fit (None ∷ slots) = let fit : length (rules_in slots) ≤ length slots = rules_fit slots in omega arith
-rules_fit (Some rule ∷ slots) = let fit : length (rules_in slots) ≤ length slots = rules_fit slots in omega arith
 
 -- ---- the rules at the numbers
 

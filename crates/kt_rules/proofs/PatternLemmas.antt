@@ -1,6 +1,6 @@
 -- Pattern rules, target by target, and those that are kept.
 use Rattle.std.proofs.Common.{◌≡◌, ℕ, Bool, true, false, cond, not, ◌&&◌, ◌||◌, if◌then◌else◌, List, [], ◌∷◌, ◌++◌, map, filter, reverse, Option, Some, None, Vec, Global, refl, sym, ap, ◌∙◌, is_some, true≢false, nat_eq}
-use Rattle.kt_rules.proofs.Common.{and_parts, option_to_list, filter_map, flat_map, cons_option, list_any, append-nil, append_assoc, reverse-append, list_any-append, bytes_eq, pointwise, nat_list_eq_equiv, and_parts, or_swap, or_swap, Text, Target, Rule, is_made, patterns_in, suffix_rule_as_pattern, repeats, unrepeated, patterns_of, names_eq, target_names, suffixes_of, rules_in}
+use Rattle.kt_rules.proofs.Common.{and_parts, option_to_list, filter_map, flat_map, cons_option, list_any, append-nil, append_assoc, reverse-append, list_any-append, bytes_eq, pointwise, nat_list_eq_equiv, and_parts, or_swap, or_swap, Text, Target, Rule, is_made, patterns_in, suffix_rule_as_pattern, repeats, unrepeated, patterns_of, names_eq, target_names, suffixes_of}
 use Rattle.std.specs.Cmp.Derive.Mapped.{pointwise-map}
 use Rattle.std.proofs.lemmas.Cmp.{lists_equiv}
 use Rattle.indexmap.specs.IndexSet.{insert_key}
@@ -148,9 +148,9 @@ known one key (other ∷ keys) is =
 pub key_known : (one : Rule) (key : PatternKey) (keys : List PatternKey) → IsKeyOf one key → list_any (keys_equal key) keys ≡ list_any (has_repeated one) keys
 key_known one key keys is = any_same key keys ∙ known one key keys is
 
--- the pattern rules of a book's slots
-pub patterns_kept : (slots : List (Option Rule)) (suffixes : List Text) (rules all : List Rule) → suffixes ≡ suffixes_of (rules_in slots) → rules_in slots ≡ rules
-    → all ≡ flat_map (patterns_in suffixes) (rules_in slots) → unrepeated all ≡ patterns_of rules
+-- the pattern rules of a book's rules
+pub patterns_kept : (held : List Rule) (suffixes : List Text) (rules all : List Rule) → suffixes ≡ suffixes_of held → held ≡ rules
+    → all ≡ flat_map (patterns_in suffixes) held → unrepeated all ≡ patterns_of rules
 unfolding patterns_of
-patterns_kept slots suffixes rules all told is are =
-    ap unrepeated (are ∙ ap (λ names. flat_map (patterns_in names) (rules_in slots)) told ∙ ap (λ others. flat_map (patterns_in (suffixes_of others)) others) is)
+patterns_kept held suffixes rules all told is are =
+    ap unrepeated (are ∙ ap (λ names. flat_map (patterns_in names) held) told ∙ ap (λ others. flat_map (patterns_in (suffixes_of others)) others) is)

@@ -1,13 +1,18 @@
 -- The names of rules are among those that are held.
-use Rattle.std.proofs.Common.{◌≡◌, ℕ, ◌<◌, List, [], ◌∷◌, length, map, take, drop, get_or, Option, Some, None, refl, ap, sym, subst}
-use Rattle.kt_rules.proofs.Common.{All, Contains, flat_map, All-append, All-drop, All-get_or, All-head, All-map, All-nil, All-tail, All-take, All-weaker, Contains-get_or, Text, HeldRule, Kinds, Needs, RecipeLine, shared_needs, target_of, rules_in, all_needs, names_at, IsKnown, needs_held, rule_held, rule_in, slots_held, AreBelow}
+use Rattle.std.proofs.Common.{◌≡◌, ℕ, ◌<◌, List, [], ◌∷◌, length, map, get_or, Option, Some, None, refl, ap, sym, subst}
+use Rattle.kt_rules.proofs.Common.{All, Contains, flat_map, All-append, All-head, All-map, All-nil, All-tail, All-weaker, Contains-get_or, Text, Kinds, Needs, RecipeLine, Rule, shared_needs, target_of, all_needs, AreNumbersOf, AreRuleNumbers, IsKnown, rule_held, rules_held}
+use Rattle.kt_rules.proofs.DictionaryLemmas.{numbers_below, numbers_named}
+use Rattle.kt_rules.proofs.HeldLemmas.{rule_named}
 use Rattle.kt_rules.specs.Known.{names_in}
+use Rattle.kt_rules.specs.declared.book.row.Row.{Row}
 
 -- names with numbers
-numbered_among : (names : List Text) (numbers : List ℕ) → AreBelow (length names) numbers → All (Contains names) (names_at names numbers)
-numbered_among names numbers below =
-    All-map (Contains names) (λ number. get_or names number []) numbers
-    (All-weaker (λ number. number < length names) (λ number. Contains names (get_or names number [])) (λ number within. Contains-get_or names number [] within) numbers below)
+numbered_among : (names : List Text) (numbers : List ℕ) (list : List Text) → AreNumbersOf names numbers list → All (Contains names) list
+numbered_among names numbers list are =
+    subst (All (Contains names)) (numbers_named names numbers list are)
+    (All-map (Contains names) (λ number. get_or names number []) numbers
+    (All-weaker (λ number. number < length names) (λ number. Contains names (get_or names number [])) (λ number within. Contains-get_or names number [] within)
+    numbers (numbers_below names numbers list are)))
 
 -- targets have the names of their line
 targets_named : (pattern : Option Text) (needs : Needs) (names : List Text) → map (λ target. target.name) (map (target_of pattern needs) names) ≡ names
@@ -21,28 +26,23 @@ shared_among names None needs first second = All-append (Contains names) needs.p
 shared_among names (Some pattern) needs first second = All-nil (Contains names)
 
 -- the names of a rule
-rule_among : (names : List Text) (targets needs : List ℕ) (lines : List RecipeLine) (held : HeldRule) → AreBelow (length names) targets → AreBelow (length names) needs
-    → All (Contains names) (names_in (rule_held names targets needs lines held))
-rule_among names targets needs lines held below needs_below =
-    let is_below = λ (number : ℕ). number < length names in
-    let all = needs_held names needs held.prerequisites in
-    All-append (Contains names) _ (all_needs (shared_needs held.pattern all))
-    (subst (All (Contains names)) (sym (targets_named held.pattern all (names_at names targets))) (numbered_among names targets below))
-    (shared_among names held.pattern all
-    (numbered_among names (take held.prerequisites needs) (All-take is_below held.prerequisites needs needs_below))
-    (numbered_among names (drop held.prerequisites needs) (All-drop is_below held.prerequisites needs needs_below)))
+rule_among : (d : List Text × List (List ℕ)) (lines : List RecipeLine) (row : Row) (targets : List Text) (pattern : Option Text) (needs : Needs)
+    → AreRuleNumbers d targets pattern needs row.numbers → All (Contains d.0) (names_in (rule_held d lines row))
+rule_among d lines row targets pattern needs are =
+    subst (λ (rule : Rule). All (Contains d.0) (names_in rule)) (sym (rule_named d lines row targets pattern needs are))
+    (All-append (Contains d.0) (map (λ target. target.name) (map (target_of pattern needs) targets)) (all_needs (shared_needs pattern needs))
+    (subst (All (Contains d.0)) (sym (targets_named pattern needs targets)) (numbered_among d.0 (get_or d.1 row.numbers.targets []) targets are.of_targets.numbers))
+    (shared_among d.0 pattern needs
+    (numbered_among d.0 (get_or d.1 row.numbers.needs.prerequisites []) needs.prerequisites are.of_needs.0.numbers)
+    (numbered_among d.0 (get_or d.1 row.numbers.needs.order_only []) needs.order_only are.of_needs.1.numbers)))
 
 -- those of all rules
-pub all_among : (names : List Text) (lists : List (List ℕ)) (recipes : List (List RecipeLine)) (slots : List (Option HeldRule)) (kinds : Kinds)
-    → All (AreBelow (length names)) lists → All (IsKnown kinds (length lists)) slots
-    → All (Contains names) (flat_map names_in (rules_in (slots_held names lists recipes slots)))
-all_among names lists [] slots kinds below known = All-nil (Contains names)
-all_among names lists (lines ∷ recipes) [] kinds below known = All-nil (Contains names)
-all_among names lists (lines ∷ recipes) (None ∷ slots) kinds below known =
-    all_among names lists recipes slots kinds below (All-tail (IsKnown kinds (length lists)) None slots known)
-all_among names lists (lines ∷ recipes) (Some held ∷ slots) kinds below known =
-    let rows = All-head (IsKnown kinds (length lists)) (Some held) slots known in
-    All-append (Contains names) (names_in (rule_in names lists lines held)) (flat_map names_in (rules_in (slots_held names lists recipes slots)))
-    (rule_among names (get_or lists held.rows.targets []) (get_or lists held.rows.needs []) lines held
-    (All-get_or (AreBelow (length names)) lists held.rows.targets [] rows.1 below) (All-get_or (AreBelow (length names)) lists held.rows.needs [] rows.2 below))
-    (all_among names lists recipes slots kinds below (All-tail (IsKnown kinds (length lists)) (Some held) slots known))
+pub all_among : (d : List Text × List (List ℕ)) (recipes : List (List RecipeLine)) (rows : List Row) (kinds : Kinds)
+    → All (IsKnown kinds d) rows → All (Contains d.0) (flat_map names_in (rules_held d recipes rows))
+all_among d [] rows kinds known = All-nil (Contains d.0)
+all_among d (lines ∷ recipes) [] kinds known = All-nil (Contains d.0)
+all_among d (lines ∷ recipes) (row ∷ rows) kinds known =
+    let first = All-head (IsKnown kinds d) row rows known in
+    All-append (Contains d.0) (names_in (rule_held d lines row)) (flat_map names_in (rules_held d recipes rows))
+    (rule_among d lines row first.targets first.pattern first.needs first.told)
+    (all_among d recipes rows kinds (All-tail (IsKnown kinds d) row rows known))

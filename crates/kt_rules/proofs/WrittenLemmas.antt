@@ -2,6 +2,7 @@
 use Rattle.std.proofs.Common.{◌≡◌, ℕ, zero, suc, ◌<◌, Bool, true, false, List, [], ◌∷◌, length, drop, take, filter, refl, sym, ◌∙◌, ap, arith, ⊎_elim, ◌==◌, if◌then◌else◌}
 use Rattle.kt_rules.proofs.Common.{onto_first, cases_Bool, false≢true, drop-prefix_len, Text, is_nonempty, is_separator, stripped_start, Separator, cuts, cut_place, pieces_of, written_words}
 use Rattle.kt_rules.specs.declared.cutting.Cut.{Cut}
+use Rattle.kt_text.proofs.WordLemmas.{filter_nonempty}
 
 -- the pieces after the first
 pieces_after : Cut → Bool → Text → List Text
@@ -54,11 +55,6 @@ begun_place [] some = some
 begun_place (byte ∷ text) some =
     ⊎_elim (λ h. let skip = drop-prefix_len is_separator byte text h in rw skip (begun_place text (rw skip at some))) (λ h. rw h (rw h (omega arith)))
     (cases_Bool (is_separator byte))
-
--- a word with a byte is kept
-filter_nonempty : (word : Text) (rest : List Text) → 0 < length word → filter is_nonempty (word ∷ rest) ≡ word ∷ filter is_nonempty rest
-filter_nonempty [] rest h = absurd (omega arith)
-filter_nonempty (byte ∷ word) rest h = refl
 
 -- a nonempty part at the start of a nonempty text isn't empty
 take_some : (n : ℕ) (text : Text) → 0 < n → 0 < length text → 0 < length (take n text)

@@ -44,27 +44,36 @@ pattern target prerequisite line = rule Pattern target (prerequisite ∷ []) [] 
 pub record RowsOfSuffixRules : Type 0 where
   pub two_suffixes : patterns_of (made (codes ".c.o") 1 ∷ []) ≡ pattern (codes "%.o") (codes "%.c") 1 ∷ []
   pub one_suffix : patterns_of (made (codes ".c") 1 ∷ []) ≡ pattern (codes "%") (codes "%.c") 1 ∷ []
-  pub later_suffix : patterns_of (made (codes ".x.o") 1 ∷ needing (codes ".SUFFIXES") (codes ".x") 2 ∷ []) ≡ pattern (codes "%.o") (codes "%.x") 1 ∷ []
+  pub later_suffix : patterns_of (made (codes ".x.o") 1 ∷ needing (codes ".SUFFIXES") (codes ".x") 2 ∷ [])
+      ≡ pattern (codes "%.o") (codes "%.x") 1 ∷ []
   pub cleared : patterns_of (made (codes ".c.o") 1 ∷ rule SingleColon (codes ".SUFFIXES") [] [] false 2 ∷ []) ≡ []
   pub not_explicit : explicit_rules (made (codes ".c.o") 1 ∷ []) (codes ".c.o") ≡ []
-  pub repeated : patterns_of (made (codes ".c.o") 1 ∷ rule Pattern (codes "%.o") (codes "%.c" ∷ []) [] false 2 ∷ []) ≡ []
+  pub repeated : patterns_of (made (codes ".c.o") 1 ∷ rule Pattern (codes "%.o") (codes "%.c" ∷ []) [] false 2 ∷ [])
+      ≡ []
 
 -- pattern rules
 pub record RowsOfPatternRules : Type 0 where
-  pub last_of_three : patterns_of (pattern (codes "%.o") (codes "%.c") 1 ∷ pattern (codes "%.o") (codes "%.c") 2 ∷ pattern (codes "%.o") (codes "%.c") 3 ∷ [])
+  pub last_of_three : patterns_of (pattern (codes "%.o") (codes "%.c") 1 ∷ pattern (codes "%.o") (codes "%.c") 2 ∷
+      pattern (codes "%.o") (codes "%.c") 3 ∷ [])
       ≡ pattern (codes "%.o") (codes "%.c") 3 ∷ []
-  pub in_both_lists : patterns_of (rule Pattern (codes "%") (codes "a" ∷ []) (codes "a" ∷ []) true 1 ∷ pattern (codes "%") (codes "a") 2 ∷ [])
+  pub in_both_lists : patterns_of (rule Pattern (codes "%") (codes "a" ∷ []) (codes "a" ∷ []) true 1 ∷ pattern (codes
+      "%") (codes "a") 2 ∷ [])
       ≡ rule Pattern (codes "%") (codes "a" ∷ []) (codes "a" ∷ []) true 1 ∷ pattern (codes "%") (codes "a") 2 ∷ []
 
 -- why a rule is refused after others, and its warnings
 pub record RowsOfAdding : Type 0 where
   pub no_recipe : refusal_of [] (rule Group (codes "a") [] [] false 1) ≡ Some bad_group
-  pub two_kinds : refusal_of (needing (codes "a") (codes "b") 1 ∷ []) (rule DoubleColon (codes "a") [] [] false 2) ≡ Some (both_colons (codes "a"))
-  pub beside_group : refusal_of (rule Group (codes "a") [] [] true 1 ∷ []) (made (codes "a") 2) ≡ Some (two_recipes (codes "a"))
-  pub second_recipe : override_messages (made (codes "a") 1 ∷ []) (made (codes "a") 2) ≡ (place_text (at_line 2) ++ codes ": warning: overriding recipe for target 'a'") ∷ []
+  pub two_kinds : refusal_of (needing (codes "a") (codes "b") 1 ∷ []) (rule DoubleColon (codes "a") [] [] false 2)
+      ≡ Some (both_colons (codes "a"))
+  pub beside_group : refusal_of (rule Group (codes "a") [] [] true 1 ∷ []) (made (codes "a") 2)
+      ≡ Some (two_recipes (codes "a"))
+  pub second_recipe : override_messages (made (codes "a") 1 ∷ []) (made (codes "a") 2)
+      ≡ (place_text (at_line 2) ++ codes ": warning: overriding recipe for target 'a'") ∷ []
 
 -- other lookups
 pub record RowsOfAnswers : Type 0 where
-  pub order_only_phony : is_phony (rule SingleColon (codes ".PHONY") [] (codes "b" ∷ []) false 1 ∷ []) (codes "b") ≡ true
+  pub order_only_phony : is_phony (rule SingleColon (codes ".PHONY") [] (codes "b" ∷ []) false 1 ∷ []) (codes "b")
+      ≡ true
   pub no_target : is_phony (needing (codes "a") (codes "b") 1 ∷ []) (codes "b") ≡ false
-  pub first_goal : first_goal_of (made (codes ".c.o") 1 ∷ pattern (codes "%") (codes "a") 2 ∷ needing (codes "b") (codes "c") 3 ∷ []) ≡ Some (codes "b")
+  pub first_goal : first_goal_of (made (codes ".c.o") 1 ∷ pattern (codes "%") (codes "a") 2 ∷ needing (codes "b")
+      (codes "c") 3 ∷ []) ≡ Some (codes "b")

@@ -1,10 +1,10 @@
--- The names that most definitions cite, of the crates below and of the code, passed on from one place. Declares nothing.
+-- The names that most definitions cite, of the crates below and of the code, passed on from one place. Declares
+-- nothing.
 pub use Rattle.kt_list.specs.Names.{AreBelow, is_among, place_of}
 pub use Rattle.kt_rules.specs.Entry.{Rule, empty_line, is_nil, needs_for, read_line, rule_by, stemmed_names, stemmed_of, target_of, tested_line}
 pub use Rattle.kt_rules.specs.Names.{after_dots, is_wildcard, name_of, wait_name, with_name, without_dots, without_repeats, written_words}
 pub use Rattle.kt_rules.specs.RuleLine.{Head, colon_cut, name_refusal, option_list}
 pub use Rattle.kt_rules.specs.declared.book.book_rule.BookRule.{BookRule}
-pub use Rattle.kt_rules.specs.inner.HeldRule.{HeldRule}
 pub use Rattle.kt_rules.specs.declared.book.spot.Spot.{Spot}
 pub use Rattle.kt_rules.specs.declared.entry.Kind.{Kind}
 pub use Rattle.kt_rules.specs.declared.entry.Kind.TheVariants.{DoubleColon, Group, Pattern, SingleColon, TerminalPattern}

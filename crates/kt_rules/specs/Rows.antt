@@ -16,10 +16,12 @@ line separator targets prerequisites order_only = record {
 
 -- lines that are accepted
 pub record RowsOfRuleLines : Type 0 where
-  pub order_only : read_line (codes "t: x | x y") ≡ Ok (line Single (codes "t" ∷ []) (codes "x" ∷ []) (codes "x" ∷ codes "y" ∷ []))
+  pub order_only : read_line (codes "t: x | x y")
+      ≡ Ok (line Single (codes "t" ∷ []) (codes "x" ∷ []) (codes "x" ∷ codes "y" ∷ []))
   pub double_colon : read_line (codes "a:: b") ≡ Ok (line Double (codes "a" ∷ []) (codes "b" ∷ []) [])
   pub group : read_line (codes "b.o a.o &: c") ≡ Ok (line Grouped (codes "b.o" ∷ codes "a.o" ∷ []) (codes "c" ∷ []) [])
-  pub quoted : read_line (codes "a" ++ (92 ∷ codes " b: c" ++ (92 ∷ codes ":d"))) ≡ Ok (line Single (codes "a b" ∷ []) (codes "c:d" ∷ []) [])
+  pub quoted : read_line (codes "a" ++ (92 ∷ codes " b: c" ++ (92 ∷ codes ":d")))
+      ≡ Ok (line Single (codes "a b" ∷ []) (codes "c:d" ∷ []) [])
   pub repeated : read_line (codes "%.o ./%.o: %.c") ≡ Ok (line Single (codes "%.o" ∷ []) (codes "%.c" ∷ []) [])
   pub no_target : read_line (codes ": *.c") ≡ Ok empty_line
 
@@ -38,5 +40,6 @@ pub record RowsOfRefusals : Type 0 where
 pub record RowsOfNames : Type 0 where
   pub dots : without_dots (codes ".//././/x") ≡ codes "x"
   pub only_dots : without_dots (codes ".//") ≡ codes "./"
-  pub stem : stemmed_of (Some (codes "%.o")) (record { prerequisites = codes "%.c" ∷ []; order_only = [] }) (codes "x.o")
+  pub stem : stemmed_of (Some (codes "%.o")) (record { prerequisites = codes "%.c" ∷ []; order_only = [] }) (codes
+      "x.o")
       ≡ Some (record { stem = codes "x"; needs = record { prerequisites = codes "x.c" ∷ []; order_only = [] } })

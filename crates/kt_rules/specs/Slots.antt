@@ -1,5 +1,5 @@
--- The rules of a book in their slots, some of which are empty, and the spots of their targets (kati's own).
-use Rattle.std.specs.Prelude.{◌≡◌, ℕ, ◌+◌, ◌<◌, Bool, false, ◌&&◌, List, [], ◌∷◌, ◌++◌, filter_map, bytes_eq, length}
+-- The rules of a book, and the spots of their targets (kati's own).
+use Rattle.std.specs.Prelude.{◌≡◌, ℕ, ◌+◌, ◌<◌, nat_lt, Bool, false, ◌&&◌, List, [], ◌∷◌, ◌++◌, filter, filter_map, bytes_eq, length}
 use Rattle.std.specs.Prelude.{Option, Some, None, option_map, option_and_then, slice_get, is_some, if◌then◌else◌}
 use Rattle.kt_rules.specs.Prelude.{list_any, place_of, Text, Target, Spot, Rule, is_among}
 use Rattle.kt_rules.specs.inner.Lists.{Notes, list_at}
@@ -9,10 +9,6 @@ use Rattle.kt_rules.specs.Book.{xor}
 use Rattle.kt_rules.specs.Targets.{entry_view, target_view}
 use Rattle.kt_rules.specs.Suffixes.{suffixes_of, is_bare}
 
--- the rules in the slots
-abbrev pub rules_in : List (Option Rule) → List Rule
-rules_in slots = filter_map (λ slot. slot) slots
-
 -- a rule of the code as one of the definitions
 abbrev pub rule_view : TargetRule → Rule × Target
 rule_view rule = (entry_view rule.entry, target_view rule.target)
@@ -21,37 +17,33 @@ rule_view rule = (entry_view rule.entry, target_view rule.target)
 abbrev pub target_rule : Rule → ℕ → Option (Rule × Target)
 target_rule rule number = option_map (λ target. (rule, target)) (slice_get rule.targets number)
 
--- what is in a slot
-abbrev pub slot_rule : List (Option Rule) → ℕ → Option Rule
-slot_rule slots place = option_and_then (λ slot. slot) (slice_get slots place)
-
 -- the rule at a spot
-abbrev pub spot_rule : List (Option Rule) → Spot → Option (Rule × Target)
-spot_rule slots spot = option_and_then (λ rule. target_rule rule spot.target) (slot_rule slots spot.entry)
+abbrev pub spot_rule : List Rule → Spot → Option (Rule × Target)
+spot_rule rules spot = option_and_then (λ rule. target_rule rule spot.target) (slice_get rules spot.entry)
 
 -- the rules at spots
-unfoldable pub found : List (Option Rule) → List Spot → List (Rule × Target)
-found slots spots = filter_map (spot_rule slots) spots
+unfoldable pub found : List Rule → List Spot → List (Rule × Target)
+found rules spots = filter_map (spot_rule rules) spots
 
 abbrev pub first_of : {A : Type 0} → List A → Option A
 first_of [] = None
 first_of (x ∷ xs) = Some x
 
 -- the first of them
-abbrev pub first_found : List (Option Rule) → List Spot → Option (Rule × Target)
-first_found slots spots = first_of (found slots spots)
+abbrev pub first_found : List Rule → List Spot → Option (Rule × Target)
+first_found rules spots = first_of (found rules spots)
 
 abbrev pub unless : {A : Type 0} → (A → Bool) → Option A → Option A
 unless test None = None
 unless test (Some x) = if test x then None else Some x
 
 -- the rule at a spot, unless it has the form of a suffix rule and `skips_bare` is true
-abbrev pub explicit_rule : Bool → List (Option Rule) → Spot → Option (Rule × Target)
-explicit_rule skips_bare slots spot = unless (λ made. is_bare made && skips_bare) (spot_rule slots spot)
+abbrev pub explicit_rule : Bool → List Rule → Spot → Option (Rule × Target)
+explicit_rule skips_bare rules spot = unless (λ made. is_bare made && skips_bare) (spot_rule rules spot)
 
 -- the explicit rules at spots
-unfoldable pub explicit_left : Bool → List (Option Rule) → List Spot → List (Rule × Target)
-explicit_left skips_bare slots spots = filter_map (explicit_rule skips_bare slots) spots
+unfoldable pub explicit_left : Bool → List Rule → List Spot → List (Rule × Target)
+explicit_left skips_bare rules spots = filter_map (explicit_rule skips_bare rules) spots
 
 -- the spots at a number, if there is one
 abbrev pub list_of : Option ℕ → List (List Spot) → List Spot
@@ -82,22 +74,30 @@ spots_from rule place number (target ∷ targets) name =
 abbrev pub spots_for : Rule → ℕ → Text → List Spot
 spots_for rule place name = spots_from rule place 0 rule.targets name
 
--- each spot is in a slot before the place
+-- the spots of the rules before a place
+abbrev pub spots_before : ℕ → List Spot → List Spot
+spots_before place spots = filter (λ spot. nat_lt spot.entry place) spots
+
+-- at each number, only the spots of the rules before a place stay
+abbrev pub ForgotFrom : ℕ → List (List Spot) → List (List Spot) → Type 0
+ForgotFrom place old new = (number : ℕ) → list_at new number ≡ spots_before place (list_at old number)
+
+-- each spot is of a rule before the place
 abbrev pub AreBefore : ℕ → List Spot → Type 0
 AreBefore place [] = Unit {0}
 AreBefore place (spot ∷ spots) = (spot.entry < place) × AreBefore place spots
 
--- each spot is in the slot of the place
+-- each spot is of the rule at the place
 abbrev pub AreIn : ℕ → List Spot → Type 0
 AreIn place [] = Unit {0}
 AreIn place (spot ∷ spots) = (spot.entry ≡ place) × AreIn place spots
 
--- each number may have got more spots, all in the slot of the place
+-- each number may have got more spots, all of the rule at the place
 abbrev pub GrewAt : ℕ → List (List Spot) → List (List Spot) → Type 0
 GrewAt place old new =
     (number : ℕ) → (more : List Spot) × (list_at new number ≡ list_at old number ++ more) × AreIn place more
 
--- each name may have got more spots, all in the slot of the place
+-- each name may have got more spots, all of the rule at the place
 abbrev pub GrewIn : ℕ → Notes → Notes → Type 0
 GrewIn place old new =
     (name : Text) → (more : List Spot) × (spots_at new name ≡ spots_at old name ++ more) × AreIn place more
@@ -117,19 +117,19 @@ abbrev pub AreAlike : {A : Type 0} → (A → Bool) → List A → Type 0
 AreAlike test xs = (b : Bool) × (list_any (λ x. xor (test x) b) xs ≡ false)
 
 -- an index has the rules of each name
-pub record IsIndexOf (slots : List (Option Rule)) (index : Notes) (rules : Text → List (Rule × Target)) : Type 0 where
-  pub all : (name : Text) → found slots (spots_at index name) ≡ rules name
-  pub before : (name : Text) → AreBefore (length slots) (spots_at index name)
+pub record IsIndexOf (rules : List Rule) (index : Notes) (own : Text → List (Rule × Target)) : Type 0 where
+  pub all : (name : Text) → found rules (spots_at index name) ≡ own name
+  pub before : (name : Text) → AreBefore (length rules) (spots_at index name)
 
 -- what a book keeps beside its rules follows from them
-pub record IsKept (slots : List (Option Rule)) (targets recipes : Notes) (phony suffixes : List Text)
+pub record IsKept (rules : List Rule) (targets recipes : Notes) (phony suffixes : List Text)
     : Type 0 where
-  pub targets_view : IsIndexOf slots targets (rules_of (rules_in slots))
-  pub recipes_told : IsIndexOf slots recipes (recipes_of (rules_in slots))
-  pub phony_told : (name : Text) → is_among phony name ≡ is_phony (rules_in slots) name
-  pub suffixes_told : suffixes ≡ suffixes_of (rules_in slots)
+  pub targets_view : IsIndexOf rules targets (rules_of rules)
+  pub recipes_told : IsIndexOf rules recipes (recipes_of rules)
+  pub phony_told : (name : Text) → is_among phony name ≡ is_phony rules name
+  pub suffixes_told : suffixes ≡ suffixes_of rules
   -- no target has rules with one colon and with two
-  pub colons : (name : Text) → AreAlike (λ made. is_double made.0.kind) (rules_of (rules_in slots) name)
+  pub colons : (name : Text) → AreAlike (λ made. is_double made.0.kind) (rules_of rules name)
   -- all rules of a target that have a recipe are groups, or none is
-  pub groups : (name : Text) → AreAlike (λ made. is_group made.0.kind) (recipes_of (rules_in slots) name)
-  pub apart : GroupsStandAlone (rules_in slots)
+  pub groups : (name : Text) → AreAlike (λ made. is_group made.0.kind) (recipes_of rules name)
+  pub apart : GroupsStandAlone rules

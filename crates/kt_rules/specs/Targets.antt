@@ -36,7 +36,8 @@ target_view target = target_of (text_in target.pattern) (listed_needs target.nee
 
 -- the targets that remain
 abbrev pub targets_view : Targets → List Target
-targets_view targets = map (target_of (text_in targets.pattern) (listed_needs targets.needs)) (listed_view targets.names)
+targets_view targets = map (target_of (text_in targets.pattern) (listed_needs targets.needs)) (listed_view
+    targets.names)
 
 -- a name with the stem in place of its first percent sign, and then without leading `./`
 abbrev pub stemmed_name : Text → Text → Text
@@ -76,5 +77,5 @@ line_needs rule = record {
 -- a rule of a book
 abbrev pub entry_view : BookRule → Rule
 entry_view rule =
-    rule_by rule.held.line.now.kind (names_at rule.names.now rule.targets.now) (text_in rule.held.pattern) (line_needs rule)
-    (option_map (λ lines. lines.now) rule.recipe) rule.held.line.now.place
+    rule_by rule.kind (names_at rule.names.now rule.targets.now) (text_in rule.pattern) (line_needs rule)
+    (option_map (λ lines. lines.now) rule.recipe) rule.place.now

@@ -1,8 +1,7 @@
 -- What only contracts of private functions and proofs cite: none of this is needed to read the public contracts.
 pub mod Alike
+pub mod Dictionary
 pub mod Held
-pub mod HeldForm
-pub mod HeldRule
 pub mod Holding
 pub mod Lists
 pub mod Marks

@@ -25,8 +25,8 @@ mod overriding;
 mod pattern;
 mod pattern_set;
 mod refusing;
+mod row;
 mod rules;
-mod slot;
 mod special;
 mod spot;
 mod spots;
@@ -65,7 +65,6 @@ pub type Warnings = Sequence<Sequence<u8>>;
 #[derive(Drop)]
 pub struct Book {
     alloc: Global,
-    // A slot is empty if memory ran out while its entry was being added.
     rules: Rules,
     // For each target, by the number of its name, the rules that make it.
     spots: Spots,
@@ -79,10 +78,9 @@ impl Model for Book {
 
     ghost Value = { List Rule };
 
-    ghost use Rattle.kt_rules.specs.Slots.{rules_in};
     ghost use Rattle.kt_rules.specs.inner.Held.{HoldsAll};
 
-    ghost view = { λ book. rules_in book.rules.1 };
+    ghost view = { λ book. book.rules.1 };
 
     ghost invariant = { λ book. HoldsAll book.rules book.spots.targets book.spots.recipes book.phony book.suffixes };
 }
@@ -108,7 +106,8 @@ impl Book {
     /// Adds the rules of an entry, and returns the warnings on targets that get a second recipe.
     ///
     /// Refuses, in this order: a group without a recipe; a target that has rules with one colon and with two; a target
-    /// with two recipes, one of them a group's. So a group shares no target with another entry that has a recipe.
+    /// with two recipes, one of them a group's. So a group shares no target with another entry that has a recipe. More
+    /// than 4,294,967,295 entries, targets or prerequisites are refused as if memory were.
     #[tactic(auto, using(crate::proofs::AddLemmas::answers_refused))]
     pub fn add(&mut self, entry: Entry) -> Result<Warnings, RuleFault>
         ensures answers { GivesExpected result (added self.old entry (refusal_of self.old entry)) }
@@ -286,7 +285,8 @@ impl Book {
         match learned {
             Ok(()) => Ok(()),
             Err(refused) => {
-                self.rules.empty(place);
+                self.spots.forget(place);
+                self.rules.truncate(place);
                 Err(refused)
             }
         }

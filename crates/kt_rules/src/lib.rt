@@ -5,6 +5,7 @@ mod book;
 mod checking;
 mod copying;
 mod cutting;
+mod dictionary;
 mod entry;
 mod fault;
 mod fault_kind;

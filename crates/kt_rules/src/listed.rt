@@ -1,9 +1,10 @@
 //! Names held either directly or by number.
-ghost use Rattle.std.specs.Prelude.{◌≡◌, ◌∷◌, [], MatchOption, get_or, length, option_map, slice_get};
+ghost use Rattle.std.specs.Prelude.{◌≡◌, ◌∷◌, [], MatchOption, length, option_map, slice_get};
 ghost use Rattle.kt_rules.specs.Entry.{no_needs};
 ghost use Rattle.kt_rules.specs.Suffixes.{is_empty};
 ghost use Rattle.kt_rules.specs.Targets.{listed_needs, listed_view, names_at};
 
+use crate::dictionary::name_at;
 use crate::entry::{Name, Needs};
 use kt_list::Names;
 
@@ -112,16 +113,6 @@ impl<'a> Numbered<'a> {
     {
         let number = self.numbers.get(place)?;
         Some(name_at(self.names, *number as usize))
-    }
-}
-
-/// The name with the given number.
-pub(crate) fn name_at(names: &Names, number: usize) -> &[u8]
-    ensures { result.now ≡ get_or names.now number [] }
-{
-    match names.get(number) {
-        Some(name) => name,
-        None => b"",
     }
 }
 

@@ -1,4 +1,6 @@
 //! Reads rule lines one after another.
+//! Fast: a long text of prerequisites that stands in line after line is read once. Spares its reading, and a copy of
+//! each name.
 ghost use Rattle.std.specs.Prelude.{◌≡◌, IfOk, IfSome, IsTrue, None, Some, false, map};
 ghost use Rattle.std.specs.List.{list_any};
 ghost use Rattle.kt_text.specs.Match.{has_percent};

@@ -1,4 +1,5 @@
 //! Names that are refused or special.
+//! Fast: special names are looked for behind a dot alone. Spares a comparison with each of them, for most names.
 ghost use Rattle.std.specs.Prelude.{◌≡◌, ◌==◌, nat_eq};
 ghost use Rattle.std.specs.List.{list_any};
 ghost use Rattle.std.specs.Cmp.Lexicographic.{pointwise};

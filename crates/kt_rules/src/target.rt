@@ -1,4 +1,6 @@
 //! Targets, borrowed from their entry.
+//! Fast: an entry holds the names of its line once, and a target of it is a view. Spares the product: a static pattern
+//! of T targets and P prerequisites takes T + P.
 ghost use Rattle.std.specs.Prelude.{◌≡◌, option_map, length, Some, slice_get};
 ghost use Rattle.std.specs.Iterator.{YieldsFirstBy, item_count};
 ghost use Rattle.kt_rules.specs.Entry.{stemmed, stemmed_of, target_of};

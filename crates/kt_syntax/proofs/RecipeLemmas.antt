@@ -2,6 +2,7 @@
 use Rattle.std.proofs.Common.{◌≡◌, ◌<◌, ◌-◌, ◌+◌, ◌==◌, ℕ, suc, true, false, Some, None, List, [], ◌∷◌, ◌++◌, length, take, drop, length-take-le, append_assoc, refl, sym, ap, ◌∙◌, arith, ⊎_elim, slice_index}
 use Rattle.kt_syntax.proofs.Common.{cases_Bool, append-nil, onto_first, position_or_len, IsFirstByte, is_byte, Text, pieces_of, Joint, Edge, mask_of, first_byte_place}
 use Rattle.kt_syntax.specs.Recipes.{joint_of, recipe_line, recipe_lines, recipe_of}
+use Rattle.kt_text.proofs.CondensedLemmas.{HasPiece, onto_piece, pieces-some}
 
 -- how many bytes stand before the first newline
 abbrev run : Text → ℕ
@@ -40,21 +41,6 @@ uncut (byte ∷ text) whole =
     ⊎_elim (λ h. let e = run-yes byte text h in absurd (omega arith))
     (λ h. let e = run-no byte text h in pieces-no byte text h ∙ ap (onto_first byte) (uncut text (omega arith)))
     (cases_Bool (byte == 10))
-
-pub record HasPiece (found : List Text) : Type 0 where
-  pub piece : Text
-  pub pieces : List Text
-  pub are : found ≡ piece ∷ pieces
-
-onto_piece : (byte : ℕ) (found : List Text) → HasPiece (onto_first byte found)
-onto_piece byte [] = record { piece = _; pieces = _; are = refl }
-onto_piece byte (piece ∷ pieces) = record { piece = _; pieces = _; are = refl }
-
-pub pieces-some : (text : Text) → HasPiece (pieces_of text)
-unfolding pieces_of
-pieces-some [] = record { piece = _; pieces = _; are = refl }
-pieces-some (byte ∷ text) =
-    ⊎_elim (λ h. rw h (record { piece = _; pieces = _; are = refl })) (λ h. rw h (onto_piece byte (pieces_of text))) (cases_Bool (byte == 10))
 
 -- a line before others
 pub followed : (before : Joint) (mask : List ℕ) (line : Text) (found : List Text) → HasPiece found

@@ -3,6 +3,8 @@ use Rattle.std.proofs.Common.{◌≡◌, ◌<◌, ◌-◌, ◌+◌, ◌==◌, �
 use Rattle.kt_syntax.proofs.Common.{and_parts, cases_Bool, eqb-true, false≢true, reverse-append, take-append-le, filter-append, sum_by-append, sum_by-cons, take-append_seam, take-length, concat, onto_first, prefix_len, suffix_len, no_cr, without_terminator, Text, is_blank, trimmed_end, trimmed_start, before_backslash, is_continued, is_continued_text, pieces_of, IsFree, free_nil, free_space, one_piece, ArePieces, are_pieces, free_backslash, free_end, free_start, front_content, HasLast, last_at, last_of, content_ended, Joint, Edge, Newline, Outside, Inside, inside, mask_of}
 use Rattle.kt_syntax.specs.Recipes.{begun, content, ended, joint_of, newline_after, recipe_line, recipe_lines, recipe_of, space_before, without_tab}
 use Rattle.kt_syntax.specs.RecipeTexts.{RecipeLaw, is_shown}
+use Rattle.kt_text.proofs.TrimLemmas.{suffix-none}
+use Rattle.kt_text.proofs.CuttingLemmas.{front_at}
 
 -- how many newlines a text has
 abbrev count : Text → ℕ
@@ -35,9 +37,6 @@ shown_before front byte h = shown-append front (byte ∷ []) ∙ ap (λ l. shown
 suffix-yes : (p : ℕ → Bool) (front : Text) (byte : ℕ) → p byte ≡ true → suffix_len p (front ++ byte ∷ []) ≡ 1 + suffix_len p front
 suffix-yes p front byte h = ap (prefix_len p) (reverse-append front (byte ∷ [])) ∙ rw h refl
 
-suffix-no : (p : ℕ → Bool) (front : Text) (byte : ℕ) → p byte ≡ false → suffix_len p (front ++ byte ∷ []) ≡ 0
-suffix-no p front byte h = ap (prefix_len p) (reverse-append front (byte ∷ [])) ∙ rw h refl
-
 long : (front : Text) (byte : ℕ) → length (front ++ byte ∷ []) ≡ length front + 1
 long front byte = length-append front (byte ∷ [])
 
@@ -55,7 +54,7 @@ shown_end (suc n) (byte ∷ text) low =
     ap (λ k. take k (byte ∷ text)) kept ∙ ap (take (length view.front - suffix_len is_blank view.front)) view.whole
     ∙ take-append-le (length view.front - suffix_len is_blank view.front) view.front (view.last ∷ []) (omega arith) in
     ap shown same ∙ shown_end n view.front (omega (arith, low, size)) ∙ sym (shown_before view.front view.last (blank_hidden view.last h)) ∙ ap shown (sym view.whole))
-    (λ h. let suffix : suffix_len is_blank (byte ∷ text) ≡ 0 = ap (suffix_len is_blank) view.whole ∙ suffix-no is_blank view.front view.last h in
+    (λ h. let suffix : suffix_len is_blank (byte ∷ text) ≡ 0 = ap (suffix_len is_blank) view.whole ∙ suffix-none is_blank view.front view.last h in
     let kept : length (byte ∷ text) - suffix_len is_blank (byte ∷ text) ≡ length (byte ∷ text) = omega (arith, suffix) in
     ap (λ k. shown (take k (byte ∷ text))) kept ∙ ap shown (take-length (byte ∷ text)))
     (cases_Bool (is_blank view.last))
@@ -81,12 +80,6 @@ shown_tab (byte ∷ text) =
     (λ h. let same : without_tab (byte ∷ text) ≡ byte ∷ text = rw h refl in ap shown same)
     (cases_Bool (byte == 9))
 
--- a physical line without what joins it to the next
-front_is : (front : Text) (last : ℕ) → take (length (front ++ last ∷ []) - 1) (front ++ last ∷ []) ≡ front
-front_is front last =
-    let n : length (front ++ last ∷ []) - 1 ≡ length front = omega (arith, long front last) in
-    ap (λ k. take k (front ++ last ∷ [])) n ∙ take-append_seam front (last ∷ [])
-
 cr_hidden : (byte : ℕ) → byte ≡ 13 → is_shown byte ≡ false
 unfolding is_blank
 cr_hidden byte h = rw h refl
@@ -102,7 +95,7 @@ newline_hidden = refl
 -- without a last byte that isn't shown
 shown_front : (byte : ℕ) (text : Text) (view : HasLast (byte ∷ text)) → is_shown view.last ≡ false → shown (take (length (byte ∷ text) - 1) (byte ∷ text)) ≡ shown (byte ∷ text)
 shown_front byte text view h =
-    ap (λ l. shown (take (length l - 1) l)) view.whole ∙ ap shown (front_is view.front view.last) ∙ sym (shown_before view.front view.last h) ∙ ap shown (sym view.whole)
+    ap (λ l. shown (take (length l - 1) l)) view.whole ∙ ap shown (front_at view.front view.last) ∙ sym (shown_before view.front view.last h) ∙ ap shown (sym view.whole)
 
 shown_cr : (front : Text) → shown (no_cr front) ≡ shown front
 shown_cr [] = refl
@@ -121,7 +114,7 @@ ends_odd (byte ∷ text) odd =
     let view = last_of byte text in
     ⊎_elim
     (λ h. shown_front byte text view (backslash_hidden view.last (eqb-true _ _ h)))
-    (λ h. absurd (let none : suffix_len (λ b. b == 92) (byte ∷ text) ≡ 0 = ap (suffix_len (λ b. b == 92)) view.whole ∙ suffix-no (λ b. b == 92) view.front view.last h in
+    (λ h. absurd (let none : suffix_len (λ b. b == 92) (byte ∷ text) ≡ 0 = ap (suffix_len (λ b. b == 92)) view.whole ∙ suffix-none (λ b. b == 92) view.front view.last h in
     let even : is_continued_text (byte ∷ text) ≡ false = ap (λ n. n % 2 == 1) none in false≢true (sym even ∙ odd)))
     (cases_Bool (view.last == 92))
 

@@ -3,7 +3,8 @@ use Rattle.std.proofs.Common.{◌≡◌, ◌≢◌, ◌-◌, ◌+◌, ◌==◌, 
 use Rattle.kt_syntax.proofs.Common.{cases_Bool, eq-eqb, eqb-true, false≢true, ne_eqb, drop-drop, get_or-drop, take_at, list_any, without_terminator, Text, is_blank, trimmed_end, trimmed_start, before_backslash, is_continued, is_continued_text, pieces_of, FirstStands, IsNewline, Spacing, is_continuation, spelled, space, tab, continuation, returned, one_piece, Ending, FirstNewline, ending_continued, ending_newline, first_newline, odd_more, spelled_long, no_newline, first_continued, first_ended, blank_free, newline_blank, not_either, spelling, content_ended, pieces_after, IsFree, free_append, free_at, AllBlank, EndsPlain, end_blanks, end_first, even_blank, even_past, free_blanks, start_blank, start_plain, Joint, Edge, Newline, Outside, Inside, inside}
 use Rattle.kt_syntax.specs.Recipes.{begun, content, ended, joint_of, newline_after, recipe_line, recipe_lines, space_before, without_tab}
 use Rattle.kt_syntax.specs.RecipeCuts.{AreInside, IsInside, IsOneTab}
-use Rattle.kt_syntax.proofs.RecipeLemmas.{followed, pieces-some}
+use Rattle.kt_syntax.proofs.RecipeLemmas.{followed}
+use Rattle.kt_text.proofs.CondensedLemmas.{pieces-some}
 
 -- ---- one line
 

@@ -29,10 +29,13 @@ pub record RowsOfBlocks : Type 0 where
       ≡ step.Conditional 2 5 ∷ step.Line ∷ step.Branch true 3 5 ∷ step.Branch false 5 5 ∷ step.Line ∷ step.Endif ∷ []
   pub late_else : tree (Conditional ∷ Else false ∷ Else true ∷ Ordinary ∷ Endif ∷ [])
       ≡ conditional 0 none (branch 1 false none (late 2 (line 3 none) no_branch)) none
-  pub stray_lines : tree (Else true ∷ Endif ∷ Endef ∷ []) ≡ fault stray.Else 0 (fault stray.Endif 1 (fault stray.Endef 2 none))
+  pub stray_lines : tree (Else true ∷ Endif ∷ Endef ∷ [])
+      ≡ fault stray.Else 0 (fault stray.Endif 1 (fault stray.Endef 2 none))
   pub nested_defines : tree (Define ∷ Define ∷ Endef ∷ Endif ∷ Endef ∷ Ordinary ∷ []) ≡ definition 0 4 (line 5 none)
-  pub not_ended : tree (Conditional ∷ Conditional ∷ Define ∷ Ordinary ∷ []) ≡ conditional 0 (conditional 1 (definition 2 4 none) no_branch none) no_branch none
-  pub innermost_missing : missing_end (numbered 1 (Conditional ∷ Conditional ∷ Conditional ∷ Endif ∷ Ordinary ∷ [])) ≡ Some (missing.Endif 2)
+  pub not_ended : tree (Conditional ∷ Conditional ∷ Define ∷ Ordinary ∷ [])
+      ≡ conditional 0 (conditional 1 (definition 2 4 none) no_branch none) no_branch none
+  pub innermost_missing : missing_end (numbered 1 (Conditional ∷ Conditional ∷ Conditional ∷ Endif ∷ Ordinary ∷ []))
+      ≡ Some (missing.Endif 2)
   pub define_missing : missing_end (numbered 1 (Conditional ∷ Define ∷ Define ∷ Endef ∷ [])) ≡ Some (missing.Endef 2)
   pub nothing_missing : missing_end (numbered 1 (Conditional ∷ Define ∷ Endef ∷ Endif ∷ [])) ≡ None
   pub assignment : role_of (kind_of (codes "endef = x") false) ≡ Ordinary

@@ -59,7 +59,8 @@ unfoldable mutual
   TakesItems inside (fault kind at next) found place heads Rest =
       (at ≡ place) × TakesStray inside kind heads (λ number more. TakesItems inside next found (place + 1) more Rest)
   TakesItems inside (definition at end next) found place heads Rest =
-      (at ≡ place) × TakesLine Define heads (λ number body. TakesBody number 0 end found (place + 1) body (λ all after more.
+      (at ≡ place) × TakesLine Define heads (λ number body. TakesBody number 0 end found (place + 1) body (λ all after
+      more.
       TakesItems inside next all after more Rest))
   TakesItems inside (conditional at first others next) found place heads Rest =
       (at ≡ place) × TakesLine Conditional heads (λ number branches. TakesItems true first found (place + 1) branches

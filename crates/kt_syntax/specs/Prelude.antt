@@ -1,4 +1,5 @@
--- The names that most definitions cite, of the crates below and of the code, passed on from one place. Declares nothing.
+-- The names that most definitions cite, of the crates below and of the code, passed on from one place. Declares
+-- nothing.
 pub use Rattle.kt_syntax.specs.Kinds.{assignment_parts, before_comment, block_word, comment_place, kind_of, line_kind, past_word}
 pub use Rattle.kt_syntax.specs.Mask.{inside, mask_of}
 pub use Rattle.kt_syntax.specs.Terms.{IsTerm, Token, dollar, kept, literal, reference, terms_of, unclosed, unit_length}

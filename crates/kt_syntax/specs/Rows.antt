@@ -28,13 +28,16 @@ both head recipe = Some (record { head = head; recipe = Some recipe })
 pub record RowsOfTerms : Type 0 where
   pub each :
       terms_of (codes "a$(b$$)c$$$d$")
-      ≡ literal (codes "a") ∷ reference Parentheses (codes "b$$") ∷ literal (codes "c") ∷ dollar ∷ reference Byte (codes "d") ∷ literal [] ∷ []
+      ≡ literal (codes "a") ∷ reference Parentheses (codes "b$$") ∷ literal (codes "c") ∷ dollar ∷ reference Byte
+      (codes "d") ∷ literal [] ∷ []
   pub unterminated : terms_of (codes "x$(a") ≡ literal (codes "x") ∷ unclosed ∷ []
   pub own_marks : terms_of (codes "${a)}") ≡ reference Braces (codes "a)") ∷ []
   pub nested : terms_of (codes "$(a(b)c)d") ≡ reference Parentheses (codes "a(b)c") ∷ literal (codes "d") ∷ []
-  pub no_continuation : terms_of (codes "a$" ++ continued (codes "b")) ≡ literal (codes "a") ∷ reference Byte (quoted []) ∷ literal (10 ∷ codes "b") ∷ []
+  pub no_continuation : terms_of (codes "a$" ++ continued (codes "b"))
+      ≡ literal (codes "a") ∷ reference Byte (quoted []) ∷ literal (10 ∷ codes "b") ∷ []
   pub carriage_return :
-      terms_of (codes "a$" ++ quoted (13 ∷ 10 ∷ codes "b")) ≡ literal (codes "a") ∷ reference Byte (quoted []) ∷ literal (13 ∷ 10 ∷ codes "b") ∷ []
+      terms_of (codes "a$" ++ quoted (13 ∷ 10 ∷ codes "b"))
+      ≡ literal (codes "a") ∷ reference Byte (quoted []) ∷ literal (13 ∷ 10 ∷ codes "b") ∷ []
 
 -- kinds of lines
 pub record RowsOfKinds : Type 0 where
@@ -44,7 +47,8 @@ pub record RowsOfKinds : Type 0 where
   pub longest : kind_of (codes "a:::=b") false ≡ assignment (codes "a") Escaped (codes "b")
   pub comment : kind_of (codes "endef#c") false ≡ directive Endef (codes "#c")
   pub tab : kind_of (9 ∷ codes "endif") true ≡ rule
-  pub continued_name : line_kind (codes "A$ " ++ continued (continued (codes " B = 1"))) false ≡ assignment (codes "A$ B") Deferred (codes "1")
+  pub continued_name : line_kind (codes "A$ " ++ continued (continued (codes " B = 1"))) false
+      ≡ assignment (codes "A$ B") Deferred (codes "1")
 
 -- parts of rule lines
 pub record RowsOfRules : Type 0 where
@@ -53,7 +57,8 @@ pub record RowsOfRules : Type 0 where
   pub in_comment : line_parts (codes "a: c # ; no") ≡ only (codes "a: c # ; no")
   pub specific : line_parts (codes "t: export override A = b") ≡ None
   pub continued_specific : line_parts (codes "a: x$" ++ continued (codes " y = z")) ≡ None
-  pub continued_head : line_parts (codes "a$" ++ continued (codes " b: ; c " ++ continued (codes "d"))) ≡ both (codes "a$ b: ") (codes "c " ++ continued (codes "d"))
+  pub continued_head : line_parts (codes "a$" ++ continued (codes " b: ; c " ++ continued (codes "d")))
+      ≡ both (codes "a$ b: ") (codes "c " ++ continued (codes "d"))
 
 -- plain texts and recipe lines
 pub record RowsOfTexts : Type 0 where

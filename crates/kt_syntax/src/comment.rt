@@ -1,4 +1,5 @@
 //! Texts without their comments.
+//! Fast: a part of a line without a comment or a continuation is borrowed. Spares an allocation a part.
 ghost use Rattle.std.specs.Prelude.{◌≡◌, ◌++◌, IfOk, replicate};
 ghost use Rattle.std.specs.Cow.{cow_slice_items};
 ghost use Rattle.kt_syntax.specs.Comments.{backslashes, plain_of, uncommented_of};

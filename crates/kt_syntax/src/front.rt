@@ -1,5 +1,7 @@
 //! Lines recognised by a first word of bytes that are their own symbols, and by what comes after
 //! it: most of them are.
+//! Fast: an assignment, a rule or an include is told by its first word and what comes after it. Spares a walk over the
+//! line.
 ghost use Rattle.std.specs.Prelude.{◌≡◌, ◌≤◌, ◌<◌, ◌++◌, None, length, not, true, IfSome};
 ghost use Rattle.std.specs.List.{list_all, position_or_len};
 ghost use Rattle.kt_text.specs.Words.{trimmed_start};

@@ -1,4 +1,6 @@
 //! Lines told apart.
+//! Fast: a line that begins with its comment is told by that byte. Spares a walk over the line.
+//! Fast: a line without an equals sign isn't looked through for an assignment. Spares a look at each of its symbols.
 ghost use Rattle.std.specs.Prelude.{◌≡◌, ◌≤◌, ◌+◌, drop, false, length, take, true, is_some, IfSome, option_map};
 ghost use Rattle.std.specs.Prelude.{MatchOption};
 ghost use Rattle.std.specs.Str.{bytes_eq};

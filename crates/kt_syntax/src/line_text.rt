@@ -1,4 +1,5 @@
 //! Lines as they stand in their file, with their continuations condensed.
+//! Fast: a line without a continuation is its own text. Spares an allocation a line.
 ghost use Rattle.std.specs.Prelude.{◌≡◌, IfOk, IfSome};
 ghost use Rattle.kt_text.specs.Lines.{condensed_of};
 

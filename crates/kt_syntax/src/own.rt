@@ -1,4 +1,5 @@
 //! Bytes that are their own symbols, as nearly all bytes are where a walk over a line begins: they are taken in runs.
+//! Fast: runs of bytes that are their own symbols are passed without a mask. Spares a symbol for each byte.
 ghost use Rattle.std.specs.Prelude.{◌≡◌, ◌≤◌, ◌==◌, drop, false, length, slice_index, take, IfSome};
 ghost use Rattle.std.specs.List.{position_or_len, prefix_len};
 ghost use Rattle.kt_text.specs.Words.{is_blank};

@@ -1,6 +1,6 @@
 //! Steps as blocks hold them: in half the room of a `Step`.
-ghost use Rattle.std.specs.Prelude.{◌≡◌, IfOk};
-ghost use Rattle.kt_syntax.specs.inner.ShortSteps.{step_with};
+ghost use Rattle.std.specs.Prelude.{◌≡◌, ◌<◌, ◌⊎◌, IfOk, OnErr};
+ghost use Rattle.kt_syntax.specs.inner.ShortSteps.{places_of_step, step_with};
 
 use crate::part::BlockPart;
 use crate::step::Step;
@@ -28,7 +28,8 @@ impl Model for ShortStep {
 impl ShortStep {
     // The same step. One with a place beyond 4,294,967,295 has none, as if memory were refused for it.
     pub(crate) fn of(step: Step) -> Result<ShortStep, AllocError>
-        ensures { IfOk result (λ short. short ≡ step) }
+        ensures same { IfOk result (λ short. short ≡ step) }
+        ensures large { OnErr result ((4294967295 < (places_of_step step).0) ⊎ (4294967295 < (places_of_step step).1)) }
     {
         match step {
             Step::Line => ShortStep::with(BlockPart::Line, 0, 0),
@@ -51,7 +52,8 @@ impl ShortStep {
     }
 
     fn with(part: BlockPart, next: usize, after: usize) -> Result<ShortStep, AllocError>
-        ensures { IfOk result (λ short. short ≡ step_with part next after) }
+        ensures same { IfOk result (λ short. short ≡ step_with part next after) }
+        ensures large { OnErr result ((4294967295 < next) ⊎ (4294967295 < after)) }
     {
         Ok(ShortStep {
             part,

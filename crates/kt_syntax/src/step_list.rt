@@ -42,7 +42,8 @@ impl StepList {
         })
     }
 
-    // Puts a step in the place of an ordinary line's.
+    // Puts a step in the place of an ordinary line's. Places beyond 4,294,967,295, or more such steps, are refused as
+    // if memory were.
     #[tactic(auto, using(crate::proofs::StepListLemmas::stays_ordinary))]
     pub(crate) fn put(&mut self, place: usize, found: Step) -> Result<(), AllocError>
         requires within { place < length self.old }

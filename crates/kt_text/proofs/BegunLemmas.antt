@@ -1,12 +1,7 @@
 -- What a text holds where the appending of more was cut off.
-use Rattle.std.proofs.Common.{◌≡◌, [], ◌++◌, Result, Ok, Err, OnErr, refl, sym, ap, ◌∙◌, append_assoc, append-nil}
+use Rattle.std.proofs.Common.{◌≡◌, [], ◌++◌, refl, sym, ap, ◌∙◌, append_assoc, append-nil}
 use Rattle.kt_text.specs.Begun.{HasBegun}
 use Rattle.kt_text.specs.Words.{Text}
-
--- where a call failed, what holds anyway
-pub on_err : {T E P : Type 0} (r : Result T E) → P → OnErr r P
-on_err (Ok x) p = tt
-on_err (Err e) p = p
 
 -- nothing more
 pub begun : (whole old new : Text) → new ≡ old → HasBegun whole old new

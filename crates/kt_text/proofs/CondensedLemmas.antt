@@ -55,12 +55,12 @@ pub record HasPiece (found : List Text) : Type 0 where
   pub are : found ≡ piece ∷ pieces
 
 -- a byte put before pieces makes a first one
-onto_piece : (byte : ℕ) (found : List Text) → HasPiece (onto_first byte found)
+pub onto_piece : (byte : ℕ) (found : List Text) → HasPiece (onto_first byte found)
 onto_piece byte [] = record { piece = _; pieces = _; are = refl }
 onto_piece byte (piece ∷ pieces) = record { piece = _; pieces = _; are = refl }
 
 -- a text has a piece
-pieces-some : (text : Text) → HasPiece (pieces_of text)
+pub pieces-some : (text : Text) → HasPiece (pieces_of text)
 unfolding pieces_of
 pieces-some [] = record { piece = _; pieces = _; are = refl }
 pieces-some (byte ∷ text) =

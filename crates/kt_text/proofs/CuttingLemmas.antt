@@ -6,6 +6,7 @@ use Rattle.kt_text.proofs.CondensedLemmas.{condensed_of-start, left_text, left_t
 use Rattle.kt_text.proofs.CondensingLemmas.{no_end}
 use Rattle.kt_text.proofs.LineTextLemmas.{content_ended, pieces_after}
 use Rattle.kt_text.proofs.NewlineLemmas.{IsFree, free_append, free_at, free_front}
+use Rattle.kt_list.proofs.general.Numbers.{one_more_odd}
 
 -- ---- the first newline of a text
 
@@ -32,12 +33,6 @@ last_at front byte =
     let n : length (front ++ byte ∷ []) - 1 ≡ length front = omega (arith, size) in
     ap (slice_index (front ++ byte ∷ [])) n ∙ get_or-append_seam front byte [] 0
 
-one_more_odd : (n : ℕ) → ((1 + n) % 2 == 1) ≡ not (n % 2 == 1)
-one_more_odd n =
-    ⊎_elim (λ h. let e = eqb-true (n % 2) 1 h in rw h (false_from_ne_true ((1 + n) % 2 == 1) (λ k. let o = eqb-true ((1 + n) % 2) 1 k in omega arith)))
-    (λ h. rw h (eq-eqb ((1 + n) % 2) 1 (let z : (n % 2 ≡ 1 → ⊥) = (λ e. false≢true (sym h ∙ eq-eqb (n % 2) 1 e)) in omega arith)))
-    (cases_Bool (n % 2 == 1))
-
 -- one backslash more
 pub odd_more : (front : Text) → is_continued_text (front ++ 92 ∷ []) ≡ not (is_continued_text front)
 odd_more front =
@@ -62,7 +57,7 @@ kept_whole text byte other h = rw h (neither (nat_lt 0 (length text)) other text
 no_cr-other : (text : Text) → slice_index text (length text - 1) ≢ 13 → no_cr text ≡ text
 no_cr-other text h = kept_whole text 13 (take (length text - 1) text) (ne_eqb (slice_index text (length text - 1)) 13 h)
 
-front_at : (front : Text) (byte : ℕ) → take (length (front ++ byte ∷ []) - 1) (front ++ byte ∷ []) ≡ front
+pub front_at : (front : Text) (byte : ℕ) → take (length (front ++ byte ∷ []) - 1) (front ++ byte ∷ []) ≡ front
 front_at front byte = let size = length-append front (byte ∷ []) in take_at front (byte ∷ []) (length (front ++ byte ∷ []) - 1) (omega (arith, size))
 
 no_cr-return : (front : Text) → no_cr (front ++ 13 ∷ []) ≡ front

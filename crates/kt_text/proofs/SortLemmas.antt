@@ -32,10 +32,10 @@ less_not_greater : Less ≡ Greater → ⊥
 less_not_greater e = true≢false (ap (λ o. match_ordering o true true false) e)
 
 -- a word isn't below itself, and no two are below each other
-never_itself : (word : Text) → order word word ≡ Less → ⊥
+pub never_itself : (word : Text) → order word word ≡ Less → ⊥
 never_itself word l = less_differs (sym l ∙ tied_itself nat_list_cmp_total word)
 
-never_both : (word other : Text) → order word other ≡ Less → order other word ≡ Less → ⊥
+pub never_both : (word other : Text) → order word other ≡ Less → order other word ≡ Less → ⊥
 never_both word other l m = less_not_greater (sym l ∙ nat_list_cmp_total.antisymm word other ∙ ap ordering_reverse m)
 
 -- a list that rises has nothing below its first word
@@ -98,7 +98,7 @@ contains_cases first words word (zero, l, e) = inl e
 contains_cases first words word (suc k, l, e) = inr (k, omega arith, e)
 
 -- a word below all of a list, put before it
-rises_more : (first : Text) (words : List Text) → All (λ other. order first other ≡ Less) words → Rises words → Rises (first ∷ words)
+pub rises_more : (first : Text) (words : List Text) → All (λ other. order first other ≡ Less) words → Rises words → Rises (first ∷ words)
 unfolding IsStrictlySortedBy
 rises_more first words below rises = (recursion_from_All (λ other. order first other ≡ Less) words below, rises)
 

@@ -5,7 +5,7 @@ use Rattle.kt_text.proofs.NewlineLemmas.{IsFree}
 
 -- ---- how much of the end of a text passes a test
 
-suffix-none : (p : ℕ → Bool) (front : Text) (byte : ℕ) → p byte ≡ false → suffix_len p (front ++ byte ∷ []) ≡ 0
+pub suffix-none : (p : ℕ → Bool) (front : Text) (byte : ℕ) → p byte ≡ false → suffix_len p (front ++ byte ∷ []) ≡ 0
 suffix-none p front byte h = ap (prefix_len p) (reverse-append front (byte ∷ [])) ∙ rw h refl
 
 either_way : (b : Bool) (n k : ℕ) → k ≡ 0 → (b ≡ true → n ≡ n) → cond b (n + k) n ≡ n

@@ -25,7 +25,7 @@ words_of-drop (byte ∷ text) =
     ] in
     step (is_separator byte) refl
 
-filter_nonempty : (word : Text) (rest : List Text) → 0 < length word → filter is_nonempty (word ∷ rest) ≡ word ∷ filter is_nonempty rest
+pub filter_nonempty : (word : Text) (rest : List Text) → 0 < length word → filter is_nonempty (word ∷ rest) ≡ word ∷ filter is_nonempty rest
 filter_nonempty [] rest h = absurd (omega arith)
 filter_nonempty (byte ∷ word) rest h = refl
 

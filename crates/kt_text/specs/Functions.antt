@@ -2,7 +2,7 @@
 -- Each is called as in the GNU make manual, "Functions for String Substitution and Analysis" and, from `dir` on,
 -- "Functions for File Names". That results without bytes are left out of a list is kati's own.
 -- Notes of the form [Section] name that manual's section.
-use Rattle.std.specs.Prelude.{◌≡◌, ℕ, ◌-◌, Bool, ◌||◌, ◌&&◌, ◌==◌, nat_le, not, List, [], ◌∷◌, ◌++◌, length, map}
+use Rattle.std.specs.Prelude.{◌≡◌, ℕ, ◌-◌, Bool, true, ◌||◌, ◌&&◌, ◌==◌, nat_le, not, List, [], ◌∷◌, ◌++◌, length, map}
 use Rattle.std.specs.Prelude.{filter, fold, take, drop, Option, Some, None, Result, unwrap_or, is_some, MatchResult}
 use Rattle.std.specs.Prelude.{if◌then◌else◌}
 use Rattle.kt_text.specs.Prelude.{list_any, list_all, slice_get, slice_range, suffix_len, bytes_eq, nat_cmp, slice_cmp}
@@ -20,10 +20,10 @@ use Rattle.kt_text.specs.declared.fault.TextFault.{TextFault}
 use Rattle.kt_text.specs.declared.fault.TextFault.TheVariants.{BadArgument, Memory}
 use Rattle.kt_text.specs.Match.{has_percent, pattern_front, pattern_back, stem_span}
 
--- a fault says that there is no text, or that memory was refused, which is always excused
+-- a fault says that there is no text, or that memory was refused for one
 abbrev pub Refuses : Option Text → TextFault → Type 0
 Refuses expected BadArgument = expected ≡ None
-Refuses expected Memory = Unit {0}
+Refuses expected Memory = is_some expected ≡ true
 
 -- the call returns the text that is expected, or `BadArgument` exactly where none is
 abbrev pub Answers : Result (Vec ℕ Global) TextFault → Option Text → Type 0

@@ -1,5 +1,5 @@
 -- The logical lines of a text (POSIX.1-2024 make, "Makefile Syntax"; GNU make manual, "Splitting Long Lines").
-use Rattle.std.specs.Prelude.{◌≡◌, ◌≤◌, ℕ, ◌+◌, ◌-◌, ◌%◌, Bool, true, false, ◌==◌, List, [], ◌∷◌, ◌++◌, length, take}
+use Rattle.std.specs.Prelude.{◌≡◌, ◌⊎◌, ◌<◌, ◌≤◌, ℕ, ◌+◌, ◌-◌, ◌%◌, Bool, true, false, ◌==◌, List, [], ◌∷◌, ◌++◌, length, take}
 use Rattle.std.specs.Prelude.{count_by, Option, Some, None, slice_index, if◌then◌else◌}
 use Rattle.std.specs.List.{All, AllAdjacentBelow, list_any, before_first, suffix_len, onto_first, flat_map, concat}
 use Rattle.kt_text.specs.Prelude.{lines_of, without_terminator, Line, Text, trimmed_start, trimmed_end}
@@ -122,7 +122,13 @@ condensed_group (line ∷ next ∷ lines) = condensed_line false true line ++ co
 unfoldable pub condensed_of : Text → Text
 condensed_of text = flat_map condensed_group (groups (pieces_of text))
 
--- the fault of a text with a NUL has that line; being out of memory is excused
+-- a line for which there is no mark: beyond the numbers of 32 bits, or it ends before its begin, or at it in spite of
+-- its tab
+abbrev pub HasNoMark : Line → Type 0
+HasNoMark line = (4294967295 < line.span.start) ⊎ (4294967295 < line.span.end) ⊎ (4294967295 < line.number)
+    ⊎ (line.span.end < line.span.start) ⊎ ((line.tab ≡ true) × (line.span.end ≡ line.span.start))
+
+-- the fault of a text with a NUL has that line; of one without, it is out of memory
 abbrev pub NulFault : Option ℕ → LineFault → Type 0
 NulFault line (Nul number) = line ≡ Some number
-NulFault line Memory = Unit {0}
+NulFault line Memory = line ≡ None

@@ -1,4 +1,5 @@
--- The names that most definitions cite, of the crates below and of the code, passed on from one place. Declares nothing.
+-- The names that most definitions cite, of the crates below and of the code, passed on from one place. Declares
+-- nothing.
 pub use Rattle.bstr.specs.Text.{lines_of, replaced_at, without_terminator}
 pub use Rattle.kt_text.specs.Words.{Text, is_nonempty, list_text, trimmed_end, trimmed_start, words_of}
 pub use Rattle.kt_text.specs.declared.line.Line.{Line}

@@ -1,7 +1,9 @@
 //! Logical lines as a text's reader holds them: in less than half the room of a `Line`.
-ghost use Rattle.std.specs.Prelude.{◌≡◌, false, true, IfOk};
+ghost use Rattle.std.specs.Prelude.{◌≡◌, ◌<◌, ◌≤◌, false, true, IfOk, OnErr};
+ghost use Rattle.kt_text.specs.Lines.{HasNoMark};
 
 use crate::line::Line;
+use kt_list::narrow;
 use std::alloc::AllocError;
 use std::marker::Model;
 
@@ -27,11 +29,12 @@ impl Mark {
     /// The mark of a line. One beyond the first 4,294,967,295 bytes or lines has none, as if memory were refused; nor
     /// has one that ends before its begin, or at it in spite of a tab.
     pub fn of(line: &Line) -> Result<Mark, AllocError>
-        ensures { IfOk result (λ mark. mark ≡ line.now) }
+        ensures same { IfOk result (λ mark. mark ≡ line.now) }
+        ensures none { OnErr result (HasNoMark line.now) }
     {
-        let start = narrow(line.span.start as u64)?;
-        let end = narrow(line.span.end as u64)?;
-        let number = narrow(line.number)?;
+        let start = narrow(line.span.start)?;
+        let end = narrow(line.span.end)?;
+        let number = narrow(line.number as usize)?;
         if line.tab {
             Mark::tabbed(start, end, number)
         } else {
@@ -40,11 +43,12 @@ impl Mark {
     }
 
     fn tabbed(start: u32, end: u32, number: u32) -> Result<Mark, AllocError>
-        ensures { IfOk result (λ mark. mark ≡ record {
+        ensures same { IfOk result (λ mark. mark ≡ record {
           span = record { start = start; end = end };
           number = number;
           tab = true;
         }) }
+        ensures empty { OnErr result (end ≤ start) }
     {
         if start >= end {
             return Err(AllocError);
@@ -57,11 +61,12 @@ impl Mark {
     }
 
     fn untabbed(start: u32, end: u32, number: u32) -> Result<Mark, AllocError>
-        ensures { IfOk result (λ mark. mark ≡ record {
+        ensures same { IfOk result (λ mark. mark ≡ record {
           span = record { start = start; end = end };
           number = number;
           tab = false;
         }) }
+        ensures falls { OnErr result (end < start) }
     {
         if start > end {
             return Err(AllocError);
@@ -86,13 +91,4 @@ impl Mark {
             tab,
         }
     }
-}
-
-fn narrow(number: u64) -> Result<u32, AllocError>
-    ensures { IfOk result (λ narrowed. narrowed ≡ number) }
-{
-    if number > 4_294_967_295 {
-        return Err(AllocError);
-    }
-    Ok(number as u32)
 }

@@ -1,4 +1,6 @@
 //! Texts that are sorted in byte order.
+//! Fast: words are sorted by their first eight bytes, and only those that begin alike by the rest. Spares a look at
+//! where each text lies.
 ghost use Rattle.std.specs.Prelude.{◌≡◌, ◌<◌, All, Some, List, ℕ, nat_eq, refl, slice_index};
 ghost use Rattle.std.specs.Ordering.{nat_cmp};
 ghost use Rattle.std.specs.Cmp.{partial_equiv_from_equiv};
@@ -103,8 +105,8 @@ fn head(text: &[u8]) -> [u8; HEAD]
     head
 }
 
-/// The first eight bytes of a text as a number, the first one the highest, and 0 for each that isn't there. Texts are in
-/// byte order where these numbers are, and may be where the numbers are equal.
+/// The first eight bytes of a text as a number, the first one the highest, and 0 for each that isn't there. Texts are
+/// in byte order where these numbers are, and may be where the numbers are equal.
 pub fn front_number(text: &[u8]) -> u64
     ensures front { result ≡ front_number 8 text.now }
     ensures bytes { All (λ byte. byte < 256) text.now }

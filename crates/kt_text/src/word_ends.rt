@@ -1,4 +1,5 @@
 //! Where the first word of a text ends.
+//! Fast: words are cut sixteen bytes at a time. Spares a look at each byte.
 ghost use Rattle.std.specs.Prelude.{◌≡◌, ◌≤◌, length, map, nat_le, take};
 ghost use Rattle.std.specs.List.{position_or_len, prefix_len};
 ghost use Rattle.std.specs.Simd.Lanes.{mask_l};

@@ -31,7 +31,8 @@ same_found (Some bytes) (Some answered) = pointwise nat_eq bytes answered
 -- how many answers aren't the store's
 unfoldable pub differing : Store → List Answer → ℕ
 differing store [] = 0
-differing store (answer ∷ answers) = (if same_found (look store answer.0) answer.1 then 0 else 1) + differing store answers
+differing store (answer ∷ answers) = (if same_found (look store answer.0) answer.1 then 0 else 1) + differing store
+    answers
 
 -- each answer is the store's
 abbrev pub AgreeWith : Store → List Answer → Type 0

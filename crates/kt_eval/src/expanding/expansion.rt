@@ -1,4 +1,8 @@
 //! Expands texts, each level of nesting with one level less.
+//! Fast: an expansion goes into one buffer: literals, and values that need no level, are appended to it. Spares an
+//! allocation for each of them.
+//! Fast: a text without a dollar is borrowed. Spares an allocation; with borrowed parts of lines and a shell expanded
+//! once, 3 to 12 a unit.
 ghost use Rattle.std.specs.Prelude.{◌==◌};
 ghost use Rattle.std.specs.Cow.{cow_slice_items};
 ghost use Rattle.kt_syntax.specs.Terms.{token_of};
@@ -136,7 +140,11 @@ impl<'a, M: Scope, F: Files> Evaluation<'a, M, F> {
     }
 
     #[cycle(evaluate)]
-    #[tactic(auto, using(crate::proofs::Steps::value_named_steps), unfolding(crate::specs::expanding::Expansion::value_named))]
+    #[tactic(
+        auto,
+        using(crate::proofs::Steps::value_named_steps),
+        unfolding(crate::specs::expanding::Expansion::value_named)
+    )]
     pub(crate) fn value_named(&mut self, below: u64, body: &[u8]) -> Result<Vec<u8>, Stop>
         ensures { Does (λ v. v.items) M.writable below
             (λ e. value_named e (naming_of body.now)) result self.old self.new }

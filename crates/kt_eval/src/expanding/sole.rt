@@ -1,4 +1,5 @@
 //! Texts that are one reference, whose value is known without a text of its own.
+//! Fast: a reference is compared with a text where its value lies. Spares two allocations a test.
 ghost use Rattle.std.specs.Prelude.{◌≡◌, [], ◌∷◌, Bool, bytes_eq, option_map, true, IfSome, None};
 ghost use Rattle.kt_syntax.specs.Terms.{reference, terms_of};
 ghost use Rattle.kt_syntax.specs.declared.term.Mark.{Mark};

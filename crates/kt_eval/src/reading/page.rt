@@ -1,4 +1,6 @@
 //! A text that is read, with its lines and blocks.
+//! Fast: a comment or an empty line before an ordinary line is passed by its first byte. Spares a place, a kind and a
+//! look a line.
 ghost use Rattle.std.specs.Prelude.{◌≡◌, ◌+◌, ◌<◌, ◌≤◌, ◌^◌, ℕ, Bool, false, length, map, true, IfOk, IfSome, None, Some};
 ghost use Rattle.std.specs.List.{slice_get, slice_range};
 ghost use Rattle.kt_syntax.specs.Reading.{IsAhead, ReadsOn, left_at};
@@ -224,7 +226,11 @@ impl<'a> Page<'a> {
     }
 
     // The lines from one place up to another, as the value of a define.
-    #[tactic(auto, using(crate::proofs::BodyLemmas::body_lines), unfolding(crate::specs::macros::Assignments::body_text))]
+    #[tactic(
+        auto,
+        using(crate::proofs::BodyLemmas::body_lines),
+        unfolding(crate::specs::macros::Assignments::body_text)
+    )]
     pub(crate) fn body(
         &self,
         alloc: Global,

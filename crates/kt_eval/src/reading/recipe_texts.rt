@@ -1,4 +1,5 @@
 //! The texts of recipe lines, of which equal ones are held once.
+//! Fast: rules with the same recipe, one after the other, hold the texts of its lines together. Spares a text a line.
 ghost use Rattle.std.specs.Prelude.{◌≡◌, option_map, IfOk, IfSome};
 ghost use Rattle.std.specs.Cow.{cow_slice_items};
 ghost use Rattle.kt_syntax.specs.Recipes.{recipe_of};

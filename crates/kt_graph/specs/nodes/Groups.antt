@@ -38,7 +38,8 @@ groups_of nodes = groups_among (made_nodes nodes)
 -- each node of a group has the same inputs, and the same order-only ones
 pub record ShareInputs (group : List Node) : Type 0 where
   pub inputs : (one other : Node) → Contains group one → Contains group other → inputs_of one ≡ inputs_of other
-  pub order_only : (one other : Node) → Contains group one → Contains group other → order_only_of one ≡ order_only_of other
+  pub order_only : (one other : Node) → Contains group one → Contains group other → order_only_of one
+      ≡ order_only_of other
 
 -- the nodes of the first group do
 abbrev pub FirstSharesInputs : List (List Node) → Type 0

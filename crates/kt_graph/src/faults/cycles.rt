@@ -1,6 +1,9 @@
 //! Names that depend on themselves.
+//! Fast: cycles are looked for by counts of arrivals, and edges are turned round only where a vertex is left. Spares a
+//! second list of all edges where there is no cycle.
+//! Fast: a walk over the graph holds its own stack. Spares the depth of the system's.
 ghost use Rattle.std.specs.Prelude.{◌≡◌, ◌↔◌, ◌-◌, ◌&&◌, ℕ, [], All, IsTrue, MatchOption, fold, get_or, nat_eq};
-ghost use Rattle.std.specs.Prelude.{flat_map, replicate, set, false, true, IfOk, List, OnOk};
+ghost use Rattle.std.specs.Prelude.{flat_map, replicate, set, slice_get, false, true, IfOk, List, OnErr, OnOk, Some};
 ghost use Rattle.kt_graph.specs.inner.faults.Arrivals.{AreCounted, IsLeftIn, LeavesCircular, is_left, with_arrival};
 ghost use Rattle.kt_graph.specs.inner.faults.Arrivals.{without_arrival};
 ghost use Rattle.kt_graph.specs.inner.faults.Edges.{LeadToVertices, HoldsCircular, IsFirstBack, LeadsBack, Visits};
@@ -74,7 +77,8 @@ fn arrive_all(counts: &mut Vec<u32>, vertices: &[u32]) -> Result<(), AllocError>
 
 // A count beyond 4,294,967,295 is refused as if memory were.
 fn arrive(counts: &mut Vec<u32>, vertex: usize) -> Result<(), AllocError>
-    ensures { OnOk result (counts.new.items ≡ with_arrival counts.old.items vertex) }
+    ensures arrived { OnOk result (counts.new.items ≡ with_arrival counts.old.items vertex) }
+    ensures full { OnErr result (slice_get counts.old.items vertex ≡ Some 4294967295) }
 {
     if let Some(count) = counts.get_mut(vertex) {
         match count.checked_add(1) {

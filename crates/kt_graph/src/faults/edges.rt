@@ -1,4 +1,6 @@
 //! Which names lead to which.
+//! Fast: the edges of a name are in its node; a group is a vertex of its own, and what all its names need is added to
+//! it once. Spares a list for each node, and the product of targets and prerequisites in a group.
 ghost use Rattle.std.specs.Prelude.{◌≡◌, ◌++◌, [], IfOk, OnOk, true};
 ghost use Rattle.kt_graph.specs.inner.faults.Edges.{AddsNode, AreEdgesOf, AreMadeBelow, AreNeededBelow, AreReversed};
 ghost use Rattle.kt_graph.specs.inner.faults.Edges.{HaveEdges, IsRepeated, LeadToVertices, count_of, making_edges};
@@ -8,7 +10,7 @@ ghost use Rattle.kt_graph.specs.inner.nodes.Stored.{stored_at};
 
 use crate::faults::rows::{add_all, add_to, bare, row_at};
 use crate::nodes::stored::StoredNodes;
-use kt_list::narrow;
+use kt_list::{narrow, narrow_sum};
 use std::alloc::{AllocError, Global};
 use std::slice::from_ref;
 
@@ -105,16 +107,14 @@ fn one_at(numbers: &[u32], place: usize) -> &[u32]
     }
 }
 
-// The vertices of a number of makings, which are after those of names.
+// The vertices of a number of makings, which are after those of names. Beyond 4,294,967,295 they are refused as if
+// memory were.
 fn making_numbers(alloc: Global, names: usize, count: usize) -> Result<Vec<u32>, AllocError>
     ensures { IfOk result (λ numbers. numbers.items ≡ numbers_after names count) }
 {
     let mut numbers = Vec::new(alloc);
     for making in 0..count {
-        match names.checked_add(making) {
-            Some(number) => numbers.push(narrow(number)?)?,
-            None => return Err(AllocError),
-        }
+        numbers.push(narrow_sum(names, making)?)?;
     }
     Ok(numbers)
 }

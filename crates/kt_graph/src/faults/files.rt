@@ -1,4 +1,6 @@
 //! Which names of a graph are names of one file.
+//! Fast: names of one file are looked for only where a made name isn't its file's canonical spelling. Spares a map of
+//! the spellings of all made names.
 ghost use Rattle.std.specs.Prelude.{◌≡◌, ◌++◌, ◌∷◌, ◌&&◌, [], All, List, Some, false, true, bytes_eq, find, is_some};
 ghost use Rattle.std.specs.Prelude.{not, option_map, unwrap_or, IfOk, OnOk, if◌then◌else◌};
 ghost use Rattle.std.specs.List.{list_any};

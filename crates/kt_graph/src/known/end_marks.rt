@@ -1,4 +1,6 @@
 //! How names end.
+//! Fast: a prerequisite that ends as no known name does is told by a mark, before it is spelled out. Spares a text and
+//! two hashes for each candidate of a pattern rule.
 ghost use Rattle.std.specs.Prelude.{◌≡◌, ◌-◌, ◌<◌, fold, get_or, length, slice_get, if◌then◌else◌};
 ghost use Rattle.kt_graph.specs.inner.EndMarks.{AreMarkedTo, KeepsEnds, end_place, is_marked, with_end, with_end_of};
 

@@ -1,4 +1,6 @@
 //! What makes each name that goals need, as the crates above see it.
+//! Fast: whether all names are plain paths is asked in the order in which they were reached, in which they lie. Spares
+//! two walks in byte order, which wait for memory.
 ghost use Rattle.std.specs.Prelude.{◌≡◌, ◌∷◌, [], All, List, MatchOption, bytes_eq, find, length, map, not, option_map};
 ghost use Rattle.std.specs.Prelude.{IfOk, false, true};
 ghost use Rattle.std.specs.List.{list_any};
@@ -196,8 +198,9 @@ impl<'a> Graph<'a> {
         }
     }
 
-    // Whether each name is the canonical spelling of its file, and none is the reserved one. They are asked in the order
-    // in which they were reached, in which they lie: in byte order each look would wait for memory. Takes no memory.
+    // Whether each name is the canonical spelling of its file, and none is the reserved one. They are asked in the
+    // order in which they were reached, in which they lie: in byte order each look would wait for memory. Takes no
+    // memory.
     fn has_plain_names(&self) -> bool
         ensures unreserved { result ≡ true → list_any (λ node. is_reserved node.name) self.now ≡ false }
         ensures canonical { result ≡ true → All (λ name. canon_of name ≡ name) (made_names self.now) }

@@ -1,4 +1,8 @@
 //! Builds the node of each name that goals need, using a work list.
+//! Fast: a name whose only rule gives it what the last node needs takes that node's rows. Spares the product of
+//! targets and prerequisites in a group.
+//! Fast: all leaves have the part of the first. Spares 40 bytes a leaf.
+//! Fast: the names without a node are the work that is left. Spares the depth of the system's stack.
 ghost use Rattle.std.specs.Prelude.{◌≡◌, ◌<◌, ◌^◌, [], List, None, fold, length, map, option_map, slice_get, take};
 ghost use Rattle.std.specs.Prelude.{false, IfOk, IsTrue, OnOk};
 ghost use Rattle.kt_text.specs.Words.{Text};

@@ -1,4 +1,6 @@
 //! The inputs of a node, from the rows of its parts.
+//! Fast: that a node's inputs differ is told by sorting numbers, and of up to 8 by comparing them; they are then the
+//! rows of its only part. Spares a set for each node, and rows of its own.
 ghost use Rattle.std.specs.Prelude.{◌≡◌, [], fold, nat_eq, true, IfOk, OnOk};
 ghost use Rattle.std.specs.List.{IsDistinct};
 ghost use Rattle.kt_graph.specs.inner.nodes.Inputs.{HasOwnInputs, differ, inputs_held, numbers_without, others_held};

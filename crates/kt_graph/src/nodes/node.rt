@@ -1,4 +1,5 @@
 //! What makes a name and what it needs.
+//! Fast: a node is handed out as a reference and a number. Spares 24 bytes.
 ghost use Rattle.std.specs.Prelude.{◌≡◌, length, not, option_map, slice_get};
 ghost use Rattle.std.specs.Iterator.{YieldsFirstRef, item_count};
 ghost use Rattle.kt_graph.specs.nodes.Node.{inputs_of, is_leaf, order_only_of};

@@ -1,5 +1,5 @@
 //! What a node is made of before it is stored.
-ghost use Rattle.std.specs.Prelude.{◌≡◌, [], IfOk, None, is_some};
+ghost use Rattle.std.specs.Prelude.{◌≡◌, ◌<◌, [], IfOk, OnErr, None, is_some, unwrap_or};
 ghost use Rattle.kt_rules.specs.declared.entry.Needs.{Needs};
 ghost use Rattle.kt_rules.specs.Slots.{rule_view};
 ghost use Rattle.kt_rules.specs.Suffixes.{suffixes_of};
@@ -25,7 +25,8 @@ pub(crate) struct Maker {
 impl Maker {
     /// The number of the making, or 0. One beyond 4,294,967,295 is refused as if memory were.
     pub(crate) fn making(self) -> Result<u32, AllocError>
-        ensures { IfOk result (λ number. some_if (is_some self.made_with) number ≡ self.made_with) }
+        ensures same { IfOk result (λ number. some_if (is_some self.made_with) number ≡ self.made_with) }
+        ensures large { OnErr result (4294967295 < unwrap_or self.made_with 0) }
     {
         match self.made_with {
             Some(number) => narrow(number),

@@ -1,4 +1,6 @@
 //! The lists of numbers of all nodes, each a row.
+//! Fast: the lists of all nodes are rows of one vector, and a part takes those of the part before it where they are
+//! equal. Spares an allocation for each list, and equal lists of targets that stand together.
 ghost use Rattle.std.specs.Prelude.{◌≡◌, [], IfOk, Some, get_or, slice_get, true};
 ghost use Rattle.kt_graph.specs.inner.nodes.Stored.{AreRowsOf};
 ghost use Rattle.kt_list.specs.Prefixes.{HasMore};

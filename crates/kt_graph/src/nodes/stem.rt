@@ -1,5 +1,7 @@
 //! The stem of a part.
-ghost use Rattle.std.specs.Prelude.{◌≡◌, ◌++◌, drop, take, true, IfOk, IfSome};
+//! Fast: a stem is a place of its node's name, and is looked for by suffixes only where a recipe asks for it. Spares
+//! 16 bytes, and a text for each part.
+ghost use Rattle.std.specs.Prelude.{◌≡◌, ◌<◌, ◌⊎◌, ◌++◌, drop, take, true, IfOk, IfSome, OnErr};
 ghost use Rattle.kt_text.specs.Words.{Text};
 ghost use Rattle.kt_rules.specs.Slots.{rule_view};
 ghost use Rattle.kt_rules.specs.Suffixes.{suffixes_of};
@@ -85,7 +87,8 @@ impl<'a> Stem<'a> {
 
     // Places beyond 4,294,967,295 are refused as if memory were.
     fn within(place: usize, len: usize) -> Result<Stem<'a>, AllocError>
-        ensures { IfOk result (λ stem. (name : Text) → stem_in name stem ≡ take len (drop place name)) }
+        ensures lies { IfOk result (λ stem. (name : Text) → stem_in name stem ≡ take len (drop place name)) }
+        ensures large { OnErr result ((4294967295 < place) ⊎ (4294967295 < len)) }
     {
         Ok(Stem {
             form: Form::Within(narrow(place)?, narrow(len)?),

@@ -1,5 +1,5 @@
 //! Nodes as the graph holds them, in three lists, with numbers for names.
-ghost use Rattle.std.specs.Prelude.{◌≡◌, ◌++◌, ◌∷◌, ◌<◌, ◌≤◌, ◌^◌, [], All, IfOk, OnOk, drop, get_or, length};
+ghost use Rattle.std.specs.Prelude.{◌≡◌, ◌++◌, ◌∷◌, ◌<◌, ◌≤◌, ◌^◌, ◌⊎◌, [], All, IfOk, OnErr, OnOk, drop, get_or, length};
 ghost use Rattle.std.specs.Prelude.{option_map, option_to_list, slice_get, true, None};
 ghost use Rattle.kt_graph.specs.declared.nodes.node.NodeKind.TheVariants.{DoubleColon};
 ghost use Rattle.kt_graph.specs.inner.nodes.Stored.{input_numbers, order_only_numbers};
@@ -99,8 +99,8 @@ impl<'a> StoredNodes<'a> {
         self.heads.len()
     }
 
-    /// Adds a node with one part at the end. Here and below, with more than 4,294,967,295 numbers or parts, the error is
-    /// out of memory.
+    /// Adds a node with one part at the end. Here and below, with more than 4,294,967,295 numbers or parts, the error
+    /// is out of memory.
     pub(crate) fn push(
         &mut self,
         alloc: Global,
@@ -158,7 +158,8 @@ impl<'a> StoredNodes<'a> {
         alloc: Global,
         parts: Vec<NumberedPart<'a>>,
     ) -> Result<(), AllocError>
-        ensures { OnOk result (self.new ≡ self.old ++ stored_with DoubleColon None (parts_held parts.entry.items) ∷ []) }
+        ensures { OnOk result (self.new
+            ≡ self.old ++ stored_with DoubleColon None (parts_held parts.entry.items) ∷ []) }
     {
         let head = put_double(alloc, &mut self.parts, &mut self.rows, parts)?;
         self.heads.push(head)?;
@@ -253,7 +254,8 @@ impl Head {
 impl<'a> HeldPart<'a> {
     // A part whose prerequisites are in the rows from this place on.
     fn of(part: Part<'a>, needs: u32) -> HeldPart<'a>
-        ensures recipe { some_if result.has_recipe result.lines.now ≡ option_map (λ lines. lines.now) part.entry.recipe }
+        ensures recipe { some_if result.has_recipe result.lines.now
+            ≡ option_map (λ lines. lines.now) part.entry.recipe }
         ensures stem { result.stem ≡ part.entry.stem }
         ensures needs { result.needs ≡ needs }
     {
@@ -486,9 +488,10 @@ fn put_inputs(alloc: Global, held: &[HeldPart], rows: &mut Rows<u32>) -> Result<
     put_rows(rows, inputs.as_slice(), order_only.as_slice())
 }
 
-// The span from one place to another.
+// The span from one place to another. One beyond 4,294,967,295 is refused as if memory were.
 fn span_of(start: usize, end: usize) -> Result<Span, AllocError>
-    ensures { IfOk result (λ span. (span.start ≡ start) × (span.end ≡ end)) }
+    ensures span { IfOk result (λ span. (span.start ≡ start) × (span.end ≡ end)) }
+    ensures large { OnErr result ((4294967295 < start) ⊎ (4294967295 < end)) }
 {
     Ok(Span {
         start: narrow(start)?,

@@ -1,4 +1,6 @@
 //! Names that are held as long as a book.
+//! Fast: names of the book and of the list of files are read where they are held. Spares a copy of each, and a place
+//! in a second table.
 ghost use Rattle.std.specs.Prelude.{◌≡◌, ◌^◌, ◌+◌, ◌<◌, Some, length, option_map, IfOk, IfSome};
 ghost use Rattle.kt_list.specs.Names.{place_of};
 ghost use Rattle.kt_rules.specs.Targets.{needed_view};

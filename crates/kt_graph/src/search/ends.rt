@@ -1,4 +1,6 @@
 //! Pattern rules by the text after the percent sign of their targets.
+//! Fast: the pattern rules of a name are looked up by the text after the percent sign, once for each length of such a
+//! text. Spares a look-up for each such text, and a match with each rule.
 ghost use Rattle.std.specs.Prelude.{◌≡◌, ◌++◌, ◌∷◌, [], ℕ, List, IfOk, OnOk};
 ghost use Rattle.kt_text.specs.Match.{pattern_back};
 ghost use Rattle.kt_graph.specs.inner.search.Ends.{HasAll, NotesEnd, NotesAll};

@@ -1,4 +1,6 @@
 //! The search for the rules of names that are asked for once each.
+//! Fast: a question without a chain isn't kept, since the graph asks for each name once. Spares a question for each
+//! leaf.
 ghost use Rattle.std.specs.Prelude.{◌≡◌, option_map, IfOk};
 ghost use Rattle.kt_rules.specs.Book.{patterns_of};
 ghost use Rattle.kt_graph.specs.search.Search.{choice_of};

@@ -1,18 +1,19 @@
 -- Rules that need the same, as the program tells them by their places (kati's own).
 use Rattle.std.specs.Prelude.{◌≡◌, Bool, false, List, Option, Some, None, is_some, map}
-use Rattle.kt_rules.specs.Prelude.{HeldRule, Spot, Kind, Needs, Target, Rule}
+use Rattle.kt_rules.specs.Prelude.{Spot, Kind, Needs, Target, Rule}
+use Rattle.kt_rules.specs.declared.book.row.Row.{Row}
 use Rattle.kt_rules.specs.Book.{rule_needs}
 use Rattle.kt_rules.specs.Slots.{explicit_left, spot_rule}
 use Rattle.kt_rules.specs.Suffixes.{is_bare}
 
--- two rules have the same list, and no static pattern
-pub record HaveSameList (held other : HeldRule) : Type 0 where
-  pub kind : held.kind ≡ other.kind
-  pub recipe : held.has_recipe ≡ other.has_recipe
-  pub row : held.rows.needs ≡ other.rows.needs
-  pub count : held.prerequisites ≡ other.prerequisites
-  pub plain : held.pattern ≡ None
-  pub plain_too : other.pattern ≡ None
+-- two rows have rules of one kind with the same prerequisites, and no static pattern
+pub record HaveSameNeeds (row other : Row) : Type 0 where
+  pub kind : row.kind ≡ other.kind
+  pub recipe : row.has_recipe ≡ other.has_recipe
+  pub prerequisites : row.numbers.needs.prerequisites ≡ other.numbers.needs.prerequisites
+  pub order_only : row.numbers.needs.order_only ≡ other.numbers.needs.order_only
+  pub plain : row.numbers.pattern ≡ None
+  pub plain_too : other.numbers.pattern ≡ None
 
 -- a rule is explicit whatever name its target has, and the target needs what all of its targets need
 pub record IsCommon (made : Rule × Target) : Type 0 where
@@ -23,23 +24,23 @@ pub record IsCommon (made : Rule × Target) : Type 0 where
 abbrev pub common_needs : Rule → Kind × (Bool × Needs)
 common_needs rule = (rule.kind, (is_some rule.recipe, rule.needs))
 
--- there are rules in two slots, and they say the same of all their targets
+-- there are two rules, and they say the same of all their targets
 abbrev pub SaySame : Option Rule → Option Rule → Type 0
 SaySame (Some rule) (Some other) = common_needs rule ≡ common_needs other
 SaySame (Some rule) None = ⊥
 SaySame None other = ⊥
 
 -- there are two rules; they are explicit whatever names their targets have, and need the same
-pub record AreAlike (slots : List (Option Rule)) (spot other : Spot) : Type 0 where
+pub record AreAlike (rules : List Rule) (spot other : Spot) : Type 0 where
   pub first : Rule × Target
   pub second : Rule × Target
-  pub first_is : spot_rule slots spot ≡ Some first
-  pub second_is : spot_rule slots other ≡ Some second
+  pub first_is : spot_rule rules spot ≡ Some first
+  pub second_is : spot_rule rules other ≡ Some second
   pub first_explicit : is_bare first ≡ false
   pub second_explicit : is_bare second ≡ false
   pub same : rule_needs first ≡ rule_needs second
 
 -- the explicit rules at spots need the same as those at others, whichever rules are skipped there
-abbrev pub NeedSame : List (Option Rule) → List Spot → List Spot → Type 0
-NeedSame slots spots others = (skips more : Bool)
-    → map rule_needs (explicit_left skips slots spots) ≡ map rule_needs (explicit_left more slots others)
+abbrev pub NeedSame : List Rule → List Spot → List Spot → Type 0
+NeedSame rules spots others = (skips more : Bool)
+    → map rule_needs (explicit_left skips rules spots) ≡ map rule_needs (explicit_left more rules others)

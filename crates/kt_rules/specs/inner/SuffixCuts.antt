@@ -66,5 +66,5 @@ earlier (Some place) (Some next) = Some (min place next)
 -- ---- rules
 
 -- whether the rule at a spot has the form of a suffix rule
-abbrev pub is_bare_at : List (Option Rule) → Spot → Bool
-is_bare_at slots spot = option_map_or is_bare (spot_rule slots spot) false
+abbrev pub is_bare_at : List Rule → Spot → Bool
+is_bare_at rules spot = option_map_or is_bare (spot_rule rules spot) false

@@ -6,7 +6,6 @@ ghost use Rattle.kt_list.specs.Names.{AreBelow, place_of};
 ghost use Rattle.kt_rules.specs.Known.{named_by, named_with};
 ghost use Rattle.kt_rules.specs.Entry.{needs_for};
 ghost use Rattle.kt_rules.specs.Names.{is_among};
-ghost use Rattle.kt_rules.specs.Slots.{rules_in};
 ghost use Rattle.kt_rules.specs.Suffixes.{all_needs};
 ghost use Rattle.kt_rules.specs.Targets.{entry_view, names_at, names_view, needs_view, target_view};
 ghost use Rattle.kt_rules.specs.inner.Marks.{HasShared, IsOf, is_marked};
@@ -50,13 +49,12 @@ impl<'a> Model for BookNames<'a> {
 
     ghost use Rattle.kt_rules.specs.Known.{named_by};
     ghost use Rattle.kt_rules.specs.Names.{is_among};
-    ghost use Rattle.kt_rules.specs.Slots.{rules_in};
     ghost use Rattle.kt_rules.specs.inner.Marks.{is_marked};
 
-    ghost view = { λ s. flat_map (named_by s.suffixes.now) (rules_in s.rules.now.1) };
+    ghost view = { λ s. flat_map (named_by s.suffixes.now) s.rules.now.1 };
 
     ghost invariant = { λ s. (name : Text) → is_marked s.rules.now.0 s.marks name
-        ≡ is_among (flat_map (named_by s.suffixes.now) (rules_in s.rules.now.1)) name };
+        ≡ is_among (flat_map (named_by s.suffixes.now) s.rules.now.1) name };
 }
 
 impl<'a> BookNames<'a> {
@@ -65,7 +63,7 @@ impl<'a> BookNames<'a> {
         rules: &'a Rules,
         suffixes: &'a Suffixes,
     ) -> Result<BookNames<'a>, AllocError>
-        ensures { IfOk result (λ names. names ≡ flat_map (named_by suffixes.now) (rules_in rules.now.1)) }
+        ensures { IfOk result (λ names. names ≡ flat_map (named_by suffixes.now) rules.now.1) }
     {
         let mut marks = Marks::none(alloc, rules.name_count())?;
         for place in 0..rules.len() {
@@ -215,7 +213,7 @@ impl Marks {
             || is_among (all_needs (entry_view rule.entry).needs) name) }
         ensures many { length self.new.numbers.items ≡ length self.old.numbers.items }
     {
-        if rule.held.is_plain() {
+        if rule.pattern.is_none() {
             self.mark_numbers(rule.names, rule.prerequisites);
             self.mark_numbers(rule.names, rule.order_only);
         }

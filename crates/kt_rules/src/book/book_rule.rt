@@ -3,7 +3,6 @@ ghost use Rattle.std.specs.Prelude.{◌≡◌, option_map};
 ghost use Rattle.kt_rules.specs.Entry.{needs_for};
 ghost use Rattle.kt_rules.specs.Targets.{entry_view, line_needs, listed_needs, needs_view, target_view, targets_view};
 
-use super::slot::SlotRule;
 use crate::entry::{Kind, RecipeLine};
 use crate::listed::{Listed, ListedNeeds, Numbered};
 use crate::needs::{NeedsView, shared_needs};
@@ -15,11 +14,14 @@ use kt_list::Names;
 #[derive(Clone, Copy)]
 pub struct BookRule<'a> {
     pub(crate) names: &'a Names,
+    pub(crate) kind: Kind,
     pub(crate) targets: &'a [u32],
+    /// The target pattern of a static pattern rule.
+    pub(crate) pattern: Option<&'a [u8]>,
     pub(crate) prerequisites: &'a [u32],
     pub(crate) order_only: &'a [u32],
     pub(crate) recipe: Option<&'a [RecipeLine]>,
-    pub(crate) held: SlotRule<'a>,
+    pub(crate) place: &'a Place,
 }
 
 impl<'a> BookRule<'a> {
@@ -27,7 +29,7 @@ impl<'a> BookRule<'a> {
     pub fn kind(self) -> Kind
         ensures { result ≡ (entry_view self.entry).kind }
     {
-        self.held.line.kind
+        self.kind
     }
 
     /// The targets, in order and without repeats.
@@ -38,7 +40,7 @@ impl<'a> BookRule<'a> {
         let numbers = self.targets;
         Targets {
             names: Listed::ByNumber(Numbered { names, numbers }),
-            pattern: self.held.pattern,
+            pattern: self.pattern,
             needs: self.listed(),
         }
     }
@@ -57,7 +59,7 @@ impl<'a> BookRule<'a> {
     pub(crate) fn shared_needs(self) -> NeedsView<'a>
         ensures { needs_view result ≡ (entry_view self.entry).needs }
     {
-        shared_needs(self.held.pattern, self.listed())
+        shared_needs(self.pattern, self.listed())
     }
 
     /// The lines of the recipe, if there is one.
@@ -71,7 +73,7 @@ impl<'a> BookRule<'a> {
     pub fn place(self) -> &'a Place
         ensures { result.now ≡ (entry_view self.entry).place }
     {
-        &self.held.line.place
+        self.place
     }
 
     // The prerequisites, without a stem.

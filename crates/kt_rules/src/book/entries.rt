@@ -1,7 +1,6 @@
 //! The entries of a book, one after another.
 ghost use Rattle.std.specs.Prelude.{◌≡◌, ◌∷◌, [], MatchOption, drop};
 ghost use Rattle.std.specs.Iterator.{YieldsFirstBy, item_count};
-ghost use Rattle.kt_rules.specs.Slots.{rules_in};
 ghost use Rattle.kt_rules.specs.Targets.{entry_view};
 
 use super::book_rule::BookRule;
@@ -12,7 +11,7 @@ use std::marker::Model;
 #[derive(Drop)]
 pub struct Entries<'a> {
     rules: &'a Rules,
-    // The place of the next slot.
+    // The place of the next rule.
     place: usize,
 }
 
@@ -22,14 +21,12 @@ impl<'a> Model for Entries<'a> {
 
     ghost Value = { List Rule };
 
-    ghost use Rattle.kt_rules.specs.Slots.{rules_in};
-
-    ghost view = { λ entries. rules_in (drop entries.place entries.rules.now.1) };
+    ghost view = { λ entries. drop entries.place entries.rules.now.1 };
 }
 
 impl<'a> Entries<'a> {
     pub(crate) fn new(rules: &'a Rules) -> Entries<'a>
-        ensures { result ≡ rules_in rules.now.1 }
+        ensures { result ≡ rules.now.1 }
     {
         Entries { rules, place: 0 }
     }
@@ -49,16 +46,14 @@ impl<'a> Iterator for Entries<'a> {
     }
 }
 
-// The first entry in the slots from a place on, and the place after it.
+// The entry at a place, and the place after it.
 fn first_entry(rules: &Rules, from: usize) -> Option<(BookRule<'_>, usize)>
-    ensures { MatchOption result (rules_in (drop from rules.now.1) ≡ [])
-        (λ cut. rules_in (drop from rules.now.1) ≡ entry_view cut.0 ∷ rules_in (drop cut.1 rules.now.1)) }
+    ensures { MatchOption result (drop from rules.now.1 ≡ [])
+        (λ cut. drop from rules.now.1 ≡ entry_view cut.0 ∷ drop cut.1 rules.now.1) }
 {
-    for place in from..rules.len() {
-        match rules.get(place) {
-            Some(rule) => return Some((rule, place + 1)),
-            None => {}
-        }
+    if from < rules.len() {
+        let rule = rules.get(from)?;
+        return Some((rule, from + 1));
     }
     None
 }

@@ -1,5 +1,7 @@
 //! Lists of spots, most of which have one spot.
+//! Fast: a single spot lies where a list would. Spares two allocations of a one-line rule.
 ghost use Rattle.std.specs.Prelude.{◌≡◌, ◌++◌, ◌∷◌, [], IfOk, OnErr, OnOk};
+ghost use Rattle.kt_rules.specs.Slots.{spots_before};
 ghost use Rattle.kt_rules.specs.inner.Lists.{few_of};
 
 use super::spot::Spot;
@@ -51,6 +53,21 @@ impl Few {
         }
     }
 
+    /// Takes the spots away that aren't of the rules before a place. Takes no memory.
+    pub(crate) fn forget(&mut self, place: usize)
+        ensures { self.new ≡ spots_before place self.old }
+    {
+        match &mut self.form {
+            Form::None => {}
+            Form::One(spot) => {
+                if (spot.entry as usize) >= place {
+                    self.form = Form::None;
+                }
+            }
+            Form::Several(spots) => keep_before(spots, place),
+        }
+    }
+
     /// Adds a spot to the end. An `Err` is out of memory, and leaves the list as it was.
     pub(crate) fn push(&mut self, alloc: Global, spot: Spot) -> Result<(), AllocError>
         ensures pushed { OnOk result (self.new ≡ self.old ++ spot ∷ []) }
@@ -66,6 +83,13 @@ impl Few {
         }
         Ok(())
     }
+}
+
+// Keeps the spots of the rules before a place.
+fn keep_before(spots: &mut Vec<Spot>, place: usize)
+    ensures { spots.new.items ≡ spots_before place spots.old.items }
+{
+    spots.retain(|spot| (spot.entry as usize) < place);
 }
 
 fn hold(form: &mut Form, spots: Box<Vec<Spot>>)

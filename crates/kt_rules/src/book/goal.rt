@@ -2,7 +2,7 @@
 ghost use Rattle.std.specs.Prelude.{◌≡◌, ◌&&◌, ◌==◌, not, option_map, find};
 ghost use Rattle.std.specs.List.{list_any};
 ghost use Rattle.kt_rules.specs.Book.{begins_with_dot, first_goal_by, goal_in, is_goal, may_be_goal};
-ghost use Rattle.kt_rules.specs.Slots.{rule_view, rules_in};
+ghost use Rattle.kt_rules.specs.Slots.{rule_view};
 ghost use Rattle.kt_rules.specs.Targets.{entry_view};
 
 use super::book_rule::BookRule;
@@ -14,7 +14,7 @@ use super::target_rule::{TargetRule, is_bare, is_made};
 
 /// The first target of an explicit rule that may be the default goal.
 pub(crate) fn first_goal<'a>(suffixes: &Suffixes, rules: &'a Rules) -> Option<&'a [u8]>
-    ensures { option_map (λ name. name.now) result ≡ first_goal_by suffixes.now (rules_in rules.now.1) }
+    ensures { option_map (λ name. name.now) result ≡ first_goal_by suffixes.now rules.now.1 }
 {
     for entry in Entries::new(rules) {
         match goal_in(suffixes, entry) {

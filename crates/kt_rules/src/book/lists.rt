@@ -1,5 +1,6 @@
 //! Lists of spots by number.
 ghost use Rattle.std.specs.Prelude.{◌≡◌, ◌++◌, ◌∷◌, [], ℕ, ◌<◌, ◌≤◌, OnErr, OnOk, length, nat_eq, if◌then◌else◌};
+ghost use Rattle.kt_rules.specs.Slots.{ForgotFrom};
 ghost use Rattle.kt_rules.specs.inner.Lists.{SameAt, list_at};
 
 use super::few::Few;
@@ -53,6 +54,24 @@ impl Lists {
     {
         reach(&mut self.lists, number)?;
         note_at(self.alloc, &mut self.lists, number, spot)
+    }
+
+    /// Takes the spots away that aren't of the rules before a place. Takes no memory.
+    pub(crate) fn forget(&mut self, place: usize)
+        ensures forgotten { ForgotFrom place self.old self.new }
+        ensures many { length self.new ≡ length self.old }
+    {
+        forget_all(&mut self.lists, place);
+    }
+}
+
+// The same at each number.
+fn forget_all(lists: &mut Vec<Few>, place: usize)
+    ensures forgotten { ForgotFrom place lists.old.items lists.new.items }
+    ensures many { length lists.new.items ≡ length lists.old.items }
+{
+    for number in 0..lists.len() {
+        lists[number].forget(place);
     }
 }
 

@@ -3,7 +3,6 @@ ghost use Rattle.std.specs.Prelude.{◌≡◌, ◌++◌, ◌||◌, ◌∷◌, []
 ghost use Rattle.kt_rules.specs.Book.{pattern_rule, patterns_in, repeats, unrepeated};
 ghost use Rattle.kt_rules.specs.Entry.{Rule};
 ghost use Rattle.kt_rules.specs.Patterns.{form_view, has_pattern, stays_before, suffix_rules_at, suffix_rules_in};
-ghost use Rattle.kt_rules.specs.Slots.{rules_in};
 ghost use Rattle.kt_rules.specs.Suffixes.{percent, suffix_patterns};
 ghost use Rattle.kt_rules.specs.Targets.{entry_view, target_view};
 
@@ -25,7 +24,7 @@ pub(crate) fn candidates<'a>(
     suffixes: &Suffixes,
     rules: &'a Rules,
 ) -> Result<Vec<Pattern<'a>>, AllocError>
-    ensures { IfOk result (λ patterns. patterns.items ≡ flat_map (patterns_in suffixes.now) (rules_in rules.now.1)) }
+    ensures { IfOk result (λ patterns. patterns.items ≡ flat_map (patterns_in suffixes.now) rules.now.1) }
 {
     let mut patterns = Vec::new(alloc);
     for entry in Entries::new(rules) {

@@ -1,9 +1,9 @@
 //! Adds what a rule says to the spots, phony names and suffixes of a book.
-ghost use Rattle.std.specs.Prelude.{◌≡◌, ◌++◌, [], ◌<◌, ◌≤◌, OnErr, OnOk, Some, fold, is_some, if◌then◌else◌, length};
+ghost use Rattle.std.specs.Prelude.{◌≡◌, ◌++◌, [], ◌<◌, ◌≤◌, OnErr, OnOk, Some, fold, is_some, if◌then◌else◌, length, slice_get};
 ghost use Rattle.kt_text.specs.Words.{Text};
 ghost use Rattle.kt_rules.specs.Book.{phony_of};
 ghost use Rattle.kt_rules.specs.Names.{with_name};
-ghost use Rattle.kt_rules.specs.Slots.{GotRecipes, GotSpots, GrewIn, slot_rule, spots_at, target_spots};
+ghost use Rattle.kt_rules.specs.Slots.{GotRecipes, GotSpots, GrewIn, spots_at, target_spots};
 ghost use Rattle.kt_rules.specs.Suffixes.{suffixes_after};
 ghost use Rattle.kt_rules.specs.Targets.{entry_view};
 ghost use Rattle.kt_rules.specs.Entry.{Rule};
@@ -17,11 +17,11 @@ use super::spot::Spot;
 use super::spots::Spots;
 use super::suffixes::Suffixes;
 use super::target_rule::is_made;
-use crate::listed::name_at;
+use crate::dictionary::name_at;
 use kt_list::Names;
 use std::alloc::{AllocError, Global};
 
-/// Adds what the rule in a slot says. If memory runs out, some targets may be noted, but the names are as they were.
+/// Adds what the rule at a place says. If memory runs out, some targets may be noted, but the names are as they were.
 pub(crate) fn learn(
     alloc: Global,
     rules: &Rules,
@@ -30,13 +30,13 @@ pub(crate) fn learn(
     suffixes: &mut Suffixes,
     place: usize,
 ) -> Result<(), AllocError>
-    ensures targets_noted { (rule : Rule) → slot_rule rules.now.1 place ≡ Some rule → OnOk result
+    ensures targets_noted { (rule : Rule) → slice_get rules.now.1 place ≡ Some rule → OnOk result
         (GotSpots rule place (rules.now.0, spots.old.targets) (rules.now.0, spots.new.targets)) }
-    ensures recipes_noted { (rule : Rule) → slot_rule rules.now.1 place ≡ Some rule → OnOk result
+    ensures recipes_noted { (rule : Rule) → slice_get rules.now.1 place ≡ Some rule → OnOk result
         (GotRecipes rule place (rules.now.0, spots.old.recipes) (rules.now.0, spots.new.recipes)) }
-    ensures phony_learned { (rule : Rule) → slot_rule rules.now.1 place ≡ Some rule → OnOk result
+    ensures phony_learned { (rule : Rule) → slice_get rules.now.1 place ≡ Some rule → OnOk result
         (phony.new ≡ fold with_name phony.old (phony_of rule)) }
-    ensures suffixes_learned { (rule : Rule) → slot_rule rules.now.1 place ≡ Some rule → OnOk result
+    ensures suffixes_learned { (rule : Rule) → slice_get rules.now.1 place ≡ Some rule → OnOk result
         (suffixes.new ≡ suffixes_after suffixes.old rule) }
     ensures targets_refused { OnErr result
         (GrewIn place (rules.now.0, spots.old.targets) (rules.now.0, spots.new.targets)) }
@@ -108,7 +108,7 @@ fn learn_names(
     }
 }
 
-// Notes each target that the rule in a slot makes. If memory runs out, some may be noted.
+// Notes each target that the rule at a place makes. If memory runs out, some may be noted.
 fn note_targets(spots: &mut Spots, rule: BookRule<'_>, place: usize) -> Result<(), AllocError>
     requires { AreBelow (length rule.names.now) rule.targets.now }
     ensures targets_noted { OnOk result (GotSpots (entry_view rule.entry) place

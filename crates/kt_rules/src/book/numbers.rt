@@ -23,8 +23,8 @@ impl Book {
         ensures { IfOk result (λ index. (name : Text) → noted_at index name ≡ explicit_numbers self.now name) }
     {
         let mut index = Index::new(self.alloc);
-        // The number of slots must be known: no entry's number is greater than that of its slot.
-        let _slots = self.rules.len();
+        // The number of rules must be known: it bounds the number of each.
+        let _count = self.rules.len();
         for (number, entry) in Entries::new(&self.rules).enumerate() {
             self.note_entry(&mut index, entry, number)?;
         }

@@ -83,8 +83,8 @@ impl Book {
         is_made(entry.kind(), target.name) && self.has_group(entry, target.name)
     }
 
-    // Whether a target has rules with the other number of colons. Its first rule decides: all have the same number. Where
-    // no rule has two, it isn't looked up.
+    // Whether a target has rules with the other number of colons. Its first rule decides: all have the same number.
+    // Where no rule has two, it isn't looked up.
     fn has_other_colons(&self, entry: &Entry, name: &[u8]) -> bool
         ensures { result ≡ list_any (differ_in_colons entry.now) (rules_of self.now name.now) }
     {

@@ -1,4 +1,5 @@
 //! What the special targets of an entry change.
+//! Fast: up to 8 phony names are compared one by one. Spares a hash a name.
 ghost use Rattle.std.specs.Prelude.{◌≡◌, ◌++◌, ◌∷◌, [], List, IfOk, OnErr, OnOk, bytes_eq, find, fold, option_map};
 ghost use Rattle.kt_text.specs.Words.{Text};
 ghost use Rattle.kt_rules.specs.Book.{phony_of};

@@ -1,5 +1,5 @@
 //! Where a target is in a book.
-ghost use Rattle.std.specs.Prelude.{◌≡◌, IfOk};
+ghost use Rattle.std.specs.Prelude.{◌≡◌, ◌<◌, ◌⊎◌, IfOk, OnErr};
 ghost use Rattle.kt_rules.specs.Slots.{spot_at};
 
 use kt_list::narrow;
@@ -15,7 +15,8 @@ pub(crate) struct Spot {
 impl Spot {
     /// The spot of two places. One beyond 4,294,967,295 is refused as if memory were.
     pub(crate) fn at(entry: usize, target: usize) -> Result<Spot, AllocError>
-        ensures { IfOk result (λ spot. spot ≡ spot_at entry target) }
+        ensures same { IfOk result (λ spot. spot ≡ spot_at entry target) }
+        ensures large { OnErr result ((4294967295 < entry) ⊎ (4294967295 < target)) }
     {
         Ok(Spot {
             entry: narrow(entry)?,

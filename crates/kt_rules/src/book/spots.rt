@@ -1,7 +1,9 @@
 //! For each target, by number, the rules that make it.
+//! Fast: where a target stands is noted by its name's number, once for all its rules, and found by that number. Spares
+//! three hashes of a one-line rule, and a hash for each name in the graph.
 ghost use Rattle.std.specs.Prelude.{◌≡◌, ◌++◌, ◌∷◌, [], ℕ, ◌≤◌, ◌<◌, OnErr, OnOk, if◌then◌else◌, length, nat_eq};
 ghost use Rattle.kt_rules.specs.inner.Lists.{list_at};
-ghost use Rattle.kt_rules.specs.Slots.{GrewAt, spots_at};
+ghost use Rattle.kt_rules.specs.Slots.{ForgotFrom, GrewAt, spots_at};
 
 use super::lists::Lists;
 use super::rules::Rules;
@@ -51,6 +53,17 @@ impl Spots {
             self.recipes.note(number, spot)?;
         }
         Ok(())
+    }
+
+    /// Takes the spots away that aren't of the rules before a place. Takes no memory.
+    pub(crate) fn forget(&mut self, place: usize)
+        ensures targets { ForgotFrom place self.old.targets self.new.targets }
+        ensures recipes { ForgotFrom place self.old.recipes self.new.recipes }
+        ensures targets_many { length self.new.targets ≡ length self.old.targets }
+        ensures recipes_many { length self.new.recipes ≡ length self.old.recipes }
+    {
+        self.targets.forget(place);
+        self.recipes.forget(place);
     }
 }
 

@@ -1,4 +1,6 @@
 //! The suffixes of a book.
+//! Fast: the suffix of a name is looked up by its length where there are more than 20, and fewer are compared. Spares
+//! a comparison with each of many, and the hashes where they are few.
 ghost use Rattle.std.specs.Prelude.{◌≡◌, ◌≤◌, [], find, fold, length, nat_eq, option_map, IfOk, IfSome, OnErr, OnOk};
 ghost use Rattle.std.specs.List.{ends_with};
 ghost use Rattle.kt_rules.specs.Names.{is_among, with_name};

@@ -14,6 +14,17 @@ step_with (part.Branch condition) next after = step.Branch condition next after
 step_with part.Endif next after = step.Endif
 step_with (part.Stray stray) next after = step.Stray stray
 
+-- the places that a step names, 0 for one that it doesn't
+abbrev pub places_of_step : Step → ℕ × ℕ
+places_of_step step.Line = (0, 0)
+places_of_step step.Body = (0, 0)
+places_of_step (step.Define end) = (end, 0)
+places_of_step step.Endef = (0, 0)
+places_of_step (step.Conditional next after) = (next, after)
+places_of_step (step.Branch condition next after) = (next, after)
+places_of_step step.Endif = (0, 0)
+places_of_step (step.Stray stray) = (0, 0)
+
 -- the step of a number: 0 for an ordinary line's, else its place among the held ones, from 1
 abbrev pub numbered_step : List Step → ℕ → Step
 numbered_step held zero = step.Line

@@ -6,7 +6,7 @@ use Rattle.kt_eval.specs.inner.Plain.{is_plain, put_if, left_unless, put_of, sti
 use Rattle.kt_eval.specs.expanding.Calls.{is_name_byte, names_plainly}
 use Rattle.kt_eval.proofs.lemmas.expanding.LiteralLemmas.{stays}
 
-no_text : (text : Text) → None ≡ Some text → ⊥
+pub no_text : (text : Text) → None ≡ Some text → ⊥
 no_text text is = true≢false (sym (ap is_some is))
 
 -- ---- a value

@@ -4,15 +4,9 @@ use Rattle.std.specs.Map.{lookup, KeepsOthers}
 use Rattle.kt_graph.proofs.Common.{bytes_eq, ne_eqb, lt-ltb, nat_list_eq_equiv, append-nil, append_assoc, length-append, All-append, filter-append, bytes_eq-Decides, Text, held_for, made_names, several_in, Node, is_leaf, canon_of}
 use Rattle.kt_graph.specs.inner.faults.Files.{count_of}
 use Rattle.kt_graph.specs.nodes.Groups.{made_nodes}
+use Rattle.kt_rules.proofs.IndexLemmas.{apart}
 
 -- ---- what is held of files
-
--- if two files differ, no key is both
-apart : (file other : Text) → bytes_eq other file ≡ false → (key : Text) → bytes_eq file key ≡ true → bytes_eq other key ≡ false
-apart file other differ key is =
-    nat_list_eq_equiv.symm other key
-    ∙ sym (nat_list_eq_equiv.congr file key other is)
-    ∙ nat_list_eq_equiv.symm file other ∙ differ
 
 -- one file got another value, and all others keep theirs
 pub held_after : (old new : List (Text × Bool)) (file : Text) (value : Bool)

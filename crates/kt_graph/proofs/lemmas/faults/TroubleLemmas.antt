@@ -8,6 +8,7 @@ use Rattle.kt_graph.specs.inner.nodes.Graph.{makes_among}
 use Rattle.kt_graph.proofs.lemmas.MemberLemmas.{Contains-from_map, Contains-map, Contains-none}
 use Rattle.kt_graph.proofs.lemmas.Membership.{in_filter, kept_by_filter}
 use Rattle.kt_graph.proofs.lemmas.nodes.WholeLemmas.{mapped_itself}
+use Rattle.kt_text.proofs.SortLemmas.{never_itself, never_both, rises_more}
 
 abbrev order : Text → Text → Ordering
 order = slice_cmp nat_cmp
@@ -91,16 +92,6 @@ found_nowhere {A} p (first ∷ xs) e x has = by (λ f h. found_nowhere p xs f x 
         (first_or_rest first x xs has)
 
 -- ---- lists that rise
-
-never_itself : (name : Text) → order name name ≡ Less → ⊥
-never_itself name less = true≢false (sym (ap is_eq (sym less ∙ tied_itself nat_list_cmp_total name)))
-
-never_both : (one other : Text) → order one other ≡ Less → order other one ≡ Less → ⊥
-never_both one other less more = never_itself one (nat_list_cmp_total.trans one other one less more)
-
-rises_more : (first : Text) (names : List Text) → All (λ other. order first other ≡ Less) names → Rises names → Rises (first ∷ names)
-unfolding IsStrictlySortedBy
-rises_more first names below rises = (recursion_from_All (λ other. order first other ≡ Less) names below, rises)
 
 rises_none : Rises []
 unfolding IsStrictlySortedBy
@@ -250,7 +241,7 @@ none_repeated nodes rises canonical =
 -- ---- a graph
 
 module _ (rules : List Rule) (known goals : List Text) (nodes : List Node) (graph : IsGraph rules known goals nodes) where
-  of_node : (node : Node) → Contains nodes node → node_of rules known node.name ≡ node
+  pub of_node : (node : Node) → Contains nodes node → node_of rules known node.name ≡ node
   of_node node has = mapped_itself (node_of rules known) (λ (one : Node). one.name) nodes node graph.stored has
 
   node_reached : (node : Node) → Contains nodes node → IsReached rules known goals node.name

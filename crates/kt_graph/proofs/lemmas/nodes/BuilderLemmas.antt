@@ -5,10 +5,11 @@ use Rattle.kt_rules.specs.declared.entry.RecipeLine.{RecipeLine}
 use Rattle.kt_graph.specs.declared.nodes.reached_name.ReachedName.{ReachedName}
 use Rattle.kt_graph.specs.inner.nodes.Stems.{stem_in}
 use Rattle.kt_graph.specs.nodes.Node.{Instance}
-use Rattle.kt_graph.proofs.lemmas.nodes.NumberLemmas.{parts_kept, place_kept}
+use Rattle.kt_graph.proofs.lemmas.nodes.NumberLemmas.{parts_kept}
 use Rattle.kt_graph.proofs.lemmas.nodes.StepLemmas.{over_kept}
 use Rattle.kt_graph.proofs.lemmas.nodes.ReachLemmas.{goal_reached, inputs_all, reached_all, reached_on, reached_only, reached_stays}
 use Rattle.kt_rules.proofs.FindLemmas.{names_grow}
+use Rattle.kt_list.proofs.OverLemmas.{slice_get-left}
 
 -- what was reached is needed by goals
 pub record IsUnderWay (rules : List Rule) (known goals names : List Text) (nodes : List StoredNode) : Type 0 where
@@ -84,7 +85,7 @@ grown_within needed names =
 grown_at : (needed names : List Text) (k : ℕ) (name : Text) → slice_get names k ≡ Some name → slice_get (fold with_name names needed) k ≡ Some name
 grown_at needed names k name at =
     let grown = names_grow names needed in
-    ap (λ l. slice_get l k) grown.1 ∙ place_kept names grown.0 k name at
+    ap (λ l. slice_get l k) grown.1 ∙ slice_get-left names grown.0 k name at
 
 grown_same : (needed names : List Text) (k : ℕ) → k < length names → slice_get (fold with_name names needed) k ≡ slice_get names k
 grown_same needed names k h =

@@ -7,7 +7,7 @@ use Rattle.kt_graph.proofs.lemmas.nodes.GroupLemmas.{one_itself, one_same}
 use Rattle.kt_graph.proofs.lemmas.nodes.MadeLemmas.{found_in}
 use Rattle.kt_graph.proofs.lemmas.MemberLemmas.{Contains-from_map, Contains-map}
 use Rattle.kt_graph.proofs.lemmas.Membership.{in_filter, kept_by_filter}
-use Rattle.kt_graph.proofs.lemmas.faults.TroubleLemmas.{find_agree, found_nowhere, kept_rises, rises_made}
+use Rattle.kt_graph.proofs.lemmas.faults.TroubleLemmas.{find_agree, found_nowhere, kept_rises, rises_made, of_node}
 use Rattle.kt_graph.proofs.lemmas.nodes.WholeLemmas.{group_cases, mapped_itself}
 
 abbrev order : Text → Text → Ordering
@@ -19,7 +19,7 @@ name_in node = node.name
 abbrev group_in : List Node → Node → List Node
 group_in nodes leader = filter (are_together leader) nodes
 
-itself_together : (node : Node) → are_together node node ≡ true
+pub itself_together : (node : Node) → are_together node node ≡ true
 itself_together node = ap (λ b. b || is_one_making node.made_with node.made_with) ((bytes_eq-Decides node.name node.name).1 refl)
 
 -- ---- what a group begins with
@@ -65,13 +65,10 @@ as_test one other (inr (making, first, second)) = by (bytes_eq one.name other.na
     by false = made
 
 module _ (rules : List Rule) (known goals : List Text) (nodes : List Node) (graph : IsGraph rules known goals nodes) where
-  node_is : (node : Node) → Contains nodes node → node_of rules known node.name ≡ node
-  node_is node has = mapped_itself (node_of rules known) name_in nodes node graph.stored has
-
   same_node : (one other : Node) → Contains nodes one → Contains nodes other → one.name ≡ other.name → one ≡ other
-  same_node one other first second same = sym (node_is one first) ∙ ap (node_of rules known) same ∙ node_is other second
+  same_node one other first second same = sym (of_node rules known goals nodes graph one first) ∙ ap (node_of rules known) same ∙ of_node rules known goals nodes graph other second
 
-  in_graph : (node : Node) → Contains (made_nodes nodes) node → Contains nodes node
+  pub in_graph : (node : Node) → Contains (made_nodes nodes) node → Contains nodes node
   in_graph node has =
       (kept_by_filter (λ (one : Node). Rattle.std.proofs.Common.not (is_leaf one.kind)) nodes node has).0
 
@@ -149,8 +146,8 @@ module _ (rules : List Rule) (known goals : List Text) (nodes : List Node) (grap
       let reached : IsReached rules known goals other.name = (graph.reached other.name).0 (Contains-map name_in nodes other (in_graph other second)) in
       let one_making : AreOneMaking rules known one.name other.name = record {
         making = making;
-        first = ap (λ (n : Node). n.made_with) (node_is one (in_graph one first)) ∙ made;
-        second = ap (λ (n : Node). n.made_with) (node_is other (in_graph other second)) ∙ also;
+        first = ap (λ (n : Node). n.made_with) (of_node rules known goals nodes graph one (in_graph one first)) ∙ made;
+        second = ap (λ (n : Node). n.made_with) (of_node rules known goals nodes graph other (in_graph other second)) ∙ also;
       } in
       beside reached one_making
 
@@ -159,8 +156,8 @@ module _ (rules : List Rule) (known goals : List Text) (nodes : List Node) (grap
       (λ (same : one.name ≡ other.name). inl (same_node one other (in_graph one first) (in_graph other second) same))
       (λ (made : IsReached rules known goals other.name × AreOneMaking rules known one.name other.name). inr (
         made.1.making,
-        ap (λ (n : Node). n.made_with) (sym (node_is one (in_graph one first))) ∙ made.1.first,
-        ap (λ (n : Node). n.made_with) (sym (node_is other (in_graph other second))) ∙ made.1.second,
+        ap (λ (n : Node). n.made_with) (sym (of_node rules known goals nodes graph one (in_graph one first))) ∙ made.1.first,
+        ap (λ (n : Node). n.made_with) (sym (of_node rules known goals nodes graph other (in_graph other second))) ∙ made.1.second,
       ))
       (group_cases rules known goals one.name other.name grouped)
 

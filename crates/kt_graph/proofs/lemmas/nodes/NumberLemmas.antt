@@ -2,6 +2,7 @@
 use Rattle.std.proofs.Common.{◌≡◌, ℕ, suc, zero, false, ◌+◌, ◌<◌, ◌≤◌, List, [], ◌∷◌, ◌++◌, length, map, fold, take, get_or, Some, slice_get, refl, sym, ap, subst, ◌∙◌, arith}
 use Rattle.kt_graph.proofs.Common.{flat_map, append-nil, append_assoc, map-append, take_more, flat_map-append, fold-append, Text, Needs, is_among, with_name, Part, StoredPart, AddsNumbers, StandFor, SaysNeeds, SaysPart, SayParts}
 use Rattle.kt_rules.proofs.FindLemmas.{names_grow}
+use Rattle.kt_list.proofs.OverLemmas.{slice_get-left}
 
 -- no name is among none
 pub none_among : (names : List Text) (name : Text) → length names ≤ 0 → is_among names name ≡ false
@@ -10,12 +11,6 @@ none_among (first ∷ names) name h = absurd (omega arith)
 
 -- ---- names that grow
 
--- a list that grew has what it had at each place
-pub place_kept : {A : Type 0} (xs more : List A) (k : ℕ) (x : A) → slice_get xs k ≡ Some x → slice_get (xs ++ more) k ≡ Some x
-place_kept [] more k x h = cc
-place_kept (y ∷ xs) more zero x h = h
-place_kept (y ∷ xs) more (suc k) x h = place_kept xs more k x h
-
 stand_longer : (names more expected : List Text) (numbers : List ℕ) → StandFor names expected numbers → StandFor (names ++ more) expected numbers
 stand_longer names more [] [] h = refl
 stand_longer names more [] (number ∷ numbers) h = cc
@@ -23,7 +18,7 @@ stand_longer names more (name ∷ expected) [] h = cc
 stand_longer names more (name ∷ expected) (number ∷ numbers) h =
     let first : slice_get names number ≡ Some name = cc in
     let rest : map (slice_get names) numbers ≡ map Some expected = cc in
-    let e = place_kept names more number name first in
+    let e = slice_get-left names more number name first in
     let es = stand_longer names more expected numbers rest in
     cc
 

@@ -3,7 +3,7 @@ use Rattle.std.proofs.Common.{◌≡◌, ℕ, zero, suc, ◌+◌, ◌<◌, ◌�
 use Rattle.kt_graph.proofs.Common.{IsDistinct, position_from, option_or, unwrap_or, bytes_eq, eq-eqb, nat_list_eq_equiv, append_assoc, length-map, map-append, All-head, All-nil, All-push, All-tail, IsDistinct-push, slice_get-get_or, slice_get_within, IfOk-weaker, on_err_weaker, bytes_eq-Decides, AreBelow, is_among, place_of, with_name, number_found, Text, no_two, same_place, HasSame, IsPlaced, IsPushed, IsReachedAt, ReachesNumber, StaysPlaced, place_held, place_marked, HasMore, name_at, names_at}
 use Rattle.std.proofs.lemmas.Iterator.Adapters.{position_from-zero}
 use Rattle.kt_graph.specs.declared.nodes.reached.Reached.{Reached}
-use Rattle.kt_graph.proofs.lemmas.nodes.NumberLemmas.{place_kept}
+use Rattle.kt_list.proofs.OverLemmas.{slice_get-left}
 
 -- ---- places of names
 
@@ -85,7 +85,7 @@ names_longer names more [] below = refl
 names_longer names more (number ∷ numbers) below =
     let there = slice_get-get_or names number [] (All-head (λ n. n < length names) number numbers below) in
     let same : name_at (names ++ more) number ≡ name_at names number
-    = ap (λ (found : Option Text). unwrap_or found []) (place_kept names more number (get_or names number []) there ∙ sym there) in
+    = ap (λ (found : Option Text). unwrap_or found []) (slice_get-left names more number (get_or names number []) there ∙ sym there) in
     ap (λ (name : Text). name ∷ names_at (names ++ more) numbers) same
     ∙ ap (λ (rest : List Text). name_at names number ∷ rest) (names_longer names more numbers (All-tail (λ n. n < length names) number numbers below))
 

@@ -6,7 +6,8 @@ use Rattle.kt_graph.specs.declared.nodes.part.Numbered.{Numbered}
 use Rattle.kt_graph.specs.declared.nodes.part.Part.{Part as NewPart}
 use Rattle.kt_graph.specs.inner.nodes.Stems.{own, stem_in}
 use Rattle.kt_graph.specs.nodes.Node.{Instance}
-use Rattle.kt_graph.proofs.lemmas.nodes.NumberLemmas.{place_kept}
+use Rattle.kt_list.proofs.ListLemmas.{last_pushed}
+use Rattle.kt_list.proofs.OverLemmas.{slice_get-left}
 
 -- ---- steps
 
@@ -45,7 +46,7 @@ builds_after old middle new expected first second =
 -- a leaf stays where it is
 pub leaf_kept : (leaf : Option ℕ) (nodes more : List StoredNode) (node : StoredNode) (rules : List Rule) → more ≡ nodes ++ node ∷ [] → IsLeafOf leaf nodes rules → IsLeafOf leaf more rules
 leaf_kept None nodes more node rules pushed h = h
-leaf_kept (Some number) nodes more node rules pushed h = ap (λ l. slice_get l number) pushed ∙ place_kept nodes (node ∷ []) number (leaf_stored (suffixes_of rules)) h
+leaf_kept (Some number) nodes more node rules pushed h = ap (λ l. slice_get l number) pushed ∙ slice_get-left nodes (node ∷ []) number (leaf_stored (suffixes_of rules)) h
 
 -- a node with one part
 pub holds_node : (old middle : GraphBuilder) (names : List Text) (numbered : Numbered) (nodes : List StoredNode) (name : Text) (kind : NodeKind) (part : NewPart) (needs : Needs)
@@ -131,10 +132,6 @@ holds_leaf old leaf nodes name pushed kept = record {
   };
 }
 
-last_there : {A : Type 0} (xs : List A) (x : A) → slice_get (xs ++ x ∷ []) (length xs) ≡ Some x
-last_there [] x = refl
-last_there (y ∷ xs) x = last_there xs x
-
 -- the first one
 pub holds_first : (old : GraphBuilder) (number : ℕ) (nodes : List StoredNode) (part : NewPart) (needs : Numbered) (name : Text) → number ≡ length old.nodes
     → nodes ≡ old.nodes ++ stored_with Leaf None (part_held part needs ∷ []) ∷ [] → part.recipe ≡ None → part.stem ≡ own (suffixes_of old.book.now)
@@ -146,7 +143,7 @@ holds_first old number nodes part needs name last pushed recipe stem none others
     let lines : option_map (λ lines. lines.now) part.recipe ≡ None = ap (option_map (λ lines. lines.now)) recipe in
     let is : part_held part needs ≡ bare = cc in
     let all : nodes ≡ old.nodes ++ leaf ∷ [] = pushed ∙ ap (λ (p : StoredPart). old.nodes ++ stored_with Leaf None (p ∷ []) ∷ []) is in
-    holds_leaf old (Some number) nodes name all (λ h. ap (slice_get nodes) last ∙ ap (λ l. slice_get l (length old.nodes)) all ∙ last_there old.nodes leaf)
+    holds_leaf old (Some number) nodes name all (λ h. ap (slice_get nodes) last ∙ ap (λ l. slice_get l (length old.nodes)) all ∙ last_pushed old.nodes leaf)
 
 -- one more
 pub holds_again : (old : GraphBuilder) (number : ℕ) (nodes : List StoredNode) (name : Text) → slice_get old.nodes number ≡ Some (leaf_stored (suffixes_of old.book.now))

@@ -8,6 +8,7 @@ use Rattle.kt_graph.specs.declared.nodes.stored.Head.{Head}
 use Rattle.kt_graph.specs.declared.nodes.stored.Span.{Span}
 use Rattle.kt_graph.specs.inner.nodes.Grouping.{is_made_at, making_at}
 use Rattle.kt_graph.proofs.lemmas.MemberLemmas.{Contains-slice_get}
+use Rattle.kt_list.proofs.OverLemmas.{has_more_of_more}
 
 -- ---- places
 
@@ -127,18 +128,14 @@ nodes_again parts rows heads number (Some head) at =
 pub more_none : {A : Type 0} (xs : List A) → HasMore xs xs
 more_none xs = ([], sym (append-nil xs))
 
-pub more_after : {A : Type 0} (xs ys zs : List A) → HasMore xs ys → HasMore ys zs → HasMore xs zs
-more_after xs ys zs first second =
-    (first.0 ++ second.0, second.1 ∙ ap (λ l. l ++ second.0) first.1 ∙ append_assoc xs first.0 second.0)
-
 pub grew_none : (parts : List HeldPart) (rows : List (List ℕ)) → Grew parts rows parts rows
 grew_none parts rows = record { more_parts = more_none parts; more_rows = more_none rows; within = λ h. h }
 
 pub grew_after : (parts mid_parts new_parts : List HeldPart) (rows mid_rows new_rows : List (List ℕ)) → Grew parts rows mid_parts mid_rows
     → Grew mid_parts mid_rows new_parts new_rows → Grew parts rows new_parts new_rows
 grew_after parts mid_parts new_parts rows mid_rows new_rows first second = record {
-  more_parts = more_after parts mid_parts new_parts first.more_parts second.more_parts;
-  more_rows = more_after rows mid_rows new_rows first.more_rows second.more_rows;
+  more_parts = has_more_of_more parts mid_parts new_parts first.more_parts second.more_parts;
+  more_rows = has_more_of_more rows mid_rows new_rows first.more_rows second.more_rows;
   within = λ h. second.within (first.within h);
 }
 

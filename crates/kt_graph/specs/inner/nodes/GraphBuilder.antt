@@ -38,7 +38,8 @@ pub record IsOver (builder : GraphBuilder) : Type 0 where
   pub leaf : IsLeafOf builder.leaf builder.nodes builder.book.now
 
 -- names are reached and nodes added; those before and the makings keep their numbers, and all else stays
-pub record ReachesMore (old : GraphBuilder) (needed : List Text) (added : List StoredNode) (new : GraphBuilder) : Type 0 where
+pub record ReachesMore (old : GraphBuilder) (needed : List Text) (added : List StoredNode)
+    (new : GraphBuilder) : Type 0 where
   pub book : new.book ≡ old.book
   pub known_names : new.known ≡ old.known
   pub finder_rules : new.finder.rules ≡ old.finder.rules

@@ -165,7 +165,8 @@ pub record AreRowsOf (rows : List (List ℕ)) (first second : List ℕ) (place :
   pub other : get_or rows (place + 1) [] ≡ second
 
 -- a node whose part comes next, and the place of the part's rows: they are those of another node with one part
-pub record IsLike (heads : List Head) (parts : List HeldPart) (number : ℕ) (maker : Maker) (made : Head × ℕ) : Type 0 where
+pub record IsLike (heads : List Head) (parts : List HeldPart) (number : ℕ) (maker : Maker)
+    (made : Head × ℕ) : Type 0 where
   pub other : Head
   pub at : slice_get heads number ≡ Some other
   pub part : HeldPart
@@ -178,7 +179,8 @@ pub record IsLike (heads : List Head) (parts : List HeldPart) (number : ℕ) (ma
   pub end : made.0.parts.end ≡ length parts + 1
 
 -- parts were added at the end
-pub record PutsParts (parts new_parts : List HeldPart) (rows : List (List ℕ)) (expected : List StoredPart) : Type 0 where
+pub record PutsParts (parts new_parts : List HeldPart) (rows : List (List ℕ))
+    (expected : List StoredPart) : Type 0 where
   pub more : List HeldPart
   pub put : new_parts ≡ parts ++ more
   pub are : parts_stored rows more ≡ expected

@@ -1,4 +1,4 @@
-use Rattle.std.proofs.Common.{true, false, sym, ◌∙◌}
+use Rattle.std.proofs.Common.{sym, ◌∙◌}
 use Rattle.kt_rules.proofs.ReadingLemmas.{told_fault, blank_rule, head_fault, line_tested}
 use Rattle.kt_rules.proofs.SignLemmas.{signs_tell}
 use Rattle.kt_rules.specs.RuleLine.{head_view}

@@ -18,7 +18,7 @@ loop-rest-preserved c =
     elim c.if-not-continued.branch [
       | then-not-continued+in_ok-of+in_ok-push w ↦
           let off : c.goes_on-continued.result ≡ false = search rules in
-          rw (off, w.lines-is, w.in_ok-push.ensures.items, w.in_ok-of.ensures, w.ended.ensures, c.of-end.ensures.kept) refl
+          rw (off, w.lines-is, w.in_ok-push.ensures.items, w.in_ok-of.ensures.same, w.ended.ensures, c.of-end.ensures.kept) refl
       | else-not-continued w ↦
           let on : c.goes_on-continued.result ≡ true = search rules in
           rw (on, w.lines-is) (sym (append-nil c.loop-rest.lines.items))

@@ -1,6 +1,7 @@
 use Rattle.std.proofs.Common.{◌∙◌, ◌++◌, ap}
 use Rattle.kt_text.specs.Match.{pattern_back, pattern_front}
-use Rattle.kt_text.proofs.BegunLemmas.{begun, begun_after, on_err}
+use Rattle.kt_text.proofs.BegunLemmas.{begun, begun_after}
+use Rattle.kt_list.proofs.general.Results.{on_err}
 use Rattle.kt_text.proofs.pattern.push_with_stem.Goals as goal
 
 pub returns-in_err-extend_from_slice-in-Some-2-clause-refused : goal.returns-in_err-extend_from_slice-in-Some-2-clause-refused

@@ -8,11 +8,11 @@ pub loop-number-preserved : goal.loop-number-preserved
 loop-number-preserved c =
     let names = map (λ (text : Bor Text). text.now) c.args.texts.now in
     let number = c.in_ok-narrow.field-0 in
-    let named : c.text_at.result.now ≡ name_at names number = c.text_at.ensures ∙ ap (name_at names) (sym c.in_ok-narrow.ensures) in
+    let named : c.text_at.result.now ≡ name_at names number = c.text_at.ensures ∙ ap (name_at names) (sym c.in_ok-narrow.ensures.same) in
     fronts_more names c.loop-number.number c.loop-number.fronts.items c.push.new.self.items
     (record { bytes = c.front_number.result; number = number }) c.loop-number.invariant
     (record {
       begins = c.front_number.ensures.front ∙ ap (front_number 8) named;
       small = subst (λ (name : Text). All (λ byte. byte < 256) name) named c.front_number.ensures.bytes;
     })
-    c.in_ok-narrow.ensures c.in_ok-push.ensures.items
+    c.in_ok-narrow.ensures.same c.in_ok-push.ensures.items

@@ -11,5 +11,5 @@ returns-clause-head c =
     let start = c.args.start in
     let inputs = subst (λ l. AreRowsOf new (input_numbers (parts_stored rows l)) (order_only_numbers (parts_stored rows l)) c.in_ok-inputs.inputs)
     (take_rest held start) c.in_ok-inputs.ensures.are in
-    head_from held rows new start c.args.maker.kind c.args.maker.made_with _ refl (ap (λ b. some_if b c.in_ok-making.making) c.is_some.ensures ∙ c.in_ok-making.ensures) c.requires.begins
-    c.in_ok-parts.ensures.0 c.in_ok-parts.ensures.1 c.requires.within c.in_ok-inputs.ensures.grew inputs
+    head_from held rows new start c.args.maker.kind c.args.maker.made_with _ refl (ap (λ b. some_if b c.in_ok-making.making) c.is_some.ensures ∙ c.in_ok-making.ensures.same) c.requires.begins
+    c.in_ok-parts.ensures.span.0 c.in_ok-parts.ensures.span.1 c.requires.within c.in_ok-inputs.ensures.grew inputs

@@ -12,7 +12,7 @@ returns c = record {
   needs = refl;
   inputs = refl;
   kind = refl;
-  made_with = ap (λ b. some_if b c.in_ok-making.making) c.is_some.ensures ∙ c.in_ok-making.ensures;
-  start = c.in_ok-span_of.ensures.0;
-  end = c.in_ok-span_of.ensures.1;
+  made_with = ap (λ b. some_if b c.in_ok-making.making) c.is_some.ensures ∙ c.in_ok-making.ensures.same;
+  start = c.in_ok-span_of.ensures.span.0;
+  end = c.in_ok-span_of.ensures.span.1;
 }

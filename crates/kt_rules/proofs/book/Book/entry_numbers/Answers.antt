@@ -1,24 +1,23 @@
-use Rattle.std.proofs.Common.{◌≡◌, ◌∙◌, ◌++◌, ◌+◌, ◌≤◌, ◌∷◌, List, ℕ, length, sym, ap, arith}
-use Rattle.kt_rules.proofs.Common.{enumerate_from, flat_map, append_assoc, append-nil, Rule, numbers_in, rules_in, suffixes_of, entry_view}
+use Rattle.std.proofs.Common.{◌≡◌, ◌∙◌, ◌++◌, ◌+◌, ◌∷◌, List, ℕ, length, sym, ap, arith}
+use Rattle.kt_rules.proofs.Common.{enumerate_from, flat_map, append_assoc, append-nil, Rule, numbers_in, suffixes_of, entry_view}
 use Rattle.std.specs.declared.iter.Enumerate.{Enumerate}
 use Rattle.kt_rules.specs.declared.book.entries.Entries.{Entries}
 use Rattle.kt_rules.specs.Indexes.{noted_at}
-use Rattle.kt_rules.proofs.NumberLemmas.{numbers_start, numbers_step, rules_fit}
+use Rattle.kt_rules.proofs.NumberLemmas.{numbers_start, numbers_step}
 use Rattle.kt_rules.proofs.book.Book.entry_numbers.Goals as goal
 
 pub loop-number-init : goal.loop-number-init
 loop-number-init c =
     let gives = c.into_iter-number-iterator.ensures.into_iter_gives in
     let none : c.into_iter-number-iterator.result.count ≡ 0 = ap (λ (i : Enumerate Entries). i.count) gives ∙ c.enumerate-number-items.ensures.count in
-    let all : c.into_iter-number-iterator.result.iter ≡ rules_in c.self.inside.rules.1
+    let all : c.into_iter-number-iterator.result.iter ≡ c.self.inside.rules.1
     = ap (λ (i : Enumerate Entries). i.iter) gives ∙ c.enumerate-number-items.ensures.source ∙ c.new.ensures in
-    let len : length c.into_iter-number-iterator.result.iter ≡ length (rules_in c.self.inside.rules.1) = ap length all in
-    let fit : length (rules_in c.self.inside.rules.1) ≤ length c.self.inside.rules.1 = rules_fit c.self.inside.rules.1 in
+    let len : length c.into_iter-number-iterator.result.iter ≡ length c.self.inside.rules.1 = ap length all in
     record {
       left = λ name.
           ap (λ (numbers : List ℕ). numbers ++ flat_map (numbers_in (suffixes_of c.args.self.now) name) (enumerate_from c.into_iter-number-iterator.result.count c.into_iter-number-iterator.result.iter)) (c.new-index.ensures name)
           ∙ numbers_start c.args.self.now c.into_iter-number-iterator.result.iter c.into_iter-number-iterator.result.count name (all ∙ c.self.view_is) none;
-      fits = omega (arith, c.len-slots.ensures);
+      fits = omega (arith, c.len-count.ensures);
     }
 
 pub loop-number-preserved : goal.loop-number-preserved

@@ -1,6 +1,6 @@
-use Rattle.std.proofs.Common.{◌≡◌, ◌∙◌, ◌++◌, ◌∷◌, [], List, Some, ap}
-use Rattle.kt_rules.proofs.Common.{Rule, slot_rule}
-use Rattle.kt_rules.proofs.BookLemmas.{holds_emptied, holds_grown, holds_learned, pushed_rule, rules_emptied, rules_learned}
+use Rattle.std.proofs.Common.{◌≡◌, ◌∙◌, ◌++◌, ◌∷◌, [], List, Some, ap, slice_get}
+use Rattle.kt_rules.proofs.Common.{Rule}
+use Rattle.kt_rules.proofs.BookLemmas.{holds_back, holds_grown, holds_learned, pushed_rule, rules_back}
 use Rattle.kt_rules.proofs.book.Book.learn.Goals as goal
 
 pub invariant_of-self : goal.invariant_of-self
@@ -15,7 +15,7 @@ invariant_of-self-in-Ok c =
     let pushed = c.push.new.self in
     let new = c.learn-learned.new in
     let learned = c.in-Ok.ensures in
-    let there : slot_rule pushed.1 c.len-place.result ≡ Some c.args.entry = pushed_rule held.rules pushed c.args.entry c.len-place.result held.spots.targets new.spots.targets held.spots.recipes new.spots.recipes
+    let there : slice_get pushed.1 c.len-place.result ≡ Some c.args.entry = pushed_rule held.rules pushed c.args.entry c.len-place.result held.spots.targets new.spots.targets held.spots.recipes new.spots.recipes
     held.phony new.phony held.suffixes new.suffixes c.self.invariant c.in_ok-push.ensures.grown c.in_ok-push.ensures.pushed c.len-place.ensures in
     holds_learned held.rules pushed c.args.entry c.len-place.result held.spots.targets new.spots.targets held.spots.recipes new.spots.recipes
     held.phony new.phony held.suffixes new.suffixes c.self.invariant c.in_ok-push.ensures.grown c.in_ok-push.ensures.pushed c.len-place.ensures
@@ -26,12 +26,7 @@ invariant_of-self-in-Ok c =
 
 pub returns-in-Ok-clause-grown : goal.returns-in-Ok-clause-grown
 returns-in-Ok-clause-grown c =
-    let held = c.self.inside in
-    let pushed = c.push.new.self in
-    let new = c.learn-learned.new in
-    rules_learned held.rules pushed c.args.entry c.len-place.result held.spots.targets new.spots.targets held.spots.recipes new.spots.recipes
-    held.phony new.phony held.suffixes new.suffixes c.self.invariant c.in_ok-push.ensures.grown c.in_ok-push.ensures.pushed c.len-place.ensures
-    ∙ ap (λ (rules : List Rule). rules ++ c.args.entry ∷ []) c.self.view_is
+    c.in_ok-push.ensures.pushed ∙ ap (λ (rules : List Rule). rules ++ c.args.entry ∷ []) c.self.view_is
 
 pub invariant_of-self-in-Err : goal.invariant_of-self-in-Err
 invariant_of-self-in-Err c =
@@ -39,18 +34,19 @@ invariant_of-self-in-Err c =
     let pushed = c.push.new.self in
     let new = c.learn-learned.new in
     let refused = c.in-Err.ensures in
-    holds_emptied held.rules pushed c.args.entry c.len-place.result held.spots.targets new.spots.targets held.spots.recipes new.spots.recipes
+    let back = c.forget.ensures in
+    holds_back held.rules pushed c.args.entry c.len-place.result held.spots.targets new.spots.targets held.spots.recipes new.spots.recipes
     held.phony new.phony held.suffixes new.suffixes c.self.invariant c.in_ok-push.ensures.grown c.in_ok-push.ensures.pushed c.len-place.ensures
-    c.empty.new.self c.empty.ensures.names c.empty.ensures.emptied
-    refused.targets_refused refused.recipes_refused refused.phony_refused refused.suffixes_refused
-    refused.targets_within refused.recipes_within
+    c.truncate.new.self c.forget.new.self.targets c.forget.new.self.recipes c.truncate.ensures.names c.truncate.ensures.rules
+    refused.targets_refused refused.recipes_refused back.targets back.recipes back.targets_many back.recipes_many
+    refused.phony_refused refused.suffixes_refused refused.targets_within refused.recipes_within
 
 pub returns-in-Err-clause-refused : goal.returns-in-Err-clause-refused
 returns-in-Err-clause-refused c =
     let held = c.self.inside in
     let pushed = c.push.new.self in
     let new = c.learn-learned.new in
-    rules_emptied held.rules pushed c.args.entry c.len-place.result held.spots.targets new.spots.targets held.spots.recipes new.spots.recipes
+    rules_back held.rules pushed c.args.entry c.len-place.result held.spots.targets new.spots.targets held.spots.recipes new.spots.recipes
     held.phony new.phony held.suffixes new.suffixes c.self.invariant c.in_ok-push.ensures.grown c.in_ok-push.ensures.pushed c.len-place.ensures
-    c.empty.new.self.1 c.empty.ensures.emptied
+    c.truncate.new.self.1 c.truncate.ensures.rules
     ∙ c.self.view_is

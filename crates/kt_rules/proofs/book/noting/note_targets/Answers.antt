@@ -32,7 +32,7 @@ returns-in_err-note_target-clause-targets_refused c =
     on_err c.from_residual-in_err-note_target.result
     (grew_both c.args.place (names, c.args.spots.now.targets) (names, c.loop-position.spots.targets) (names, c.note_target.new.spots.targets)
     c.loop-position.invariant.targets_grown
-    (subst (λ (spot : Spot). GrewIn spot.entry (names, c.loop-position.spots.targets) (names, c.note_target.new.spots.targets)) c.in_ok-spot.ensures
+    (subst (λ (spot : Spot). GrewIn spot.entry (names, c.loop-position.spots.targets) (names, c.note_target.new.spots.targets)) c.in_ok-spot.ensures.same
     c.in_err-note_target.ensures.targets_refused))
 
 pub returns-in_err-note_target-clause-recipes_refused : goal.returns-in_err-note_target-clause-recipes_refused
@@ -41,7 +41,7 @@ returns-in_err-note_target-clause-recipes_refused c =
     on_err c.from_residual-in_err-note_target.result
     (grew_both c.args.place (names, c.args.spots.now.recipes) (names, c.loop-position.spots.recipes) (names, c.note_target.new.spots.recipes)
     c.loop-position.invariant.recipes_grown
-    (subst (λ (spot : Spot). GrewIn spot.entry (names, c.loop-position.spots.recipes) (names, c.note_target.new.spots.recipes)) c.in_ok-spot.ensures
+    (subst (λ (spot : Spot). GrewIn spot.entry (names, c.loop-position.spots.recipes) (names, c.note_target.new.spots.recipes)) c.in_ok-spot.ensures.same
     c.in_err-note_target.ensures.recipes_refused))
 
 pub loop-position-preserved : goal.loop-position-preserved
@@ -52,11 +52,11 @@ loop-position-preserved c =
     let number = get_or c.args.rule.targets.now i 0 in
     let target = numbered_target c.args.rule number in
     let made = c.in_ok-note_target.ensures in
-    let targets_noted = rw c.in_ok-spot.ensures at made.targets_noted in
-    let recipes_noted = rw c.in_ok-spot.ensures at made.recipes_noted in
+    let targets_noted = rw c.in_ok-spot.ensures.same at made.targets_noted in
+    let recipes_noted = rw c.in_ok-spot.ensures.same at made.recipes_noted in
     let kept = c.loop-position.invariant in
     let first : drop i rule.targets ≡ target ∷ drop (i + 1) rule.targets
-    = target_left (target_of (text_in c.args.rule.held.pattern) (line_needs c.args.rule)) (λ (n : ℕ). get_or names n []) c.args.rule.targets.now i number
+    = target_left (target_of (text_in c.args.rule.pattern) (line_needs c.args.rule)) (λ (n : ℕ). get_or names n []) c.args.rule.targets.now i number
     c.loop-position-test.true (get_or_any c.args.rule.targets.now i 0 number c.loop-position-test.true) in
     record {
       targets = noted_step true rule c.args.place i (i + 1) target (drop i rule.targets) (drop (i + 1) rule.targets)
@@ -80,7 +80,7 @@ returns-clause-targets_noted c =
     let rule = entry_view c.args.rule in
     let names = c.args.rule.names.now in
     noted_end true rule c.args.place c.loop-position.position (drop c.loop-position.position rule.targets) (names, c.args.spots.now.targets) (names, c.loop-position.spots.targets)
-    (target_end (target_of (text_in c.args.rule.held.pattern) (line_needs c.args.rule)) (λ (n : ℕ). get_or names n []) c.args.rule.targets.now c.loop-position.position c.loop-position-test.false)
+    (target_end (target_of (text_in c.args.rule.pattern) (line_needs c.args.rule)) (λ (n : ℕ). get_or names n []) c.args.rule.targets.now c.loop-position.position c.loop-position-test.false)
     c.loop-position.invariant.targets
 
 pub returns-clause-recipes_noted : goal.returns-clause-recipes_noted
@@ -88,5 +88,5 @@ returns-clause-recipes_noted c =
     let rule = entry_view c.args.rule in
     let names = c.args.rule.names.now in
     noted_end (is_some rule.recipe) rule c.args.place c.loop-position.position (drop c.loop-position.position rule.targets) (names, c.args.spots.now.recipes) (names, c.loop-position.spots.recipes)
-    (target_end (target_of (text_in c.args.rule.held.pattern) (line_needs c.args.rule)) (λ (n : ℕ). get_or names n []) c.args.rule.targets.now c.loop-position.position c.loop-position-test.false)
+    (target_end (target_of (text_in c.args.rule.pattern) (line_needs c.args.rule)) (λ (n : ℕ). get_or names n []) c.args.rule.targets.now c.loop-position.position c.loop-position-test.false)
     c.loop-position.invariant.recipes

@@ -13,7 +13,7 @@ returns-clause-noted g c =
     let all : OnOk c.add.result ((other : Text) → noted_in (map_with_value c.in_ok-self.field-0 c.add.new.items).entries other
     ≡ noted_at c.args.self.now other ++ (if bytes_eq other c.args.name.now then c.args.item ∷ [] else []))
     = on_ok_weaker c.add.result
-    (λ added. noted_by _ _ c.in_ok-key.key c.args.name.now c.add.new.items (c.args.item ∷ []) c.in_ok-key.ensures updates.3 updates.1
+    (λ added. noted_by _ _ c.in_ok-key.key c.args.name.now c.add.new.items (c.args.item ∷ []) c.in_ok-key.ensures.same updates.3 updates.1
     (added ∙ ap (λ (xs : List _). xs ++ c.args.item ∷ []) before)) c.add.ensures.added in
     search rules
 

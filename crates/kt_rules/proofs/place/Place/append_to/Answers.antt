@@ -1,5 +1,5 @@
 use Rattle.std.proofs.Common.{◌∙◌, ◌++◌, ap, refl, codes, decimal}
-use Rattle.kt_text.proofs.BegunLemmas.{on_err}
+use Rattle.kt_list.proofs.general.Results.{on_err}
 use Rattle.kt_rules.proofs.place.Place.append_to.Goals as goal
 
 pub returns-in_err-push-clause-refused : goal.returns-in_err-push-clause-refused

@@ -12,8 +12,8 @@ loop-vertex-preserved c =
     within c.next.ensures
     (turned_parts (rows_held c.loop-vertex.rows.items) (rows_held c.add_to.new.rows.items) (rows_held c.add_to-in-loop-vertex.new.rows.items) c.loop-vertex.vertex
     c.next.result.0.now c.next.result.1.now
-    (c.in_ok-add_to.ensures ∙ ap (λ to. with_edges (rows_held c.loop-vertex.rows.items) (edges_to to c.next.result.0.now)) c.in_ok-to.ensures)
-    (c.in_ok-add_to-2.ensures ∙ ap (λ to. with_edges (rows_held c.add_to.new.rows.items) (edges_to to c.next.result.1.now)) c.in_ok-to.ensures))
+    (c.in_ok-add_to.ensures ∙ ap (λ to. with_edges (rows_held c.loop-vertex.rows.items) (edges_to to c.next.result.0.now)) c.in_ok-to.ensures.same)
+    (c.in_ok-add_to-2.ensures ∙ ap (λ to. with_edges (rows_held c.add_to.new.rows.items) (edges_to to c.next.result.1.now)) c.in_ok-to.ensures.same))
     ∙ c.loop-vertex.invariant
 
 pub returns : goal.returns

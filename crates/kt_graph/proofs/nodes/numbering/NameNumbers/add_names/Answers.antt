@@ -17,7 +17,7 @@ loop-name-preserved c =
     added_more c.args.self.now c.loop-name.self c.needed_number.new.self (names_view c.args.names) (names_view c.loop-name.name-iterator) (names_view c.next.new.self)
     (needed_view c.in-Some.name) c.args.numbers.now.items c.loop-name.numbers.items c.push.new.self.items c.in_ok-narrow.field-0
     c.in-Some.ensures.steps c.in_ok-number.ensures.reached
-    (ap (slice_get c.needed_number.new.self) c.in_ok-narrow.ensures ∙ c.in_ok-number.ensures.numbered) c.in_ok-push.ensures.items c.loop-name.invariant
+    (ap (slice_get c.needed_number.new.self) c.in_ok-narrow.ensures.same ∙ c.in_ok-number.ensures.numbered) c.in_ok-push.ensures.items c.loop-name.invariant
 
 pub returns : goal.returns
 returns c =

@@ -1,16 +1,16 @@
-use Rattle.std.proofs.Common.{◌≡◌, ◌∙◌, ◌∷◌, ◌+◌, ◌≤◌, ◌||◌, [], List, Option, drop, refl, ap, subst}
-use Rattle.kt_rules.proofs.Common.{flat_map, drop_all, Text, Rule, is_among, rules_in, entry_view}
+use Rattle.std.proofs.Common.{◌≡◌, ◌∙◌, ◌∷◌, ◌+◌, ◌≤◌, ◌||◌, [], List, drop, refl, ap, subst}
+use Rattle.kt_rules.proofs.Common.{flat_map, drop_all, Text, Rule, is_among, entry_view}
 use Rattle.kt_rules.specs.Known.{named_by}
 use Rattle.kt_rules.specs.inner.Marks.{is_marked}
 use Rattle.kt_rules.proofs.MarkLemmas.{IsMarkedFrom, marked_end, marked_start, marked_step}
-use Rattle.kt_rules.proofs.SlotLemmas.{slots_empty, slots_left}
+use Rattle.kt_rules.proofs.SpotLemmas.{rules_past, rules_left}
 use Rattle.kt_rules.proofs.book.book_names.BookNames.of.Goals.{in-Some+in_ok-mark_rule-in-Some, in-None}
 use Rattle.kt_rules.proofs.book.book_names.BookNames.of.Goals as goal
 
 pub loop-place-init : goal.loop-place-init
 loop-place-init c =
     let named = flat_map (named_by c.args.suffixes.now) in
-    let all = named (rules_in c.args.rules.now.1) in
+    let all = named c.args.rules.now.1 in
     record {
       marked = marked_start c.args.rules.now.0 all all c.in_ok-marks.marks refl;
       many = c.in_ok-marks.ensures.many ∙ c.name_count.ensures;
@@ -19,7 +19,7 @@ loop-place-init c =
 pub loop-place-preserved : goal.loop-place-preserved
 loop-place-preserved c =
     let names = c.args.rules.now.0 in
-    let slots = c.args.rules.now.1 in
+    let rules = c.args.rules.now.1 in
     let place = c.loop-place.place in
     let named = flat_map (named_by c.args.suffixes.now) in
     let now = c.loop-place.marks in
@@ -27,20 +27,20 @@ loop-place-preserved c =
     elim c.match-get.branch [
       | in-Some+in_ok-mark_rule-in-Some w ↦
           let rule = entry_view w.in-Some.rule in
-          let first : rules_in (drop place slots) ≡ rule ∷ rules_in (drop (place + 1) slots) = slots_left slots place rule w.in-Some.ensures.told in
+          let first : drop place rules ≡ rule ∷ drop (place + 1) rules = rules_left rules place rule w.in-Some.ensures.told in
           let new = w.mark_rule.new.self in
           let step : (name : Text) → is_marked names new name ≡ (is_marked names now name || is_among (named_by c.args.suffixes.now rule) name)
           = subst (λ (list : List Text). (name : Text) → is_marked list new name ≡ (is_marked list now name || is_among (named_by c.args.suffixes.now rule) name))
           w.in-Some.ensures.names w.in_ok-mark_rule-in-Some.ensures.marked in
           rw w.marks-is (record {
-            marked = marked_step names (named (rules_in slots)) (named (rules_in (drop place slots))) (named_by c.args.suffixes.now rule) (named (rules_in (drop (place + 1) slots)))
+            marked = marked_step names (named rules) (named (drop place rules)) (named_by c.args.suffixes.now rule) (named (drop (place + 1) rules))
                 old now new (ap named first) step c.loop-place.invariant.marked;
             many = w.in_ok-mark_rule-in-Some.ensures.many ∙ c.loop-place.invariant.many;
           })
       | in-None w ↦
           rw w.marks-is (record {
-            marked = subst (λ (left : List Text). IsMarkedFrom names (named (rules_in slots)) left old now)
-                (ap (λ (rules : List Rule). named rules) (slots_empty slots place w.in-None.ensures.told)) c.loop-place.invariant.marked;
+            marked = subst (λ (left : List Text). IsMarkedFrom names (named rules) left old now)
+                (ap (λ (rules : List Rule). named rules) (rules_past rules place w.in-None.ensures.told)) c.loop-place.invariant.marked;
             many = c.loop-place.invariant.many;
           })
     ]
@@ -48,10 +48,10 @@ loop-place-preserved c =
 pub invariant_of-result : goal.invariant_of-result
 invariant_of-result c =
     let names = c.args.rules.now.0 in
-    let slots = c.args.rules.now.1 in
+    let rules = c.args.rules.now.1 in
     let named = flat_map (named_by c.args.suffixes.now) in
-    let none : drop c.loop-place.place slots ≡ [] = drop_all c.loop-place.place slots (subst (λ n. n ≤ c.loop-place.place) c.len-place-end.ensures c.loop-place-test.false) in
+    let none : drop c.loop-place.place rules ≡ [] = drop_all c.loop-place.place rules (subst (λ n. n ≤ c.loop-place.place) c.len-place-end.ensures c.loop-place-test.false) in
     λ name.
-    marked_end names (named (rules_in slots)) (named (rules_in (drop c.loop-place.place slots))) c.in_ok-marks.marks c.loop-place.marks
-    (ap (λ (left : List (Option Rule)). named (rules_in left)) none) c.loop-place.invariant.marked name
-    ∙ ap (λ b. b || is_among (named (rules_in slots)) name) (c.in_ok-marks.ensures.none names name)
+    marked_end names (named rules) (named (drop c.loop-place.place rules)) c.in_ok-marks.marks c.loop-place.marks
+    (ap (λ (left : List Rule). named left) none) c.loop-place.invariant.marked name
+    ∙ ap (λ b. b || is_among (named rules) name) (c.in_ok-marks.ensures.none names name)

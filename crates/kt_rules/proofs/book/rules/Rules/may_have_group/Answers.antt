@@ -4,4 +4,4 @@ use Rattle.kt_rules.proofs.book.rules.Rules.may_have_group.Goals as goal
 pub returns : goal.returns
 returns c = λ unseen.
     let held = c.self.inside in
-    none_group c.args.self.now held.names held.lists held.lines held.slots.items held.kinds held.last c.self.view_is c.self.invariant unseen
+    none_group c.args.self.now held.dictionary held.lines held.rows.items held.kinds held.last c.self.view_is c.self.invariant unseen
