@@ -23,8 +23,12 @@ macro name value = record { name = name; value = value }
 pub record RowsOfLines : Type 0 where
   pub nothing : asked [] ≡ Some (Ok plain)
   pub usual : asked (codes "-f" ∷ codes "lib.mk" ∷ codes "CC=clang" ∷ codes "all" ∷ [])
-      ≡ Some (Ok (record plain { makefile = Some (codes "lib.mk"); goals = codes "all" ∷ []; macros = macro
-      (codes "CC") (codes "clang") ∷ [] }))
+      ≡ Some (Ok (record plain {
+        makefile = Some (codes "lib.mk");
+        goals = codes "all" ∷ [];
+        macros = macro
+            (codes "CC") (codes "clang") ∷ [];
+      }))
   pub attached : asked (codes "t" ∷ codes "--ninja" ∷ codes "-f=Makefile" ∷ [])
       ≡ Some (Ok (record plain { makefile = Some (codes "Makefile"); goals = codes "t" ∷ [] }))
   pub files : asked (codes "--files=l" ∷ codes "--check" ∷ codes "n" ∷ [])

@@ -5,8 +5,14 @@ use Rattle.kt_ninja_reader.specs.NinjaRead.{ninja_read}
 
 -- a statement by its fields in order
 abbrev pub statement : List (List ℕ) → Made → List (List ℕ) → List (List ℕ) → List (List ℕ) → Statement
-statement outs made inputs implicit order_only = record { outs = outs; made = made; inputs = inputs; implicit =
-    implicit; order_only = order_only }
+statement outs made inputs implicit order_only = record {
+  outs = outs;
+  made = made;
+  inputs = inputs;
+  implicit =
+      implicit;
+  order_only = order_only;
+}
 
 -- the reading that gives these statements and default targets
 abbrev pub plan : List Statement → List (List ℕ) → Result Plan ℕ

@@ -11,8 +11,11 @@ line number text = record { text = text; place = record { file = codes "m"; line
 
 abbrev pub part : List RecipeLine → Text → List Text → List Text → Part
 part lines stem prerequisites order_only =
-    record { recipe = Some lines; stem = stem;
-      needs = record { prerequisites = prerequisites; order_only = order_only } }
+    record {
+      recipe = Some lines;
+      stem = stem;
+      needs = record { prerequisites = prerequisites; order_only = order_only };
+    }
 
 -- a target with prerequisites of all kinds
 abbrev pub sample : Node
