@@ -24,6 +24,3 @@ pub use sequence::Sequence;
 pub use shared::Shared;
 pub use short_text::ShortText;
 pub use text::Text;
-
-#[cfg(test)]
-mod tests;

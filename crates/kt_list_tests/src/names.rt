@@ -1,0 +1,60 @@
+//! Each name has a number.
+use kt_list::{Names, NamesOver};
+use std::alloc::{AllocError, Global};
+
+const LONG: &[u8] = b"a name that is longer than what lies in its value";
+
+#[test]
+fn numbers_each_name_once(rt: HostRuntime) -> Result<(), AllocError> {
+    let names = three_names(rt.alloc())?;
+    for (name, number) in [(b"b".as_slice(), 0), (LONG, 1), (b"", 2)] {
+        assert_eq!(rt; names.number_of(name), Some(number), "of {name:?}");
+        assert_eq!(rt; names.get(number), Some(name), "of {name:?}");
+        assert!(rt; names.contains(name), "of {name:?}");
+    }
+    assert_eq!(rt; names.len(), 3);
+    assert_eq!(rt; names.number_of(b"ab"), None);
+    Ok(())
+}
+
+#[test]
+fn gives_a_name_its_number_again(rt: HostRuntime) -> Result<(), AllocError> {
+    let mut names = three_names(rt.alloc())?;
+    let again = names.number(LONG)?;
+    assert_eq!(rt; (again, names.len()), (1, 3));
+    Ok(())
+}
+
+#[test]
+fn forgets_names(rt: HostRuntime) -> Result<(), AllocError> {
+    let mut names = three_names(rt.alloc())?;
+    names.truncate(1);
+    assert!(rt; !names.contains(LONG));
+    assert_eq!(rt; names.as_slice().len(), 1);
+    names.clear();
+    assert_eq!(rt; names.len(), 0);
+    Ok(())
+}
+
+#[test]
+fn numbers_names_after_those_of_a_table(rt: HostRuntime) -> Result<(), AllocError> {
+    let base = names_of(rt.alloc(), b"a")?;
+    let mut names = NamesOver::new(rt.alloc(), &base);
+    assert_eq!(rt; names.number(b"b")?, 1);
+    assert_eq!(rt; names.get(1), Some(b"b".as_slice()));
+    Ok(())
+}
+
+fn names_of(alloc: Global, name: &[u8]) -> Result<Names, AllocError> {
+    let mut names = Names::new(alloc);
+    names.add(name)?;
+    Ok(names)
+}
+
+fn three_names(alloc: Global) -> Result<Names, AllocError> {
+    let mut names = Names::new(alloc);
+    for name in [b"b".as_slice(), LONG, b""] {
+        names.add(name)?;
+    }
+    Ok(names)
+}
