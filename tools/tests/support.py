@@ -38,24 +38,26 @@ def needs(*names):
     return unittest.skipIf(lacking, f"without {', '.join(lacking)}")
 
 
-def without_at_work(said):
-    """What a tool said, but for the line by which it says that it takes more than a second."""
-    return re.sub(r"^kati-\w+: ports .*: make is asked .*\n", "", said, flags=re.MULTILINE)
-
-
-# What the tools say where this host has no namespaces, and so make was asked in a copy, as test_in_place sees.
+# What the tools say where they take more than a second.
+AT_WORK = re.compile(r"^kati-\w+: ports .*: make is asked .*\n", re.MULTILINE)
+# What they say where this host has no namespaces, and so make was asked in a copy, as test_in_place sees.
 OF_A_COPY = re.compile(r"^\S+: make was asked in a copy of this folder: .*\n", re.MULTILINE)
 
 
+def without_at_work(said):
+    """What a tool said, but for the line by which it says that it takes more than a second."""
+    return AT_WORK.sub("", said)
+
+
 class Ran:
-    """What a command did: its status, and its standard output and error as texts; `whole` has what is said of copies,
-    too."""
+    """What a command did: its status, and its standard output and error as texts, without what the tools say on a slow
+    host or one without namespaces; `whole` has that, too."""
 
     def __init__(self, words, cwd, **environment):
         ran = subprocess.run([str(word) for word in words], cwd=cwd, env={**os.environ, "LC_ALL": "C", **environment},
                              stdin=subprocess.DEVNULL, stdout=subprocess.PIPE, stderr=subprocess.PIPE, timeout=LONG)
         self.status, self.whole = ran.returncode, (ran.stdout + ran.stderr).decode()
-        self.out, self.said = (OF_A_COPY.sub("", text.decode()) for text in (ran.stdout, ran.stderr))
+        self.out, self.said = (OF_A_COPY.sub("", without_at_work(text.decode())) for text in (ran.stdout, ran.stderr))
         self.all = self.out + self.said
 
 
