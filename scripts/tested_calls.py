@@ -53,7 +53,6 @@ def tests_of(root, crate, tests):
     names = [crate + "_tests", crate + "_doubles", "kt_rules_doubles", "kati_doubles"]
     names += re.findall(r"\b\w+_tests\b", tests)
     paths = [path for name in names for path in (root / "crates" / name / "src").rglob("*.rt")]
-    paths += [root / "crates/kt_list/src/tests.rt"] if crate == "kt_list" else []
     return [path.read_text(encoding="utf-8") for path in paths]
 
 
