@@ -48,6 +48,7 @@ from pathlib import Path
 sys.dont_write_bytecode = True
 import crates_stated
 import definitions_stated
+import options_stated
 import tested_calls
 import tricks_stated
 from timing import picture
@@ -62,7 +63,6 @@ RUN = ["README.md", "example/README.md", "docs/USING.md"]
 SECONDS = 120
 WIDTH = 120
 
-OPTION = re.compile(r"(?<![\w-])--?[A-Za-z][a-z-]*")
 NAMED = re.compile(r"(?:docs|scripts|crates|tools|share|example|\.ci)/[\w./*{},-]*|\b[A-Z]{3,}\.md\b")
 FAULT = re.compile(r"\w+::\w+(?:\([^)]*\))? => \(?(\d+)\b")
 PROGRESS = re.compile(r"\[\d+/\d+\] ")
@@ -121,69 +121,25 @@ def said(*words, **rest):
 # ---- options
 
 
-def options_of_code(text):
-    """The options that the program's command line is made with, and those of help."""
-    named = re.findall(r'\.long\("([a-z-]+)"\)', text) + re.findall(r'[^\w]file\(\s*alloc,\s*"([a-z-]+)"', text)
-    short = re.findall(r"\.short\('(.)'\)", text)
-    return {"--" + name for name in named} | {"-" + name for name in short} | {"-h", "--help"}
-
-
-def options_of_help(text):
-    """The options that a help text begins a line with."""
-    found = set()
-    for line in text.splitlines():
-        match = re.match(r" {2,6}(-[^ ,]+( [^ ,]+)?(, -[^ ,]+( [^ ,]+)?)*)", line)
-        if match:
-            found |= set(OPTION.findall(match.group(1)))
-    return found
-
-
-def options_of_page(text):
-    """The options that the part OPTIONS of a manual page is about."""
-    part = re.search(r"^\.SH OPTIONS\n(.*?)^\.SH", text, re.MULTILINE | re.DOTALL).group(1).replace("\\-", "-")
-    part = re.sub(r"\\f.", " ", part)
-    lines = re.findall(r"(?:^\.TP\n\.\w+ |^\.B[IR] (?=-))(.*)$", part, re.MULTILINE)
-    return {option for line in lines for option in OPTION.findall(line)}
-
-
-def options_of_table(text):
-    """The options of README's table."""
-    rows = re.findall(r"^\| (`-.*?) \|", text, re.MULTILINE)
-    return {option for row in rows for option in OPTION.findall(row)}
-
-
 def options_of_bash(place, command):
     file = place.root / "share/bash-completion/completions/kati"
     return set(said("bash", "-c", f'source "{file}"; _kati_options {command}')[0].split())
 
 
-def options_of_zsh(text):
-    found = set(re.findall(r"'(?:\([^)]*\))?(--?[a-z-]+)", text))
-    for group in re.findall(r"\{(-[^}]*)\}", text):
-        found |= {word.rstrip("=") for word in group.split(",")}
-    return {option.rstrip("=+") for option in found}
-
-
-def options_of_fish(text):
-    lines = "".join(re.findall(r"^ *complete -c.*\n", text, re.MULTILINE))
-    long, short = re.findall(r" -l ([a-z-]+)", lines), re.findall(r" -s (\w)", lines)
-    return {"--" + name for name in long} | {"-" + name for name in short}
-
-
 def check_options(place, report):
-    of_code = options_of_code(place.text("crates/kati_args/src/command.rt"))
+    of_code = options_stated.of_code(place.text("crates/kati_args/src/command.rt"))
     wanted = dict.fromkeys(BUILT, of_code)
-    report.same(of_code, options_of_table(place.text("README.md")), "options of the code and of README differ")
+    report.same(of_code, options_stated.of_table(place.text("README.md")), "options of the code and of README differ")
     for name in BUILT:
         if name in place.programs:
-            helped = options_of_help(said(place.programs[name], "--help")[0])
+            helped = options_stated.of_help(said(place.programs[name], "--help")[0])
             report.same(of_code, helped, f"options of the code and of the help of {name} differ")
         else:
             report.skip(f"options of the help of {name}: the program isn't built")
     for tool in TOOLS:
-        wanted[tool] = options_of_help(said(sys.executable, place.root / "tools" / tool, "--help")[0])
+        wanted[tool] = options_stated.of_help(said(sys.executable, place.root / "tools" / tool, "--help")[0])
     for command, options in wanted.items():
-        page = options_of_page(place.text(f"share/man/man1/{command}.1"))
+        page = options_stated.of_page(place.text(f"share/man/man1/{command}.1"))
         report.same(options, page, f"options of {command} and of its manual page differ")
         if shutil.which("bash"):
             completed = options_of_bash(place, command)
@@ -192,9 +148,9 @@ def check_options(place, report):
             report.skip("completion for bash: bash isn't there")
     every = set().union(*wanted.values())
     zsh = place.text("share/zsh/site-functions/_kati")
-    report.same(every, options_of_zsh(zsh), "options and completions for zsh differ")
+    report.same(every, options_stated.of_zsh(zsh), "options and completions for zsh differ")
     fish = place.text("share/fish/vendor_completions.d/kati.fish")
-    report.same(every, options_of_fish(fish), "options and completions for fish differ")
+    report.same(every, options_stated.of_fish(fish), "options and completions for fish differ")
 
 
 # ---- faults

@@ -81,7 +81,7 @@ class Sampler(threading.Thread):
     def table(self):
         """The seconds of each check, by crate and part, in the order in which the checks began."""
         costs = {}
-        for (_, began), (crate, part, seconds) in sorted(self.seen.items(), key=lambda it: int(it[0][1])):
+        for _, (crate, part, seconds) in sorted(self.seen.items(), key=lambda it: int(it[0][1])):
             costs.setdefault(crate, {part: [] for part in PARTS})[part].append(seconds)
         return costs
 

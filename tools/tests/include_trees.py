@@ -1,5 +1,5 @@
 """Trees of makefiles with includes that rules make, and their edits, by name; `QUICK` are those of the gate."""
-from include_scenarios import Scenario, Step, both, makefile, replaced, touched, without
+from include_scenarios import Scenario, Step, both, makefile, touched, without
 
 # As kati-port writes them.
 WILD = "include $(dir $(lastword $(MAKEFILE_LIST)))kati-values.mk\nSRCS := $(V_SRCS)\n"

@@ -7,8 +7,7 @@ change. What was as new as the start of that run isn't known, and so is another.
 import os
 
 from ..base import files
-from ..base.programs import bytes_of, text_of
-from . import begun
+from ..base.programs import text_of
 
 NAME = ".inputs"
 UNKNOWN = "?"
