@@ -1,4 +1,5 @@
 //! What command lines ask for.
+use crate::sameness::same;
 use crate::told::told;
 
 /// Words on lines, and what is reported of them.
@@ -64,7 +65,7 @@ const ASKED: [(&str, &str); 41] = [
 fn words_ask(rt: HostRuntime) {
     for (lines, wanted) in ASKED {
         let told = told(&rt, rt.alloc(), lines);
-        assert!(rt; told.as_slice() == wanted.as_bytes(), "{lines:?} {told:?}");
+        same(&rt, lines, told.as_slice(), wanted.as_bytes());
     }
 }
 
@@ -133,7 +134,7 @@ const REFUSED: [(&str, &str); 52] = [
 fn words_are_refused(rt: HostRuntime) {
     for (lines, wanted) in REFUSED {
         let told = told(&rt, rt.alloc(), lines);
-        assert!(rt; told.as_slice() == wanted.as_bytes(), "{lines:?} {told:?}");
+        same(&rt, lines, told.as_slice(), wanted.as_bytes());
     }
 }
 
@@ -145,9 +146,6 @@ fn separators_are_refused(rt: HostRuntime) {
     for word in SEPARATORS {
         let lines = format!(in rt.alloc(); "kati\n{word}").expect(&rt, "memory");
         let told = told(&rt, rt.alloc(), lines.as_str());
-        assert!(rt;
-            told.as_slice().starts_with(b"bad macro "),
-            "{word:?} {told:?}"
-        );
+        same(&rt, word, told.as_slice().starts_with(b"bad macro "), true);
     }
 }

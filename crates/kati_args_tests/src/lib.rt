@@ -5,6 +5,8 @@
 #[cfg(test)]
 mod asking;
 #[cfg(test)]
+mod sameness;
+#[cfg(test)]
 mod texts;
 #[cfg(test)]
 mod told;

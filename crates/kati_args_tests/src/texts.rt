@@ -1,4 +1,5 @@
 //! The texts that answer a command line.
+use crate::sameness::same;
 use crate::told::answer;
 use kati_args::{ArgFault, Word};
 use std::alloc::Global;
@@ -33,7 +34,7 @@ fn text_of(rt: &impl Abort, alloc: Global, lines: &str) -> String {
 fn help_names_each_option(rt: HostRuntime) {
     let text = text_of(&rt, rt.alloc(), "kati\n--help");
     for name in NAMED {
-        assert!(rt; text.as_str().contains(name), "{name} {text}");
+        same(&rt, name, text.as_str().contains(name), true);
     }
 }
 
@@ -50,7 +51,7 @@ const TOLD: [(&str, &str); 5] = [
 fn faults_have_their_text(rt: HostRuntime) {
     for (lines, wanted) in TOLD {
         let text = text_of(&rt, rt.alloc(), lines);
-        assert!(rt; text.as_str().contains(wanted), "{lines:?} {text}");
+        same(&rt, lines, text.as_str().contains(wanted), true);
     }
 }
 

@@ -1,5 +1,6 @@
 //! `run` and `translate`, called as a library's user calls them.
 use crate::in_memory::{ran_in_memory, translated_in_memory};
+use crate::sameness::same;
 use kati::{Args, Outcome, RunFault, Status, args_of};
 use kati_doubles::{files_of, put_messages, sink_of, words_of};
 use kt_eval::{Fault, Files, MemFiles};
@@ -211,10 +212,10 @@ fn a_translation_is_its_outcome(rt: HostRuntime) {
         let args = args(&rt, rt.alloc(), &row);
         let mut files = files(&rt, rt.alloc(), &row, 0);
         match translated(rt.alloc(), &args, &mut files) {
-            Ok(outcome) => assert!(rt; is_meant(rt.alloc(), &outcome, &row), "{}", row.label),
+            Ok(outcome) => same(&rt, row.label, is_meant(rt.alloc(), &outcome, &row), true),
             Err(fault) => assert!(rt; false, "{}: {fault}", row.label),
         }
-        assert!(rt; has_asked(&files, row.names), "{}", row.label);
+        same(&rt, row.label, has_asked(&files, row.names), true);
     }
 }
 
@@ -231,7 +232,7 @@ fn check_reads(rt: &impl Abort, alloc: Global, row: &Row, names: &[&str]) {
     for (before, name) in names.iter().enumerate() {
         let mut files = files(rt, alloc, row, after(before));
         let ended = translated(alloc, &args, &mut files);
-        assert!(rt; is_read_fault(&ended, name), "{} {name}", row.label);
+        same(rt, (row.label, name), is_read_fault(&ended, name), true);
     }
 }
 
@@ -278,9 +279,9 @@ fn check(
     let mut out = sink_of(alloc, devices.1).expect(rt, "memory");
     let mut err = sink_of(alloc, devices.2).expect(rt, "memory");
     let ended = ran(alloc, &args, &mut files, &mut out, &mut err);
-    assert!(rt; is_end(&ended, wanted), "{}", row.label);
-    assert_eq!(rt; out.as_slice(), held.0, "{}", row.label);
-    assert_eq!(rt; err.as_slice(), held.1, "{}", row.label);
+    same(rt, row.label, is_end(&ended, wanted), true);
+    same(rt, row.label, out.as_slice(), held.0);
+    same(rt, row.label, err.as_slice(), held.1);
 }
 
 #[test]

@@ -9,5 +9,7 @@ mod in_memory;
 mod names;
 #[cfg(test)]
 mod runs;
+#[cfg(test)]
+mod sameness;
 
 pub use in_memory::{ran_in_memory, translated_in_memory};

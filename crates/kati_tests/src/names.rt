@@ -1,4 +1,5 @@
 //! Runs over memory, whose files and outputs may fail.
+use crate::sameness::same;
 use kati::asked_names;
 use kati_doubles::{files_of, sink_of, words_of};
 use kt_eval::MemFiles;
@@ -193,7 +194,7 @@ fn check(
 ) {
     let wanted = outcome(alloc, status, out, err);
     let told = ended(rt, alloc, row, devices);
-    assert_eq!(rt; told.as_slice(), wanted.as_slice(), "{}", row.0);
+    same(rt, row.0, told.as_slice(), wanted.as_slice());
 }
 
 #[test]

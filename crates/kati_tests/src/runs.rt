@@ -1,4 +1,5 @@
 //! Runs over memory, whose files and outputs may fail.
+use crate::sameness::same;
 use kati::{RunFault, finish, whole};
 use kati_doubles::{files_of, sink_of, words_of};
 use kt_eval::{Files, MemFiles};
@@ -311,7 +312,7 @@ fn check(
     let wanted = wanted(alloc, names, status, out, err);
     let mut told = Vec::new(alloc);
     let _calls = put_run(&mut told, rt, alloc, row, devices);
-    assert_eq!(rt; told.as_slice(), wanted.as_slice(), "{}", row.0);
+    same(rt, row.0, told.as_slice(), wanted.as_slice());
 }
 
 /// With ample room each text is written by one call, and by a byte a call it is the same text.
@@ -319,13 +320,13 @@ fn check_ends(rt: &impl Abort, alloc: Global, row: &Row) {
     let mut told = Vec::new(alloc);
     let calls = put_run(&mut told, rt, alloc, row, (0, AMPLE, AMPLE));
     let wanted = wanted(alloc, row.3, row.4, row.5, &[row.6]);
-    assert_eq!(rt; told.as_slice(), wanted.as_slice(), "{}", row.0);
+    same(rt, row.0, told.as_slice(), wanted.as_slice());
     if row.4 < 64 {
-        assert_eq!(rt;
+        same(
+            rt,
+            row.0,
             calls,
             (u64::from(!row.5.is_empty()), u64::from(!row.6.is_empty())),
-            "{}",
-            row.0
         );
     }
     let slow = (4096, 1);

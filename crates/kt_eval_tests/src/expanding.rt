@@ -1,4 +1,5 @@
 //! What texts are expanded to.
+use crate::sameness::same;
 use kati_doubles::{put_messages, put_stop};
 use kt_eval::{Flavour, Macro, Macros, NoAutomatic, Origin, Stop, Value};
 use kt_list::Sequence;
@@ -102,7 +103,7 @@ fn expands(rt: HostRuntime) -> Result<(), Fail> {
         ("[$ \\\nb]", "[\\\nb]"),
     ] {
         let found = told(alloc, &macros, text.as_bytes(), 100);
-        assert_eq!(rt; found.as_slice(), expected.as_bytes(), "of {text}");
+        same(&rt, text, found.as_slice(), expected.as_bytes());
     }
     Ok(())
 }
@@ -150,7 +151,7 @@ fn expands_piece_by_piece(rt: HostRuntime) -> Result<(), Fail> {
             }
         }
         let found = told(alloc, &macros, text.as_slice(), 100);
-        assert_eq!(rt; found.as_slice(), wanted.as_slice(), "of {text:?}");
+        same(&rt, text.as_slice(), found.as_slice(), wanted.as_slice());
     }
     Ok(())
 }

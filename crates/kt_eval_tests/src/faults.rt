@@ -1,4 +1,5 @@
 //! Faults, and the lines that tell of them.
+use crate::sameness::same;
 use kt_eval::{Automatic, Fault, NoAutomatic};
 use kt_rules::{FaultKind, Place};
 use kt_rules_doubles::place_of;
@@ -62,11 +63,11 @@ fn place(alloc: Global, line: u64) -> Result<Option<Place>, AllocError> {
 fn tells_of_faults(rt: HostRuntime) -> Result<(), Fail> {
     for (kind, name, line, number, words, told) in ROWS {
         let fault = Fault::new(rt.alloc(), kind, name, place(rt.alloc(), line)?)?;
-        assert_eq!(rt; fault.number, number, "of line {line}");
-        assert_eq!(rt; fault.words.as_slice(), words, "of line {line}");
+        same(&rt, line, fault.number, number);
+        same(&rt, line, fault.words.as_slice(), words);
         let mut text = Vec::new(rt.alloc());
         fault.append_to(&mut text)?;
-        assert_eq!(rt; text.as_slice(), told, "of line {line}");
+        same(&rt, line, text.as_slice(), told);
     }
     Ok(())
 }
@@ -74,7 +75,7 @@ fn tells_of_faults(rt: HostRuntime) -> Result<(), Fail> {
 #[test]
 fn outside_recipes_no_macro_is_automatic(rt: HostRuntime) -> Result<(), Fail> {
     for name in [b"@".as_slice(), b"^D", b"A", b""] {
-        assert!(rt; NoAutomatic.value(name)?.is_none(), "{name:?}");
+        same(&rt, name, NoAutomatic.value(name)?.is_none(), true);
     }
     Ok(())
 }

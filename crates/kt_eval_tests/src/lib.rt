@@ -11,4 +11,6 @@ mod files;
 #[cfg(test)]
 mod reading;
 #[cfg(test)]
+mod sameness;
+#[cfg(test)]
 mod values;

@@ -1,4 +1,5 @@
 //! What makefiles say when they are read, by the rows that kati is to read.
+use crate::sameness::same;
 use kati_doubles::{files_of, put_messages, put_stop};
 use kt_eval::{Files, Flavour, Machine, Macro, Macros, MemFiles, Origin, Reading, Stop, Value};
 use kt_rules::{Book, NeededNames, RecipeLine};
@@ -147,7 +148,7 @@ fn tells(
 ) -> Result<(), AllocError> {
     for (makefile, expected) in rows {
         let found = told(alloc, start, makefile.as_bytes())?;
-        assert_eq!(rt; found.as_slice(), expected.as_bytes(), "of {makefile}");
+        same(rt, makefile, found.as_slice(), expected.as_bytes());
     }
     Ok(())
 }

@@ -1,5 +1,6 @@
 //! The search by itself.
 use crate::reading::takes_all;
+use crate::sameness::same;
 use crate::telling::put_digit;
 use kt_graph::{Choice, Known, Search};
 use kt_rules::Book;
@@ -102,7 +103,7 @@ fn tells(
     for row in rows {
         told.clear();
         put_told(&mut told, alloc, *row, tells_tried)?;
-        assert_eq!(rt; told.as_slice(), row.3, "of {:?}", row.0);
+        same(rt, row.0, told.as_slice(), row.3);
     }
     Ok(())
 }
@@ -211,7 +212,7 @@ fn long_names(rt: HostRuntime) -> Result<(), Fail> {
     for row in ROWS {
         told.clear();
         put_with(&mut told, rt.alloc(), row.0, row.1)?;
-        assert_eq!(rt; told.as_slice(), row.2, "of {} bytes", row.1);
+        same(&rt, row.1, told.as_slice(), row.2);
     }
     Ok(())
 }

@@ -1,6 +1,7 @@
 //! What is to be made.
 use crate::asking::{Asked, Question, put_told};
 use crate::reading::{names, takes_all};
+use crate::sameness::same;
 use kt_graph::{default_goal, named_goals};
 use kt_rules::{Book, Name};
 use kt_testing::put;
@@ -62,7 +63,7 @@ fn of_the_command_line(rt: HostRuntime) -> Result<(), Fail> {
     for row in ROWS {
         told.clear();
         put_named(&mut told, rt.alloc(), row.0)?;
-        assert_eq!(rt; told.as_slice(), row.1, "of {:?}", row.0);
+        same(&rt, row.0, told.as_slice(), row.1);
     }
     Ok(())
 }
@@ -81,7 +82,7 @@ fn of_the_makefile(rt: HostRuntime) -> Result<(), Fail> {
     for row in ROWS {
         told.clear();
         put_standing(&mut told, rt.alloc(), row.0, row.1)?;
-        assert_eq!(rt; told.as_slice(), row.2, "of {:?} and {:?}", row.0, row.1);
+        same(&rt, (row.0, row.1), told.as_slice(), row.2);
     }
     Ok(())
 }

@@ -1,5 +1,6 @@
 //! The statements of graphs.
 use crate::asking::{Asked, Question, told};
+use crate::sameness::same;
 use std::alloc::{AllocError, Global};
 use std::process::Abort;
 use std::test::Fail;
@@ -16,7 +17,7 @@ pub(crate) fn tells(rt: &impl Abort, alloc: Global, rows: &[Row]) -> Result<(), 
             question: Question::Statements,
         };
         let told = told(alloc, asked, row.2)?;
-        assert_eq!(rt; told.as_slice(), row.3, "of {:?}", row.0);
+        same(rt, row.0, told.as_slice(), row.3);
     }
     Ok(())
 }

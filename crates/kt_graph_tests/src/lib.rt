@@ -19,6 +19,8 @@ mod numbering;
 #[cfg(test)]
 mod reading;
 #[cfg(test)]
+mod sameness;
+#[cfg(test)]
 mod sizes;
 #[cfg(test)]
 mod telling;

@@ -1,5 +1,6 @@
 //! Single nodes: kinds, stems, and what each part needs.
 use crate::asking::{Asked, Question, told};
+use crate::sameness::same;
 use std::alloc::{AllocError, Global};
 use std::process::Abort;
 use std::test::Fail;
@@ -15,7 +16,7 @@ fn tells(rt: &impl Abort, alloc: Global, rows: &[Row]) -> Result<(), AllocError>
             question: Question::Node(row.3),
         };
         let told = told(alloc, asked, row.2)?;
-        assert_eq!(rt; told.as_slice(), row.4, "of {:?}", row.0);
+        same(rt, row.0, told.as_slice(), row.4);
     }
     Ok(())
 }

@@ -1,5 +1,6 @@
 //! Graphs, whose names are numbers in the crate, beside graphs of names, by thousands of short books of rules.
 use crate::asking::{Asked, Question, told};
+use crate::sameness::same;
 use kt_testing::{Random, put};
 use std::alloc::Global;
 use std::test::Fail;
@@ -145,7 +146,7 @@ fn graphs_by_numbers_are_graphs_by_names(rt: HostRuntime) -> Result<(), Fail> {
             };
             let found = told(rt.alloc(), asked, b"a")?;
             let wanted = told_by_names(rt.alloc(), rules.as_slice());
-            assert_eq!(rt; found.as_slice(), wanted.as_slice(), "of {text:?}");
+            same(&rt, text.as_slice(), found.as_slice(), wanted.as_slice());
         }
     }
     Ok(())

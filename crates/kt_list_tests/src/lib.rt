@@ -9,6 +9,8 @@ mod names;
 #[cfg(test)]
 mod rows;
 #[cfg(test)]
+mod sameness;
+#[cfg(test)]
 mod sequences;
 #[cfg(test)]
 mod texts;

@@ -1,4 +1,5 @@
 //! Each name has a number.
+use crate::sameness::same;
 use kt_list::{Names, NamesOver};
 use std::alloc::{AllocError, Global};
 
@@ -8,9 +9,9 @@ const LONG: &[u8] = b"a name that is longer than what lies in its value";
 fn numbers_each_name_once(rt: HostRuntime) -> Result<(), AllocError> {
     let names = three_names(rt.alloc())?;
     for (name, number) in [(b"b".as_slice(), 0), (LONG, 1), (b"", 2)] {
-        assert_eq!(rt; names.number_of(name), Some(number), "of {name:?}");
-        assert_eq!(rt; names.get(number), Some(name), "of {name:?}");
-        assert!(rt; names.contains(name), "of {name:?}");
+        same(&rt, name, names.number_of(name), Some(number));
+        same(&rt, name, names.get(number), Some(name));
+        same(&rt, name, names.contains(name), true);
     }
     assert_eq!(rt; names.len(), 3);
     assert_eq!(rt; names.number_of(b"ab"), None);

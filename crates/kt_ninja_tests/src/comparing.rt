@@ -1,4 +1,5 @@
 //! Which plans are equal.
+use crate::sameness::same;
 use kt_ninja::copied_plan;
 use kt_ninja_doubles::plan_of;
 
@@ -29,7 +30,7 @@ fn plans_are_equal_where_they_are_the_same(rt: HostRuntime) {
     for (first, second, wanted) in PAIRS {
         let one = plan_of(rt.alloc(), first);
         let two = plan_of(rt.alloc(), second);
-        assert_eq!(rt; one == two, wanted, "{first:?} {second:?}");
+        same(&rt, (first, second), one == two, wanted);
     }
 }
 
@@ -39,10 +40,11 @@ fn a_copy_is_the_plan(rt: HostRuntime) {
         let one = plan_of(rt.alloc(), first);
         let two = plan_of(rt.alloc(), second);
         let copy = copied_plan(rt.alloc(), &one).expect(&rt, "memory");
-        assert_eq!(rt;
+        same(
+            &rt,
+            (first, second),
             (copy == one, copy == two),
             (true, wanted),
-            "{first:?} {second:?}"
         );
     }
 }

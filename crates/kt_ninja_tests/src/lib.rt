@@ -9,6 +9,8 @@ mod reading;
 #[cfg(test)]
 mod refusing;
 #[cfg(test)]
+mod sameness;
+#[cfg(test)]
 mod spelling;
 #[cfg(test)]
 mod writing;

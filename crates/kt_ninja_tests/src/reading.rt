@@ -1,4 +1,5 @@
 //! Texts that are read and texts that aren't, by the Ninja manual and by kati's own rules.
+use crate::sameness::same;
 use kt_ninja_doubles::shown;
 use kt_ninja_reader::{ReadFault, read_plan};
 use std::alloc::{AllocError, Global};
@@ -197,14 +198,14 @@ fn fault(alloc: Global, text: &[u8]) -> u64 {
 fn texts_say_their_plan(rt: HostRuntime) {
     for (text, plan) in PLANS {
         let told = told(rt.alloc(), text);
-        assert_eq!(rt; told.as_slice(), plan, "{text:?}");
+        same(&rt, text, told.as_slice(), plan);
     }
 }
 
 #[test]
 fn texts_have_their_fault(rt: HostRuntime) {
     for (line, text) in FAULTS {
-        assert_eq!(rt; fault(rt.alloc(), text), line, "{text:?}");
+        same(&rt, text, fault(rt.alloc(), text), line);
     }
 }
 
@@ -225,9 +226,9 @@ fn each_beginning_of_an_output_is_read_or_has_its_line(rt: HostRuntime) {
             _ => (5, b""),
         };
         let beginning = &OUTPUT[..length];
-        assert_eq!(rt; fault(rt.alloc(), beginning), line, "of {length} bytes");
+        same(&rt, length, fault(rt.alloc(), beginning), line);
         let told = told(rt.alloc(), beginning);
-        assert_eq!(rt; told.as_slice(), plan, "of {length} bytes");
+        same(&rt, length, told.as_slice(), plan);
     }
 }
 
@@ -282,10 +283,7 @@ fn long_texts_are_read(rt: HostRuntime) {
         whole.extend_from_slice(back).expect(&rt, "memory");
         let wanted = with_middle(rt.alloc(), plan, middle.as_slice()).expect(&rt, "memory");
         let told = told(rt.alloc(), whole.as_slice());
-        assert!(rt;
-            told.as_slice() == wanted.as_slice(),
-            "{count} times {text:?}"
-        );
+        same(&rt, (count, text), told.as_slice(), wanted.as_slice());
     }
 }
 

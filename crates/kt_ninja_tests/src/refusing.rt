@@ -1,4 +1,5 @@
 //! Plans that can't be written, and what keeps them from it first.
+use crate::sameness::same;
 use kt_ninja::{
     Unwritable, command_can_hold, name_can_be_written, texts_can_be_written, writable,
     writable_view,
@@ -55,8 +56,8 @@ const REFUSED: [(&[u8], Unwritable<'static>); 35] = [
 fn refusals_come_in_order(rt: HostRuntime) {
     for (text, trouble) in REFUSED {
         let plan = plan_of(rt.alloc(), text);
-        assert_eq!(rt; writable(&plan).err(), Some(trouble), "{text:?}");
-        assert_eq!(rt; writable_view(&plan).err(), Some(trouble), "{text:?}");
+        same(&rt, text, writable(&plan).err(), Some(trouble));
+        same(&rt, text, writable_view(&plan).err(), Some(trouble));
     }
 }
 
@@ -81,7 +82,7 @@ const TEXTS: [(&[u8], Option<Unwritable<'static>>); 6] = [
 fn texts_are_told_alone(rt: HostRuntime) {
     for (text, trouble) in TEXTS {
         let plan = plan_of(rt.alloc(), text);
-        assert_eq!(rt; texts_can_be_written(&plan).err(), trouble, "{text:?}");
+        same(&rt, text, texts_can_be_written(&plan).err(), trouble);
     }
 }
 
@@ -99,7 +100,7 @@ const BYTES: [(&[u8], bool, bool); 7] = [
 #[test]
 fn names_and_commands_are_told_by_their_bytes(rt: HostRuntime) {
     for (bytes, is_name, is_command) in BYTES {
-        assert_eq!(rt; name_can_be_written(bytes), is_name, "{bytes:?}");
-        assert_eq!(rt; command_can_hold(bytes), is_command, "{bytes:?}");
+        same(&rt, bytes, name_can_be_written(bytes), is_name);
+        same(&rt, bytes, command_can_hold(bytes), is_command);
     }
 }

@@ -1,4 +1,5 @@
 //! Random plans: what is printed of them, beside a plain printing, and what is read of other spellings of it.
+use crate::sameness::same;
 use crate::writing::written;
 use kt_ninja::{Made, Name, Plan, Statement};
 use kt_ninja_doubles::plan_of;
@@ -207,8 +208,8 @@ fn prints_as_the_plain_way(rt: HostRuntime) {
         put_plan(&mut wanted, &mut random, PRINTED, &plan);
         let step = random.below(9).saturating_add(1);
         let (is_ok, sink) = written(&rt, rt.alloc(), &plan, 8192, step);
-        assert!(rt; is_ok, "of {text:?}");
-        assert_eq!(rt; sink.as_slice(), wanted.as_slice(), "of {text:?}");
+        same(&rt, text.as_slice(), is_ok, true);
+        same(&rt, text.as_slice(), sink.as_slice(), wanted.as_slice());
     }
 }
 

@@ -1,4 +1,5 @@
 //! The texts of plans, and sinks that take them.
+use crate::sameness::same;
 use kt_ninja::{MemSink, Plan, Sink, put, writable, write_plan, write_view};
 use kt_ninja_doubles::plan_of;
 use std::alloc::{AllocError, Global};
@@ -76,9 +77,9 @@ fn plans_have_their_text(rt: HostRuntime) {
     for (plan, text) in TEXTS {
         let plan = plan_of(rt.alloc(), plan);
         let (is_ok, sink) = written(&rt, rt.alloc(), &plan, 1000, 1000);
-        assert_eq!(rt; sink.as_slice(), text, "of {text:?}");
+        same(&rt, text, sink.as_slice(), text);
         let ended = (is_ok, sink.calls(), sink.failures());
-        assert_eq!(rt; ended, (true, 1, 0), "of {text:?}");
+        same(&rt, text, ended, (true, 1, 0));
     }
 }
 
@@ -95,7 +96,7 @@ fn views_have_their_text(rt: HostRuntime) {
     for (plan, text) in TEXTS {
         let plan = plan_of(rt.alloc(), plan);
         let (is_ok, sink) = viewed(&rt, rt.alloc(), &plan);
-        assert_eq!(rt; (is_ok, sink.as_slice()), (true, text), "of {text:?}");
+        same(&rt, text, (is_ok, sink.as_slice()), (true, text));
     }
 }
 
@@ -111,9 +112,9 @@ fn sinks_fail(rt: HostRuntime) {
     for room in 0..COMPILED_TEXT.len() {
         let (is_ok, sink) = written(&rt, rt.alloc(), &plan, room, 1000);
         let calls = if room == 0 { 1 } else { 2 };
-        assert_eq!(rt; sink.as_slice(), &COMPILED_TEXT[..room], "with room {room}");
+        same(&rt, room, sink.as_slice(), &COMPILED_TEXT[..room]);
         let ended = (is_ok, sink.calls(), sink.failures());
-        assert_eq!(rt; ended, (false, calls, 1), "with room {room}");
+        same(&rt, room, ended, (false, calls, 1));
     }
 }
 
@@ -125,8 +126,8 @@ fn sinks_dawdle(rt: HostRuntime) {
     let rows: [(usize, &[u8], u64); 2] = [(1, COMPILED_TEXT, length as u64), (0, b"", 1)];
     for (step, held, calls) in rows {
         let (is_ok, sink) = written(&rt, rt.alloc(), &plan, length, step);
-        assert_eq!(rt; sink.as_slice(), held, "by {step}");
-        assert_eq!(rt; (is_ok, sink.calls()), (step == 1, calls), "by {step}");
+        same(&rt, step, sink.as_slice(), held);
+        same(&rt, step, (is_ok, sink.calls()), (step == 1, calls));
     }
 }
 
@@ -164,10 +165,10 @@ fn blocks_are_handed_over_when_full(rt: HostRuntime) {
         );
         let plan = plan_of(rt.alloc(), plan.as_slice());
         let (is_ok, sink) = written(&rt, rt.alloc(), &plan, 300_000, 4096);
-        assert_eq!(rt; text.len(), length, "of {length} bytes");
-        assert!(rt; sink.as_slice() == text.as_slice(), "of {length} bytes");
+        same(&rt, length, text.len(), length);
+        same(&rt, length, sink.as_slice(), text.as_slice());
         let ended = (is_ok, sink.calls(), sink.failures());
-        assert_eq!(rt; ended, (true, calls, 0), "of {length} bytes");
+        same(&rt, length, ended, (true, calls, 0));
     }
 }
 
@@ -183,13 +184,14 @@ const PIECES: [(&[u8], bool, &[u8], u64, u64); 4] = [
 fn pieces_are_put(rt: HostRuntime) {
     for (piece, wanted, held, calls, failures) in PIECES {
         let mut sink = MemSink::new(rt.alloc(), 7, 2).expect(&rt, "memory");
-        assert_eq!(rt; sink.write(b"abc"), Ok(2), "before {piece:?}");
-        assert_eq!(rt; put(&mut sink, piece).is_ok(), wanted, "of {piece:?}");
-        assert_eq!(rt; sink.as_slice(), held, "of {piece:?}");
-        assert_eq!(rt;
+        same(&rt, piece, sink.write(b"abc").ok(), Some(2));
+        same(&rt, piece, put(&mut sink, piece).is_ok(), wanted);
+        same(&rt, piece, sink.as_slice(), held);
+        same(
+            &rt,
+            piece,
             (sink.calls(), sink.failures()),
             (calls, failures),
-            "of {piece:?}"
         );
     }
 }

@@ -1,4 +1,5 @@
 //! Automatic macros.
+use crate::sameness::same;
 use crate::told::{Asked, Question, Row, tells, told};
 use kt_testing::{Random, put};
 use std::alloc::Global;
@@ -103,7 +104,7 @@ fn lists_each_as_the_plain_way(rt: HostRuntime) {
     for _ in 0..COUNT {
         let (makefile, wanted) = rule(rt.alloc(), &mut random, 24);
         let told = told(&rt, rt.alloc(), makefile.as_slice(), asked);
-        assert_eq!(rt; told.as_slice(), wanted.as_slice(), "of {makefile:?}");
+        same(&rt, makefile.as_slice(), told.as_slice(), wanted.as_slice());
     }
 }
 
@@ -254,10 +255,6 @@ fn gives_values(rt: HostRuntime) {
         };
         let told = told(&rt, rt.alloc(), makefile.as_bytes(), asked);
         let found = told.as_slice().strip_suffix(NONE.as_bytes()).unwrap_or(b"");
-        assert_eq!(rt;
-            found,
-            values.as_bytes(),
-            "of part {part} of {goal} in {makefile}"
-        );
+        same(&rt, (part, goal, makefile), found, values.as_bytes());
     }
 }

@@ -9,4 +9,6 @@ mod commands;
 #[cfg(test)]
 mod quoting;
 #[cfg(test)]
+mod sameness;
+#[cfg(test)]
 mod told;

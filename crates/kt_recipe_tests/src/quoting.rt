@@ -1,6 +1,6 @@
 //! Recipes of pieces that look random, and their commands, which are the commands of the pieces one after the other.
 use crate::told::{Asked, Question, told};
-use kt_testing::{Random, put};
+use kt_testing::{Random, put, same};
 use std::alloc::Global;
 
 /// How many recipes are compared.
@@ -65,6 +65,11 @@ fn commands_are_those_of_their_pieces(rt: HostRuntime) {
     for _ in 0..COUNT {
         let (makefile, command) = makefile(rt.alloc(), &mut random);
         let told = told(&rt, rt.alloc(), makefile.as_slice(), asked);
-        assert_eq!(rt; told.as_slice(), command.as_slice(), "of {makefile:?}");
+        same(
+            &rt,
+            makefile.as_slice(),
+            told.as_slice(),
+            command.as_slice(),
+        );
     }
 }

@@ -1,5 +1,6 @@
 //! What is reported of a makefile: the messages and commands of its goals, or the automatic macros
 //! of one.
+use crate::sameness::same;
 use kati_doubles::{files_of, put_messages, put_stop};
 use kt_eval::{Automatic, Machine, Macros, MemFiles, Reading, Stop};
 use kt_graph::{Graph, Known, Node, graph};
@@ -21,7 +22,7 @@ pub(crate) fn tells(rt: &impl Abort, alloc: Global, limit: u64, rows: &[Row]) {
             question: Question::Commands(limit),
         };
         let told = told(rt, alloc, row.0.as_bytes(), asked);
-        assert_eq!(rt; told.as_slice(), row.3.as_bytes(), "of {}", row.0);
+        same(rt, row.0, told.as_slice(), row.3.as_bytes());
     }
 }
 

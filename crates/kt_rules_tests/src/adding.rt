@@ -1,5 +1,6 @@
 //! Books of rules, a line each.
 use crate::asking::{Question, add, add_lines, answers, put_answer, put_answer_to};
+use crate::sameness::same;
 use crate::telling::put_place;
 use kt_rules::{Book, Place, RuleFault, RuleReader, Warnings};
 use kt_rules_doubles::place_of;
@@ -117,7 +118,7 @@ fn tells_of_any_line(rt: HostRuntime) -> Result<(), Fail> {
     ];
     for row in rows {
         let told = told_of_lines(rt.alloc(), row.0, row.1)?;
-        assert_eq!(rt; told.as_slice(), row.2, "of {:?} and {:?}", row.0, row.1);
+        same(&rt, (row.0, row.1), told.as_slice(), row.2);
     }
     Ok(())
 }
@@ -229,7 +230,7 @@ fn numbers_entries(rt: HostRuntime) -> Result<(), Fail> {
         (b"b", &[]),
     ];
     for (name, expected) in rows {
-        assert_eq!(rt; numbers.noted(name), expected, "of {name:?}");
+        same(&rt, name, numbers.noted(name), expected);
     }
     Ok(())
 }

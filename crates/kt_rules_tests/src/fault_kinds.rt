@@ -1,4 +1,5 @@
 //! The table of faults.
+use crate::sameness::same;
 use kt_rules::FaultKind;
 use std::test::Fail;
 
@@ -49,7 +50,7 @@ fn numbers_each_fault(rt: HostRuntime) -> Result<(), Fail> {
         if next == 25 {
             next = 26;
         }
-        assert_eq!(rt; kind.number(), next, "of {kind:?}");
+        same(&rt, kind, kind.number(), next);
         next += 1;
     }
     assert_eq!(rt; next, 37);
@@ -66,8 +67,8 @@ fn joins_words_and_names(rt: HostRuntime) -> Result<(), Fail> {
     ];
     for row in rows {
         let words = row.0.words_with(rt.alloc(), row.1)?;
-        assert_eq!(rt; row.0.words(), row.2, "of {:?}", row.0);
-        assert_eq!(rt; words.as_slice(), row.3, "of {:?}", row.0);
+        same(&rt, row.0, row.0.words(), row.2);
+        same(&rt, row.0, words.as_slice(), row.3);
     }
     Ok(())
 }

@@ -17,6 +17,8 @@ mod plain_way;
 #[cfg(test)]
 mod reading;
 #[cfg(test)]
+mod sameness;
+#[cfg(test)]
 mod scans;
 #[cfg(test)]
 mod suffixes;

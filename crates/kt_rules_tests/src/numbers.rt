@@ -1,5 +1,6 @@
 //! Names of a book by their numbers.
 use crate::asking::{Question, answers};
+use crate::sameness::same;
 use kt_rules::{Book, RuleFault, RuleReader};
 use kt_rules_doubles::{place_of, text_of};
 use std::alloc::Global;
@@ -130,7 +131,7 @@ fn tells_what_is_made_alike(rt: HostRuntime) -> Result<(), Fail> {
         Ok(book) => {
             for (name, other, expected) in rows {
                 let alike = book.are_made_alike(name, 0, other, 0);
-                assert_eq!(rt; alike, expected, "of {name:?} and {other:?}");
+                same(&rt, (name, other), alike, expected);
             }
         }
         Err(_refused) => assert!(rt; false),

@@ -1,4 +1,5 @@
 //! Rule lines by the GNU make manual and by the rows that kati is to read.
+use crate::sameness::same;
 use crate::telling::{put_fault, put_needs, put_place};
 use kt_rules::{Entry, Kind, RuleFault, RuleReader, TargetView, dotless, without_dots};
 use kt_rules_doubles::{place_of, rule_of, text_of};
@@ -64,7 +65,7 @@ fn told_next(alloc: Global, reader: &mut RuleReader, head: &[u8]) -> Vec<u8> {
 fn tells(rt: &impl Abort, alloc: Global, rows: &[(&[u8], &[u8])]) {
     for row in rows {
         let told = told(alloc, row.0);
-        assert_eq!(rt; told.as_slice(), row.1, "of {:?}", row.0);
+        same(rt, row.0, told.as_slice(), row.1);
     }
 }
 
@@ -237,7 +238,7 @@ fn reads_long_words(rt: HostRuntime) {
     for row in rows {
         let told = told(alloc, lengthened(alloc, row.0).as_slice());
         let expected = lengthened(alloc, row.1);
-        assert_eq!(rt; told.as_slice(), expected.as_slice(), "of {:?}", row.0);
+        same(&rt, row.0, told.as_slice(), expected.as_slice());
     }
 }
 
@@ -306,7 +307,7 @@ fn tells_file_and_line(rt: HostRuntime) -> Result<(), Fail> {
     ];
     for row in rows {
         let told = told_of_line(rt.alloc(), row.0)?;
-        assert_eq!(rt; told.as_slice(), row.1, "of {:?}", row.0);
+        same(&rt, row.0, told.as_slice(), row.1);
     }
     Ok(())
 }
@@ -327,7 +328,7 @@ fn prints_faults(rt: HostRuntime) -> Result<(), Fail> {
     ];
     for row in rows {
         let printed = printed(rt.alloc(), row.0)?;
-        assert_eq!(rt; printed.as_str(), row.1, "of {:?}", row.0);
+        same(&rt, row.0, printed.as_str(), row.1);
     }
     Ok(())
 }
@@ -344,9 +345,9 @@ fn removes_leading_dots(rt: HostRuntime) -> Result<(), Fail> {
         (b"/./x", b"/./x"),
         (b".", b"."),
     ] {
-        assert_eq!(rt; without_dots(name), left, "of {name:?}");
+        same(&rt, name, without_dots(name), left);
         let owned = dotless(rt.alloc(), Vec::from_slice(rt.alloc(), name)?)?;
-        assert_eq!(rt; owned.as_slice(), left, "of {name:?}");
+        same(&rt, name, owned.as_slice(), left);
     }
     Ok(())
 }

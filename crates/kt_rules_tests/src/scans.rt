@@ -3,6 +3,7 @@
 use crate::asking::{Question, answer};
 use crate::plain_way;
 use crate::reading::told;
+use crate::sameness::same;
 use kt_list::Names;
 use kt_rules::{Index, Name};
 use kt_testing::{Random, put};
@@ -31,13 +32,10 @@ fn numbers_names_as_the_plain_way(rt: HostRuntime) -> Result<(), Fail> {
         for _ in 0..random.below(12) {
             let name = random.text(rt.alloc(), NAMES, 3);
             let number = names.number(name.as_slice())?;
-            assert_eq!(rt;
-                number,
-                plain_way::number(&mut wanted, name),
-                "of {wanted:?}"
-            );
+            let expected = plain_way::number(&mut wanted, name);
+            assert_eq!(rt; number, expected);
         }
-        assert!(rt; names.as_slice() == wanted.as_slice(), "{wanted:?}");
+        assert!(rt; names.as_slice() == wanted.as_slice());
     }
     Ok(())
 }
@@ -55,7 +53,7 @@ fn notes_as_the_plain_way(rt: HostRuntime) -> Result<(), Fail> {
         }
         for name in NAMES {
             let wanted = plain_way::noted(rt.alloc(), notes.as_slice(), name);
-            assert_eq!(rt; index.noted(name), wanted.as_slice(), "{notes:?}");
+            same(&rt, name, index.noted(name), wanted.as_slice());
         }
     }
     Ok(())
@@ -85,7 +83,7 @@ fn reads_heads_as_the_plain_way(rt: HostRuntime) {
         let head = head(rt.alloc(), targets.as_slice(), prerequisites.as_slice());
         let wanted = plain_way::rule(rt.alloc(), targets.as_slice(), prerequisites.as_slice());
         let found = told(rt.alloc(), head.as_slice());
-        assert_eq!(rt; found.as_slice(), wanted.as_slice(), "of {head:?}");
+        same(&rt, head.as_slice(), found.as_slice(), wanted.as_slice());
     }
 }
 
@@ -117,7 +115,7 @@ fn cuts_suffixes_as_the_plain_way(rt: HostRuntime) -> Result<(), Fail> {
         let text = rules(rt.alloc(), suffixes.as_slice(), target.as_slice());
         let wanted = plain_way::suffix_rule(rt.alloc(), suffixes.as_slice(), target.as_slice());
         let found = answer(rt.alloc(), text.as_slice(), Question::Patterns)?;
-        assert_eq!(rt; found.as_slice(), wanted.as_slice(), "of {text:?}");
+        same(&rt, text.as_slice(), found.as_slice(), wanted.as_slice());
     }
     Ok(())
 }

@@ -1,7 +1,7 @@
 //! Suffixes in names, beside a plain loop over them.
 use crate::asking::{Question, add, answers};
 use kt_rules::{Book, Name, RuleFault};
-use kt_testing::{Random, put};
+use kt_testing::{Random, put, same};
 use std::alloc::Global;
 use std::test::Fail;
 
@@ -53,11 +53,11 @@ fn agrees_with_a_plain_loop(rt: HostRuntime) -> Result<(), Fail> {
             for _ in 0..20 {
                 let name = random_name(alloc, b"", &mut random);
                 let expected = plain_suffix(book.suffixes(), name.as_slice());
-                assert_eq!(rt;
+                same(
+                    &rt,
+                    name.as_slice(),
                     book.suffix_of(name.as_slice()),
                     expected,
-                    "of {:?}",
-                    name.as_slice()
                 );
             }
         }

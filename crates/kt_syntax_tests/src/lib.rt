@@ -11,4 +11,6 @@ mod plain_way;
 #[cfg(test)]
 mod random_lines;
 #[cfg(test)]
+mod sameness;
+#[cfg(test)]
 mod scans;

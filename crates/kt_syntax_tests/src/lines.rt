@@ -1,4 +1,5 @@
 //! Terms, kinds of lines and texts of parts, from the manuals and kati's own rules.
+use crate::sameness::same;
 use kt_syntax::{
     Directive, Form, LineText, Mark, Operator, Term, classify, classify_text, plain, recipe_text,
     rule_parts, terms,
@@ -44,7 +45,7 @@ fn cuts_texts(rt: HostRuntime) -> Result<(), Fail> {
     ];
     for (text, expected) in rows {
         let found = told(text, &rt)?;
-        assert_eq!(rt; found.as_slice(), expected, "of {text:?}");
+        same(&rt, text, found.as_slice(), expected);
     }
     Ok(())
 }
@@ -138,7 +139,7 @@ fn tells_kinds(rt: HostRuntime) -> Result<(), Fail> {
     for (text, tab, expected) in rows {
         let line = LineText::new(rt.alloc(), text)?;
         let found = kind_view(&line, tab, &rt)?;
-        assert_eq!(rt; found.as_slice(), expected, "of {text:?}");
+        same(&rt, text, found.as_slice(), expected);
     }
     Ok(())
 }
@@ -203,7 +204,7 @@ fn cuts_rule_lines(rt: HostRuntime) -> Result<(), Fail> {
     for (text, expected) in rows {
         let line = LineText::new(rt.alloc(), text)?;
         let found = parts_told(&line, &rt)?;
-        assert_eq!(rt; found.as_slice(), expected, "of {text:?}");
+        same(&rt, text, found.as_slice(), expected);
     }
     Ok(())
 }
@@ -229,7 +230,7 @@ fn drops_comments(rt: HostRuntime) -> Result<(), Fail> {
     ];
     for (text, expected) in rows {
         let found = plain(rt.alloc(), text)?;
-        assert_eq!(rt; found.as_slice(), expected, "of {text:?}");
+        same(&rt, text, found.as_slice(), expected);
     }
     Ok(())
 }
@@ -250,7 +251,7 @@ fn condenses_parts(rt: HostRuntime) -> Result<(), Fail> {
     ];
     for (text, expected) in rows {
         let found = plain(rt.alloc(), text)?;
-        assert_eq!(rt; found.as_slice(), expected, "of {text:?}");
+        same(&rt, text, found.as_slice(), expected);
     }
     Ok(())
 }
@@ -273,7 +274,7 @@ fn joins_recipe_lines(rt: HostRuntime) -> Result<(), Fail> {
     ];
     for (text, expected) in rows {
         let found = recipe_text(rt.alloc(), text)?;
-        assert_eq!(rt; found.as_slice(), expected, "of {text:?}");
+        same(&rt, text, found.as_slice(), expected);
     }
     Ok(())
 }
@@ -294,7 +295,7 @@ fn joins_references_of_recipe_lines(rt: HostRuntime) -> Result<(), Fail> {
     ];
     for (text, expected) in rows {
         let found = recipe_text(rt.alloc(), text)?;
-        assert_eq!(rt; found.as_slice(), expected, "of {text:?}");
+        same(&rt, text, found.as_slice(), expected);
     }
     Ok(())
 }

@@ -1,4 +1,5 @@
 //! Blocks of texts, from the manual and kati's own rules.
+use crate::sameness::same;
 use kt_syntax::{Missing, Step, Stray, blocks, marked_blocks};
 use kt_text::{line_marks, logical_lines};
 use std::test::Fail;
@@ -114,7 +115,7 @@ fn finds_blocks(rt: HostRuntime) -> Result<(), Fail> {
     ];
     for (text, expected) in rows {
         let found = told(text, &rt)?;
-        assert_eq!(rt; found.as_slice(), expected, "of {text:?}");
+        same(&rt, text, found.as_slice(), expected);
     }
     Ok(())
 }

@@ -1,5 +1,6 @@
 //! Kinds of random lines, beside a plain reading of them: byte after byte, with a second line that says what stands
 //! outside references.
+use crate::sameness::same;
 use kt_syntax::{Form, classify_text};
 use std::test::Fail;
 
@@ -238,9 +239,9 @@ fn tells_random_lines(rt: HostRuntime) -> Result<(), Fail> {
         let tab = seed % 5 == 0;
         let (kind, first, second) = plainly(&line, tab);
         let (found_kind, found_first, found_second) = told(classify_text(&line.text, tab), first);
-        assert_eq!(rt; found_kind, kind, "of {seed}");
-        assert_eq!(rt; found_first, first, "of {seed}");
-        assert_eq!(rt; found_second, second, "of {seed}");
+        same(&rt, seed, found_kind, kind);
+        same(&rt, seed, found_first, first);
+        same(&rt, seed, found_second, second);
     }
     Ok(())
 }

@@ -1,6 +1,7 @@
 //! Scans of many bytes at a time and lines that aren't copied, beside plain ones, on thousands of short texts.
 use crate::lines::{kind_view, told};
 use crate::plain_way;
+use crate::sameness::same;
 use kt_syntax::{LineText, plain, recipe_text};
 use kt_testing::Random;
 use kt_text::joined;
@@ -22,7 +23,7 @@ fn cuts_as_the_plain_way(rt: HostRuntime) -> Result<(), Fail> {
         let text = random.text(rt.alloc(), PIECES, 12);
         let wanted = plain_way::terms(rt.alloc(), text.as_slice());
         let found = told(text.as_slice(), &rt)?;
-        assert_eq!(rt; found.as_slice(), wanted.as_slice(), "of {text:?}");
+        same(&rt, text.as_slice(), found.as_slice(), wanted.as_slice());
     }
     Ok(())
 }
@@ -35,7 +36,7 @@ fn drops_comments_as_the_plain_way(rt: HostRuntime) -> Result<(), Fail> {
         let line = joined(rt.alloc(), text.as_slice())?;
         let wanted = plain_way::uncommented(rt.alloc(), line.as_slice());
         let found = plain(rt.alloc(), text.as_slice())?;
-        assert_eq!(rt; found.as_slice(), wanted.as_slice(), "of {text:?}");
+        same(&rt, text.as_slice(), found.as_slice(), wanted.as_slice());
     }
     Ok(())
 }
@@ -47,7 +48,7 @@ fn joins_recipes_as_the_plain_way(rt: HostRuntime) -> Result<(), Fail> {
         let text = random.text(rt.alloc(), PIECES, 12);
         let wanted = plain_way::recipe_text(rt.alloc(), text.as_slice());
         let found = recipe_text(rt.alloc(), text.as_slice())?;
-        assert_eq!(rt; found.as_slice(), wanted.as_slice(), "of {text:?}");
+        same(&rt, text.as_slice(), found.as_slice(), wanted.as_slice());
     }
     Ok(())
 }
@@ -75,9 +76,9 @@ fn tells_assignments_as_the_plain_way(rt: HostRuntime) -> Result<(), Fail> {
         let wanted = plain_way::assignment(rt.alloc(), line.text());
         let found = kind_view(&line, false, &rt)?;
         if wanted.is_empty() {
-            assert!(rt; !is_assignment(found.as_slice()), "of {text:?}");
+            same(&rt, text.as_slice(), is_assignment(found.as_slice()), false);
         } else {
-            assert_eq!(rt; found.as_slice(), wanted.as_slice(), "of {text:?}");
+            same(&rt, text.as_slice(), found.as_slice(), wanted.as_slice());
         }
     }
     Ok(())

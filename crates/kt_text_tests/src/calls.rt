@@ -1,4 +1,5 @@
 //! Worked values of each call, by the manuals and by GNU make.
+use crate::sameness::same;
 use kt_text::functions::TextFunction;
 use kt_text::{
     Line, LineFault, Mark, TextFault, condensed, front_number, functions, has_percent, is_blank,
@@ -26,7 +27,7 @@ fn first_bytes_make_a_number(rt: HostRuntime) {
         (b"abcdefghij", 0x6162_6364_6566_6768),
     ];
     for (text, wanted) in rows {
-        assert_eq!(rt; front_number(text), wanted, "of {text:?}");
+        same(&rt, text, front_number(text), wanted);
     }
 }
 
@@ -43,7 +44,7 @@ fn patterns_match(rt: HostRuntime) {
     ];
     for (pattern, word, wanted) in rows {
         let stem = match_pattern(pattern, word).map(|stem| (stem.start, stem.end));
-        assert_eq!(rt; stem, wanted, "of {pattern:?} and {word:?}");
+        same(&rt, (pattern, word), stem, wanted);
     }
 }
 
@@ -58,10 +59,11 @@ fn text_functions_are_found_by_name(rt: HostRuntime) {
     ];
     for (name, wanted) in rows {
         let found = TextFunction::named(name);
-        assert_eq!(rt;
+        same(
+            &rt,
+            name,
             found.map(|function| (function, function.arity())),
             wanted,
-            "of {name:?}"
         );
         if let Some(function) = found {
             assert_eq!(rt; function.name(), name);
@@ -80,7 +82,7 @@ fn text_functions_are_applied(rt: HostRuntime) -> Result<(), Fail> {
     ];
     for (function, wanted) in rows {
         let result = function.apply(alloc, b"a", b"b", b"ba,b")?;
-        assert_eq!(rt; result.as_slice(), wanted, "of {function:?}");
+        same(&rt, function, result.as_slice(), wanted);
     }
     assert_eq!(rt;
         TextFunction::Word.apply(alloc, b"a", b"b", b"").is_err(),
@@ -100,8 +102,8 @@ fn stems_are_put_in(rt: HostRuntime) -> Result<(), Fail> {
     for (pattern, is_pattern, wanted) in rows {
         let mut text = Vec::from_slice(rt.alloc(), b"d/")?;
         push_with_stem(&mut text, pattern, b"x")?;
-        assert_eq!(rt; text.as_slice(), wanted, "of {pattern:?}");
-        assert_eq!(rt; has_percent(pattern), is_pattern, "of {pattern:?}");
+        same(&rt, pattern, text.as_slice(), wanted);
+        same(&rt, pattern, has_percent(pattern), is_pattern);
     }
     Ok(())
 }
@@ -150,15 +152,15 @@ fn lines_are_joined(rt: HostRuntime) -> Result<(), Fail> {
     ];
     for (text, wanted) in rows {
         let lines = logical_lines(rt.alloc(), text)?;
-        assert_eq!(rt; lines.len(), wanted.len(), "of {text:?}");
+        same(&rt, text, lines.len(), wanted.len());
         let marks = line_marks(rt.alloc(), text)?;
-        assert_eq!(rt; marks.len(), wanted.len(), "marks of {text:?}");
+        same(&rt, text, marks.len(), wanted.len());
         for ((line, mark), (start, end, number, tab)) in lines.iter().zip(&marks).zip(wanted) {
-            assert_eq!(rt; line.span.start, *start, "start in {text:?}");
-            assert_eq!(rt; line.span.end, *end, "end in {text:?}");
-            assert_eq!(rt; line.number, *number, "number in {text:?}");
-            assert_eq!(rt; line.tab, *tab, "tab in {text:?}");
-            assert!(rt; mark.line() == *line, "mark in {text:?}");
+            same(&rt, text, line.span.start, *start);
+            same(&rt, text, line.span.end, *end);
+            same(&rt, text, line.number, *number);
+            same(&rt, text, line.tab, *tab);
+            same(&rt, text, mark.line() == *line, true);
         }
     }
     Ok(())
@@ -178,7 +180,7 @@ fn marks_hold_lines(rt: HostRuntime) -> Result<(), Fail> {
             number,
             tab: false,
         };
-        assert!(rt; Mark::of(&beyond).is_err(), "line {number} to byte {end}");
+        same(&rt, (number, end), Mark::of(&beyond).is_err(), true);
     }
     Ok(())
 }
@@ -188,7 +190,7 @@ fn a_nul_has_its_line(rt: HostRuntime) {
     let rows: [(&[u8], u64); 3] = [(b"\0", 1), (b"a\n\0", 2), (b"a \\\nb\0\n\0", 2)];
     for (text, wanted) in rows {
         match logical_lines(rt.alloc(), text) {
-            Err(LineFault::Nul(number)) => assert_eq!(rt; number, wanted, "of {text:?}"),
+            Err(LineFault::Nul(number)) => same(&rt, text, number, wanted),
             _ => assert!(rt; false, "{text:?} has lines"),
         }
     }
@@ -214,11 +216,7 @@ fn continuations_are_condensed(rt: HostRuntime) -> Result<(), Fail> {
         (b"", b""),
     ];
     for (text, wanted) in rows {
-        assert_eq!(rt;
-            condensed(rt.alloc(), text)?.as_slice(),
-            wanted,
-            "of {text:?}"
-        );
+        same(&rt, text, condensed(rt.alloc(), text)?.as_slice(), wanted);
     }
     Ok(())
 }
@@ -234,7 +232,7 @@ fn lines_are_joined_to_one(rt: HostRuntime) -> Result<(), Fail> {
     ];
     for (line, wanted) in rows {
         let found = joined(rt.alloc(), line)?;
-        assert_eq!(rt; found.as_slice(), wanted, "of {line:?}");
+        same(&rt, line, found.as_slice(), wanted);
     }
     Ok(())
 }
@@ -267,7 +265,7 @@ fn late_lines_have_great_numbers(rt: HostRuntime) -> Result<(), Fail> {
 
 fn assert_text(rt: &impl Abort, answer: Result<Vec<u8>, TextFault>, wanted: &[u8]) {
     match answer {
-        Ok(text) => assert_eq!(rt; text.as_slice(), wanted, "in place of {wanted:?}"),
+        Ok(text) => same(rt, wanted, text.as_slice(), wanted),
         Err(_) => assert!(rt; false, "refused"),
     }
 }

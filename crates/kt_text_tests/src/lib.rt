@@ -7,4 +7,6 @@ mod calls;
 #[cfg(test)]
 mod plain_way;
 #[cfg(test)]
+mod sameness;
+#[cfg(test)]
 mod scans;

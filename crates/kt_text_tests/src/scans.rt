@@ -1,5 +1,6 @@
 //! Scans of many bytes at a time beside plain ones, on thousands of short texts.
 use crate::plain_way;
+use crate::sameness::same;
 use kt_testing::{Random, put};
 use kt_text::{condensed, functions, joined, logical_lines, match_pattern, words};
 use std::alloc::Global;
@@ -21,9 +22,9 @@ fn condenses_as_the_plain_way(rt: HostRuntime) -> Result<(), Fail> {
         let text = random.text(rt.alloc(), LINES, 12);
         let wanted = plain_way::condensed(rt.alloc(), text.as_slice());
         let found = condensed(rt.alloc(), text.as_slice())?;
-        assert_eq!(rt; found.as_slice(), wanted.as_slice(), "of {text:?}");
+        same(&rt, text.as_slice(), found.as_slice(), wanted.as_slice());
         let found = joined(rt.alloc(), text.as_slice())?;
-        assert_eq!(rt; found.as_slice(), wanted.as_slice(), "of {text:?}");
+        same(&rt, text.as_slice(), found.as_slice(), wanted.as_slice());
     }
     Ok(())
 }
@@ -45,7 +46,7 @@ fn cuts_lines_as_the_plain_way(rt: HostRuntime) -> Result<(), Fail> {
         let text = random.text(rt.alloc(), LINES, 12);
         let wanted = plain_way::logical_lines(rt.alloc(), text.as_slice());
         let found = places(rt.alloc(), text.as_slice())?;
-        assert!(rt; found.as_slice() == wanted.as_slice(), "of {text:?}");
+        same(&rt, text.as_slice(), found.as_slice(), wanted.as_slice());
     }
     Ok(())
 }
@@ -83,7 +84,7 @@ fn cuts_words_as_the_plain_way(rt: HostRuntime) {
         let text = random.text(rt.alloc(), WORDS, 14);
         let wanted = plain_way::words(rt.alloc(), text.as_slice());
         let found = told_words(rt.alloc(), text.as_slice());
-        assert_eq!(rt; found.as_slice(), wanted.as_slice(), "of {text:?}");
+        same(&rt, text.as_slice(), found.as_slice(), wanted.as_slice());
     }
 }
 
@@ -98,10 +99,11 @@ fn replaces_as_the_plain_way(rt: HostRuntime) -> Result<(), Fail> {
         let text = random.text(rt.alloc(), FEW, 16);
         let wanted = plain_way::subst(rt.alloc(), from.as_slice(), b"xyz", text.as_slice());
         let found = functions::subst(rt.alloc(), from.as_slice(), b"xyz", text.as_slice())?;
-        assert_eq!(rt;
+        same(
+            &rt,
+            (from.as_slice(), text.as_slice()),
             found.as_slice(),
             wanted.as_slice(),
-            "of {from:?} in {text:?}"
         );
     }
     Ok(())
@@ -119,7 +121,7 @@ fn matches_as_the_plain_way(rt: HostRuntime) {
         let wanted = plain_way::stem(pattern.as_slice(), word.as_slice());
         let found = match_pattern(pattern.as_slice(), word.as_slice());
         let found = found.map(|stem| (stem.start, stem.end));
-        assert_eq!(rt; found, wanted, "of {pattern:?} and {word:?}");
+        same(&rt, (pattern.as_slice(), word.as_slice()), found, wanted);
     }
 }
 
@@ -150,7 +152,7 @@ fn sorts_as_the_plain_way(rt: HostRuntime) -> Result<(), Fail> {
         let text = list(rt.alloc(), &mut random, 20)?;
         let wanted = plain_way::sorted(rt.alloc(), text.as_slice());
         let found = functions::sort(rt.alloc(), text.as_slice())?;
-        assert_eq!(rt; found.as_slice(), wanted.as_slice(), "of {text:?}");
+        same(&rt, text.as_slice(), found.as_slice(), wanted.as_slice());
     }
     Ok(())
 }
@@ -158,18 +160,10 @@ fn sorts_as_the_plain_way(rt: HostRuntime) -> Result<(), Fail> {
 fn selects(rt: &impl Abort, alloc: Global, patterns: &[u8], text: &[u8]) -> Result<(), Fail> {
     let found = functions::filter(alloc, patterns, text)?;
     let wanted = plain_way::selected(alloc, patterns, text, true);
-    assert_eq!(rt;
-        found.as_slice(),
-        wanted.as_slice(),
-        "of {patterns:?} in {text:?}"
-    );
+    same(rt, (patterns, text), found.as_slice(), wanted.as_slice());
     let found = functions::filter_out(alloc, patterns, text)?;
     let wanted = plain_way::selected(alloc, patterns, text, false);
-    assert_eq!(rt;
-        found.as_slice(),
-        wanted.as_slice(),
-        "of {patterns:?} out of {text:?}"
-    );
+    same(rt, (patterns, text), found.as_slice(), wanted.as_slice());
     Ok(())
 }
 

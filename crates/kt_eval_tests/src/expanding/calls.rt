@@ -1,4 +1,5 @@
 //! What references ask for, and what text functions give.
+use crate::sameness::same;
 use kt_eval::{Asked, Function, TextFunction, Value, names_plainly, text_result};
 use kt_syntax::Mark;
 use kt_testing::put;
@@ -53,7 +54,7 @@ fn tells_what_is_asked(rt: HostRuntime) -> Result<(), Fail> {
         let asked = Asked::by(rt.alloc(), mark, body.as_bytes())?;
         let mut told = Vec::new(rt.alloc());
         put_asked(&mut told, &asked);
-        assert_eq!(rt; told.as_slice(), expected.as_bytes(), "of {body}");
+        same(&rt, body, told.as_slice(), expected.as_bytes());
     }
     Ok(())
 }
@@ -70,7 +71,7 @@ fn tells_plain_names(rt: HostRuntime) {
         (Mark::Parentheses, "A:b=c", false),
         (Mark::Braces, "$x", false),
     ] {
-        assert_eq!(rt; names_plainly(mark, body.as_bytes()), plain, "of {body}");
+        same(&rt, body, names_plainly(mark, body.as_bytes()), plain);
     }
 }
 

@@ -1,7 +1,7 @@
 //! Texts over macros that refer to one another, expanded with few levels, beside a plain way that goes level by level.
 use super::told;
 use kt_eval::{Flavour, Macro, Macros, Origin};
-use kt_testing::{Random, put};
+use kt_testing::{Random, put, same};
 use std::alloc::{AllocError, Global};
 use std::test::Fail;
 
@@ -157,10 +157,11 @@ fn expands_level_by_level(rt: HostRuntime) -> Result<(), Fail> {
             let text = spelled(alloc, pieces.as_slice());
             let found = told(alloc, &macros, text.as_slice(), limit);
             let wanted = wanted(alloc, values.as_slice(), pieces.as_slice(), limit);
-            assert_eq!(rt;
+            same(
+                &rt,
+                (text.as_slice(), limit),
                 found.as_slice(),
                 wanted.as_slice(),
-                "of {text:?} with {limit} levels"
             );
         }
     }

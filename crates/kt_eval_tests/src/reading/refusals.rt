@@ -1,5 +1,6 @@
 //! Reads that fail, and readings after a refusal.
 use super::{put_asked, read};
+use crate::sameness::same;
 use kati_doubles::{files_of, put_messages, put_stop};
 use kt_eval::{Files, Machine, Macros, MemFiles, Stop};
 use kt_testing::put;
@@ -47,11 +48,7 @@ fn fails(
 ) -> Result<(), AllocError> {
     for (nth, expected) in rows {
         let found = told_twice(alloc, named, *nth)?;
-        assert_eq!(rt;
-            found.as_slice(),
-            expected.as_bytes(),
-            "with read {nth} failing"
-        );
+        same(rt, nth, found.as_slice(), expected.as_bytes());
     }
     Ok(())
 }
