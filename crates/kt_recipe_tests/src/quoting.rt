@@ -1,6 +1,7 @@
 //! Recipes of pieces that look random, and their commands, which are the commands of the pieces one after the other.
+use crate::sameness::same;
 use crate::told::{Asked, Question, told};
-use kt_testing::{Random, put, same};
+use kt_testing::{Random, put};
 use std::alloc::Global;
 
 /// How many recipes are compared.

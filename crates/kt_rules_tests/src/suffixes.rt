@@ -1,7 +1,8 @@
 //! Suffixes in names, beside a plain loop over them.
 use crate::asking::{Question, add, answers};
+use crate::sameness::same;
 use kt_rules::{Book, Name, RuleFault};
-use kt_testing::{Random, put, same};
+use kt_testing::{Random, put};
 use std::alloc::Global;
 use std::test::Fail;
 

@@ -1,7 +1,8 @@
 //! Texts over macros that refer to one another, expanded with few levels, beside a plain way that goes level by level.
+use crate::sameness::same;
 use super::told;
 use kt_eval::{Flavour, Macro, Macros, Origin};
-use kt_testing::{Random, put, same};
+use kt_testing::{Random, put};
 use std::alloc::{AllocError, Global};
 use std::test::Fail;
 
