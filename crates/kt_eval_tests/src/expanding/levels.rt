@@ -1,6 +1,6 @@
 //! Texts over macros that refer to one another, expanded with few levels, beside a plain way that goes level by level.
-use crate::sameness::same;
 use super::told;
+use crate::sameness::same;
 use kt_eval::{Flavour, Macro, Macros, Origin};
 use kt_testing::{Random, put};
 use std::alloc::{AllocError, Global};
