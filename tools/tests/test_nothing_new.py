@@ -1,12 +1,27 @@
 """Runs of kati-build that have nothing new to translate, and so run no kati, beside those that have."""
 import os
+import shutil
+import sys
 import unittest
 
-from support import Tree, needs
+from support import TOP, Tree, needs
 
 # A recipe that makes a file and takes it away again, as programs do that name their version.
 VERSION = "out: .version a.o\n\tcat .version a.o > out\n%.o: %.c ; cat $< > $@\n" \
     ".version: force\n\t@echo 1 > .v.new; cmp -s .version .v.new || cp .v.new .version; rm -f .v.new\nforce:\n"
+
+# Runs kati-build and tells which files were opened, and which modules were loaded.
+LOOKING = """\
+import os, sys
+opened = set()
+sys.addaudithook(lambda event, given: opened.add(str(given[0])) if event == "open" else None)
+sys.path.insert(0, sys.argv.pop(1))
+sys.argv.pop(0)
+from kati_tools.port import building
+status = building.main(sys.argv[1:])
+print("", *opened, *(f"loads {name}" for name in sys.modules), sep="\\n")
+sys.exit(status)
+"""
 
 
 @needs("kati", "kati-asked", "make", "ninja")
@@ -102,6 +117,34 @@ class Nothing(Tree):
                 self.assertGreater(self.runs("ninja"), 0)
                 self.assertEqual(self.read("build.kati/translated.ninja"), before)
                 self.assertEqual(self.runs("ninja"), 0)
+
+    def test_nothing_is_read_or_loaded_that_is_not_needed(self):
+        self.put("Makefile", "V := $(shell cat doc/x)\nout: a.c ; cat a.c > out\n")
+        for _ in range(3):
+            self.let_time_pass()
+            told = self.run_in(sys.executable, "-B", "-S", "-c", LOOKING, TOP / "share/kati",
+                               self.tool_path("kati-build"), "--port", **self.environment).out.split("\n")
+        loaded = {line.split(" ")[1].replace(".", "/") for line in told if line.startswith("loads kati_tools.")}
+        read = {line.split("/share/kati/")[1][:-len(".py")] for line in told
+                if "/share/kati/" in line and line.endswith(".py")}
+        self.assertLessEqual(read, {*loaded, *(f"{one}/__init__" for one in loaded), "kati_tools/__init__"})
+        self.assertNotIn("loads subprocess", told)
+        self.assertIn("loads kati_tools.port.building", told)
+
+    def test_a_tool_that_is_another_one_now(self):
+        place = self.top.parent / "installed"
+        for name in ("share/kati", "tools"):
+            shutil.copytree(TOP / name, place / name, ignore=shutil.ignore_patterns("tests", "__pycache__"))
+        tool = place / "tools/kati-build"
+        self.put("Makefile", "V := $(shell cat doc/x)\nout: a.c ; cat a.c > out\n")
+        for _ in range(2):
+            self.let_time_pass()
+            self.runs(tool, "--port")
+        self.assertEqual(self.runs(tool, "--port"), 0)
+        with open(place / "share/kati/kati_tools/port/port_report.py", "a", encoding="ascii") as file:
+            file.write("# another one\n")
+        ran = self.run_in(tool, "--port", **self.environment)
+        self.assertIn("kati-build: kati or these tools are others: make is asked again\n", ran.said)
 
     def test_values_of_a_port(self):
         self.settled("--port", makefile="V := $(shell cat doc/x)\n" + VERSION)

@@ -31,6 +31,13 @@ class Stop(Exception):
         self.status = status
 
 
+def own_sources():
+    """The paths of these tools' own files, on which hangs what they write."""
+    for folder, inner, names in os.walk(SHARE):
+        inner.sort()
+        yield from (os.path.join(folder, name) for name in sorted(names) if name.endswith((".py", ".mk")))
+
+
 def which(name):
     """The path of a program as the shell finds it by its name, or None."""
     folders = [""] if os.path.dirname(name) else os.environ.get("PATH", os.defpath).split(os.pathsep)
@@ -156,7 +163,12 @@ def ended(pid, call):
         os.kill(pid, KILL_SIGNAL)
         os.waitpid(pid, 0)
         raise
-    return -os.WTERMSIG(status) if os.WIFSIGNALED(status) else os.WEXITSTATUS(status), told
+    return status_of(status), told
+
+
+def status_of(told):
+    """The status of a process, by what the system told where it was waited for; negative where a signal ended it."""
+    return -os.WTERMSIG(told) if os.WIFSIGNALED(told) else os.WEXITSTATUS(told)
 
 
 def say(tool, words):

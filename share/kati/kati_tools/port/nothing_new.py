@@ -4,7 +4,7 @@ import os
 import sys
 
 from ..base import files, own_files
-from ..base.programs import SHARE, say
+from ..base.programs import SHARE, own_sources, say
 from ..build import translating, unchanged
 
 # What is noted of a build, in forms that a version of these tools has.
@@ -28,16 +28,21 @@ def drop_of_other_version(build):
     files.keep(path, own_files.FORM, build.room)
 
 
-def files_beside(build):
-    """The files that a translation comes from beside makefiles, and those that it writes: each is as it was, or all is
-    made anew."""
+def tools_of(build):
+    """The files of these tools that a translation comes from: of a port all, as its record has a sum of them."""
+    if build.asked.port:
+        return list(own_sources())
     modules = (one for name, one in sorted(sys.modules.items()) if name.startswith("kati_tools."))
-    tools = [one.__file__ for one in modules if one.__file__]
     builtin = (translating.MACROS, translating.RULES) if build.asked.builtin else ()
-    rules = [os.path.join(SHARE, name) for name in builtin]
+    return [*(one.__file__ for one in modules if one.__file__), *(os.path.join(SHARE, name) for name in builtin)]
+
+
+def files_beside(build):
+    """The files that a translation comes from beside makefiles and these tools, and those that it writes: each is as it
+    was, or all is made anew."""
     commands = ["compile_commands.json"] if build.asked.compile_commands else []
-    return [*tools, *rules, *commands, *filter(None, [build.kati, build.program]), build.translated, build.output,
-            build.list, build.names]
+    return [*commands, *filter(None, [build.kati, build.program]), build.translated, build.output, build.list,
+            build.names]
 
 
 def note(build, names, folders, start):
@@ -47,16 +52,16 @@ def note(build, names, folders, start):
     if build.looked_at is None:
         noted.forget()
     else:
-        noted.note(build.command(), names, files_beside(build), folders, build.looked_at, start)
+        noted.note(build.command(), [*names, *tools_of(build)], files_beside(build), folders, build.looked_at, start)
 
 
 def are_values_true(build):
-    """Whether no value may be another now, of a port or of kati-values.mk."""
+    """Whether no value may be another now, of a port or of kati-values.mk, where these tools are as they were noted."""
     if build.asked.port:
         from . import port_record
         record = port_record.Record(build.asked, build.room)
         kept = record.kept()
-        return kept is not None and record.changed(kept) is None
+        return kept is not None and record.changed(kept, are_tools_as_noted=True) is None
     if os.path.isfile(translating.VALUES):
         from . import frozen_values, kept_values
         return frozen_values.stale(kept_values.values()) is None

@@ -6,7 +6,7 @@ import os
 from ..base import files
 from ..build import translating
 from . import watched
-from ..base.programs import SHARE, Stop, bytes_of, find_kati
+from ..base.programs import Stop, bytes_of, find_kati, own_sources
 
 FOLDER, RECORD = "ported", "ported.json"
 
@@ -14,12 +14,15 @@ FOLDER, RECORD = "ported", "ported.json"
 def sum_of_tools(kati):
     """What tells these tools, and kati, from others, which may port otherwise."""
     found = hashlib.sha256()
-    for folder, inner, names in os.walk(SHARE):
-        inner.sort()
-        for name in sorted(name for name in names if name.endswith((".py", ".mk"))):
-            found.update(bytes_of(f"{name}\0{files.read(os.path.join(folder, name))}\0"))
+    for path in own_sources():
+        found.update(bytes_of(f"{os.path.basename(path)}\0{files.read(path)}\0"))
     program = os.stat(find_kati(kati))
     return f"{found.hexdigest()} {program.st_size} {program.st_mtime_ns}"
+
+
+def place_of_port():
+    """The folder that a port is for."""
+    return os.path.realpath(".")
 
 
 class Record:
@@ -46,7 +49,7 @@ class Record:
     def given(self):
         """What a port is for: the makefile, the words, the folder and the tools."""
         return {"words": self.words(), "depth": self.asked.depth,
-                "place": os.path.realpath("."), "tools": sum_of_tools(self.asked.kati)}
+                "place": place_of_port(), "tools": sum_of_tools(self.asked.kati)}
 
     def kept(self):
         """The record as it is kept; None where there is none of this form."""
@@ -61,14 +64,14 @@ class Record:
         """Keeps a record."""
         files.keep(self.path, json.dumps(record, indent=1) + "\n", self.room)
 
-    def changed(self, kept):
-        """What to say of the first thing that isn't as it was, None where all is."""
-        now = self.given()
-        if kept["place"] != now["place"]:
+    def changed(self, kept, are_tools_as_noted=False):
+        """What to say of the first thing that isn't as it was, None where all is; `are_tools_as_noted` says that these
+        tools and kati are known to be those of the port, which reading them all tells else."""
+        if kept["place"] != place_of_port():
             return f"this folder was {kept['place']}"
         if not self.has_these_words(kept):
             return "other words are given"
-        if kept["tools"] != now["tools"]:
+        if not are_tools_as_noted and kept["tools"] != sum_of_tools(self.asked.kati):
             return "kati or these tools are others"
         for name, total in kept["written"].items():
             if watched.sum_of(os.path.join(self.room, FOLDER, name)) != total:
