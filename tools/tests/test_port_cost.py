@@ -77,5 +77,5 @@ class Cost(Tree):
     def test_it_is_said_after_a_second(self):
         self.put("Makefile", "N := $(shell sleep 1.2; echo 1)\nall: ; echo $(N) > out\n")
         words = "ports Makefile: make is asked what its lines mean, and kati whether it takes them\n"
-        self.assertEqual(self.tool("kati-port", "--diff", "Makefile").said.count(f"kati-port: {words}"), 1)
-        self.assertEqual(self.tool("kati-build", "--port").said.count(f"kati-build: {words}"), 1)
+        self.assertEqual(self.tool("kati-port", "--diff", "Makefile").whole.count(f"kati-port: {words}"), 1)
+        self.assertEqual(self.tool("kati-build", "--port").whole.count(f"kati-build: {words}"), 1)

@@ -15,7 +15,7 @@ IGNORED = (signal.SIGPIPE, signal.SIGXFSZ)
 
 
 class Running:
-    """A program that runs. Python's own module for that takes a tenth of the time of a run that has nothing to do."""
+    """A program that runs. Python's own module for that takes time to load, as a run with nothing to do would see."""
 
     def __init__(self, words):
         self.is_there, self.pid = True, os.posix_spawn(words[0], words, os.environ, setsigdef=IGNORED)
