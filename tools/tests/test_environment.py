@@ -106,6 +106,21 @@ class Asked(Tree):
             self.assertEqual(self.read("out"), f"{value}\n")
         self.assertNotIn("asked again", self.tool(*build, MY_PATH="/b", GIVEN="2").said)
 
+    def test_what_a_written_makefile_comes_to_name_is_asked_for(self):
+        self.put("Makefile", "V := $(shell echo 1)\nout: ; echo '$(V)' > $@\n")
+        self.assertEqual(self.tool("kati-port", "--write", "Makefile", MY="a").status, 0)
+        build = ("kati-build", "--builtin")
+        self.assertEqual(self.tool(*build, MY="a").said, "")
+        for name in ("MY", "CURDIR"):
+            self.put("Makefile", self.read("Makefile").replace("$(V)'", f"$({name}) $(V)'"))
+            self.take()
+            wanted = self.makes(MY="a")
+            ran = self.tool(*build, MY="a")
+            told = f"kati-values.mk has no {name}, which the makefile names now: make is asked again\n"
+            self.assertIn(told, ran.said)
+            self.assertEqual(self.take(), wanted)
+            self.assertNotIn("asked again", self.tool(*build, MY="a").said)
+
     def test_each_call_runs_once_or_twice_and_holds_nothing_up(self):
         pipe = self.top.parent / "held"
         os.mkfifo(pipe)

@@ -107,6 +107,13 @@ class Asked(Ported):
         self.put("va/one.p", "another\n")
         self.assertNotIn("asked again", self.assert_as_make())
 
+    def test_a_source_of_a_pattern_rule_that_comes_to_stand_here(self):
+        self.put_all({"Makefile": "VPATH = va\nout: one.o\n\tcat $^ > $@\n%.o: %.c\n\tcat $< > $@\n",
+                      "va/one.c": "1\n"})
+        self.build()
+        self.put("one.c", "here\n")
+        self.assert_as_make()
+
 
 @needs("kati", "kati-asked", "make", "ninja")
 class Meanwhile(Ported):

@@ -25,6 +25,12 @@ TREES = {
     "a conditional round a rule that searches folders":
         {"Makefile": "VPATH = src\nall: b.o\nifdef Q\n%.o: %.c\n\techo q > $@\nelse\n%.o: %.c\n\tcat $< > $@\nendif\n",
          "src/b.c": "b\n"},
+    "a source here and in a folder that is searched":
+        {"Makefile": "VPATH = src\nCC = sh cc.sh\nall: a.o b.x\n%.x: %.y\n\tcat $< > $@\n", "src/a.c": "", "a.c": "",
+         "cc.sh": "echo $4 > $3\n", "src/b.y": "src\n", "b.y": "here\n"},
+    "a source here and in a folder, and another one by a rule that names it":
+        {"Makefile": "VPATH = va vb\nall: s.out one.up two.up\ns.out: one.p two.p\n\tcat $^ > $@\n%.up: %.p\n"
+                     "\tcat $< > $@\n", "va/one.p": "one\n", "vb/two.p": "two\n", "two.p": "here\n"},
     "a call behind what a rule searches for":
         {"Makefile": "VPATH = src\nall: b.o\n%.o: %.c $(wildcard *.h)\n\tcat $^ > $@\n", "src/b.c": "b\n",
          "a.h": "h\n"},
@@ -41,6 +47,9 @@ TREES = {
     "a tab before a conditional in a branch that isn't taken":
         {"Makefile": "X := none\nifneq ($(X),none)\n  ifeq ($(X),a)\n\tifeq ($(Y),1)\n    Z := 1\n    endif\n  else\n"
                      "    $(error not here)\n  endif\nendif\nall: ; @echo ok > out\n"},
+    "a double colon without a recipe":
+        {"Makefile": "CC = sh cc.sh\nUTILS = a b\nall:: $(UTILS)\n$(UTILS):: lib\nlib: ; touch $@\n", "a.c": "",
+         "b.c": "", "cc.sh": "shift $(($# - 1)); echo program > $1\n"},
     "a library":
         {"Makefile": "LIBS = -lm\nall: out\nout: in $(LIBS) -lc ; echo $^ > out\n", "in": ""},
 }
@@ -193,6 +202,30 @@ class Told(Meant):
         self.assertIn("Makefile: kati's commands differ in when they are run\n", said)
         self.put_all({"Makefile": "lib.a: a.c ; ar rc $@ $?\n"})
         self.assertIn("$? is all prerequisites for kati", self.port())
+
+    def test_what_another_recipe_takes_away(self):
+        makefile = "all: kill x y\nkill: ; rm -f x\nx: ; echo x > $@\ny: y.o ; cp y.o $@; rm y.o\ny.o: ; echo y > $@\n"
+        self.put("Makefile", makefile)
+        told = "kill takes x away, which make makes again in the same run, and ninja in the next one;"
+        said = self.port(status=DIFFERS)
+        self.assertIn(told, said)
+        self.assertNotIn("y.o", said)
+        self.assertIn("kati's commands differ in when they are run\n", said)
+        self.assertIn(told, self.tool("kati-build", "--port", "--no-ninja").said)
+
+    def test_a_double_colon_that_stands_more_than_once(self):
+        self.put_all({"Makefile": "CC = sh cc.sh\nall: a\na:: b\na:: c\nb c: ; touch $@\n", "a.c": "",
+                      "cc.sh": "shift $(($# - 1)); echo program > $1\n"})
+        told = "a:: has no recipe and stands there more than once: make looks for an implicit rule for each, "
+        self.assertIn(told, self.port(status=DIFFERS))
+        self.assertIn(told, self.tool("kati-build", "--port", "--no-ninja").said)
+
+    def test_what_make_finds_in_a_folder_that_is_searched(self):
+        self.put_all({"Makefile": "VPATH = obj\nall: x.o y.o\n%.o: %.c\n\tcp $< $@\n", "x.c": "", "y.c": "",
+                      "obj/x.o": ""})
+        said = self.port(status=DIFFERS)
+        self.assertIn("x.o stands in a folder that is searched, as obj/x.o:", said)
+        self.assertNotIn("y.o", said)
 
     def test_another_shell(self):
         self.put_all({"Makefile": "ifdef MAKE_VERSION\nSHELL = /bin/bash\nendif\nall: ; echo > out\n"})

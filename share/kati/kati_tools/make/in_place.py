@@ -239,6 +239,11 @@ class InPlace:
         """When the files in this folder were written, by their names."""
         return {name: os.lstat(name).st_mtime_ns for name in self.files() if os.path.lexists(name)}
 
+    def times_above(self):
+        """When the files were written that stand above or beside this folder, in what lies over it, by their names."""
+        paths = [path for path, _ in self.written() if not is_below(path, self.real) and os.path.lexists(path)]
+        return {os.path.relpath(path, self.top): os.lstat(path).st_mtime_ns for path in paths}
+
     @contextlib.contextmanager
     def entered(self):
         """Makes this folder the process's own for a while, with what lies over it."""

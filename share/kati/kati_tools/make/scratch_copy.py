@@ -174,6 +174,15 @@ class Copy:
         """When the files in the copy were written, by their names."""
         return {name: os.lstat(name).st_mtime_ns for name in self.files() if os.path.lexists(name)}
 
+    def times_above(self):
+        """When the files above and beside the copy were written that stand in it, by their names."""
+        names = self.files(is_above=True) - self.files() if self.levels else ()
+        return {name: os.lstat(name).st_mtime_ns for name in names if os.path.lexists(name)}
+
+    def is_covered(self, path):
+        """Whether what has a path is the copy's own."""
+        return os.path.realpath(path).startswith(self.base + os.sep)
+
     @contextlib.contextmanager
     def entered(self):
         """Makes the copy this process's folder for a while."""

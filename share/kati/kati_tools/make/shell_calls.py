@@ -73,6 +73,10 @@ class Calls:
             if text is not None and text.count("\0") == 4:
                 yield text.split("\0")[:4]
 
+    def texts(self):
+        """The texts of all calls that were run, since they were last forgotten."""
+        return {text for _, text in self.numbers} | {text for _, text, _, _ in self.told()}
+
     def keep(self, length, text, output, status):
         """Keeps what a call wrote, as lines of a shell that write it."""
         number = self.numbers.setdefault((length, text), len(self.numbers))

@@ -34,13 +34,14 @@ class PortedLine(syntax.Line):
     """A logical line; `text` is the line as it was.
 
     `edits` has what stands in the place of parts of it, by where they begin and end. Where it is wrapped, make has the
-    line and kati what `for_kati` makes of it, or nothing. What stands in `before` comes before the line. A line that
-    is gone stands in the one that took it in. `prefix` begins the names of macros that it gets."""
+    line and kati what `for_kati` makes of it, or nothing. What stands in `before` comes before the line, and what
+    stands in `behind` after it. A line that is gone stands in the one that took it in. `prefix` begins the names of
+    macros that it gets."""
 
     def __init__(self, number, text, endings, prefix):
         super().__init__(number, text, endings)
         self.prefix = prefix
-        self.edits, self.before = {}, None
+        self.edits, self.before, self.behind = {}, None, None
         self.is_wrapped, self.for_kati, self.is_gone = False, None, False
         # Whether it is make's alone, as the branch that it stands in is; whether it is kati's, and stands for make
         # where make is asked in the place of such lines.
@@ -65,7 +66,7 @@ class PortedLine(syntax.Line):
             katis = self.for_kati(text) if self.for_kati else None
             other = [] if katis is None else ["else", katis]
             text = katis or "" if self.is_katis else "\n".join([MAKES_ALONE, self.text, *other, "endif"])
-        return text if self.before is None else f"{self.before}\n{text}"
+        return "\n".join(one for one in (self.before, text, self.behind) if one is not None)
 
     def indent_by_spaces(self):
         """Puts spaces in the place of the tabs at the beginning, which both programs take alike."""

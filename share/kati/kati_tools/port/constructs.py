@@ -4,9 +4,9 @@ Most is mended where kati has a fault, by the fault's number; the rest before ka
 makefile and means something else by it than make."""
 from typing import Callable, Mapping, NamedTuple
 
-from . import (default_rule, dependency_includes, environment_names, folder_search, inner_makes, made_values, mending,
-    mending_appends, mending_exports, mending_lines, mending_shell, of_the_run, recipe_prefix, second_expansion,
-    shared_includes, shell_flags, taken_back, target_macros, written_out)
+from . import (default_rule, dependency_includes, double_colons, environment_names, folder_search, inner_makes,
+    made_values, mending, mending_appends, mending_exports, mending_lines, mending_shell, of_the_run, recipe_prefix,
+    second_expansion, shared_includes, shell_flags, taken_back, target_macros, written_out)
 
 
 class Construct(NamedTuple):
@@ -38,6 +38,7 @@ CONSTRUCTS = (
     Construct("`%: %.c` without a recipe, an empty `.SUFFIXES`, `-r` in `MAKEFLAGS`", mender=taken_back.TakenBack),
     Construct("`VPATH`, `vpath`", {"E17": mending.folder_pattern}, mender=folder_search.Search),
     Construct("`-lm` as a prerequisite", mender=folder_search.Search),
+    Construct("`X:: y` without a recipe, which make makes by an implicit rule", mender=double_colons.DoubleColons),
     Construct("`.DEFAULT`", {"E22": mending.default}, mender=default_rule.DefaultRule),
     Construct("`debug: CFLAGS += -g`, where the goals don't need `debug`", {"E23": mending.target_macro},
               mender=target_macros.TargetMacros),

@@ -3,20 +3,23 @@ what kati refuses."""
 import os
 
 from ..base import files
-from ..make import make_run, recipe_shell
-from . import constructs, dependency_includes, frozen_values, make_probes
+from ..build import begun
+from ..make import make_run, recipe_shell, shell_calls
+from . import constructs, dependency_includes, frozen_values, make_probes, written_outside
 from .stuck import MakeFails, OtherShell
 
 
 def look(port):
     """Has make make its includes, finds the makefiles, and asks for the values of what kati refuses."""
     port.load(port.makefile)
-    first = port.copy.times()
+    start, calls = begun.Start(port.room), shell_calls.of_room(port.room)
+    first, above = port.copy.times(), port.copy.times_above()
     port.first.shell = make_run.shell_in(port.lines())
     port.run.use_shell(port.first.shell)
     refuse_other_shells(port)
     before = port.copy.times()
-    port.first.by_shell = sorted(set(before) - set(first))
+    port.first.by_shell = sorted({*before, *port.copy.times_above()}.difference(first, above))
+    texts = calls.texts()
     make_includes(port, before, changed(first, before))
     port.first.commands = port.run.commands()
     if port.first.commands[0]:
@@ -25,8 +28,9 @@ def look(port):
     port.probes = asked_probes(port)
     for one in port.menders.values():
         one.look()
-    texts = [file.before for file in port.ported.values()]
-    port.values.taken = "\n".join([*texts, files.read(frozen_values.NAME) or ""])
+    port.first.outside = written_outside.paths(port.copy, texts | calls.texts(), start)
+    port.values.taken = "\n".join([*(file.before for file in port.ported.values()),
+                                   files.read(frozen_values.NAME) or ""])
 
 
 def make_includes(port, before, by_shell):

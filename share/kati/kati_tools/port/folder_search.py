@@ -1,8 +1,9 @@
 """`VPATH` and `vpath`, and libraries as `-lm`: what make searches for in other folders, kati gets by its name there.
 
-A pattern rule is written once for each folder, before the makefile's own rule; a name in an explicit rule goes through
-`KATI_FOUND`, which knows the names that stand elsewhere; and what else is needed from another folder is a rule without
-a recipe of its own."""
+A pattern rule is written once for each folder, before the makefile's own rule, or behind it where a source stands here
+and in such a folder, as make looks into this folder first; a name in an explicit rule goes through `KATI_FOUND`, which
+knows the names that stand elsewhere; and what else is needed from another folder is a rule without a recipe of its own.
+"""
 import os
 import re
 
@@ -31,6 +32,11 @@ class Search(Mender):
         super().__init__(port)
         self.patterns, self.folders = [], []
         self.is_settled, self.places, self.libraries = False, {}, {}
+        # The names that stand elsewhere and get a rule of their own, None where that isn't known yet.
+        self.needed = None
+        # What the build makes, and make finds in such a folder before anything is made; and whether a source stands
+        # both here and there.
+        self.standing, self.is_twice = {}, False
 
     def add(self, line):
         """Takes a line that begins with `vpath`."""
@@ -49,19 +55,23 @@ class Search(Mender):
     def settle(self, translation):
         """Writes the rules, once kati takes the makefile; answers whether that changes it."""
         if self.is_settled:
-            return False
+            self.watch(translation)
+            before, self.needed = self.needed, self.needed_now(translation) if self.needed is None else self.needed
+            return before is None and bool(self.needed)
         self.is_settled = True
         if self.patterns or any("VPATH" in line.text for line in self.port.lines()):
             self.ask()
         self.find_libraries(translation)
         if not self.folders and not self.places:
             return False
-        explicit, patterns = [], []
+        explicit, patterns, self.is_twice = [], [], self.stand_twice(translation)
         for file in self.port.ported.values():
             for at, line in enumerate(file.lines):
                 (patterns if "%" in line.text else explicit).extend(self.rule(file.lines, at, line))
         self.find(translation, patterns)
         self.searched_rules(explicit + patterns)
+        # A rule of its own makes a name known: the makefile's pattern rule, where it comes first, would take it.
+        self.needed = None if self.is_twice else sorted(set(self.places).difference(self.libraries))
         if self.folders:
             self.port.tell("search")
         return True
@@ -96,6 +106,34 @@ class Search(Mender):
             place = next(filter(os.path.exists, candidates), name)
             if place != name:
                 self.places[name] = place
+        for name in sorted(one for one in made if not os.path.exists(one)):
+            place = next(filter(os.path.exists, self.candidates(name)), None)
+            self.standing.update({name: place} if place else {})
+
+    def stand_twice(self, translation):
+        """Whether a source that the graph needs stands here and in a folder that is searched."""
+        named = {name for one in translation.statements for name in one.inputs} - translation.outputs
+        return any(os.path.exists(name) and any(map(os.path.exists, self.candidates(name)[1:])) for name in named)
+
+    def needed_now(self, translation):
+        """The names that stand elsewhere and that the graph needs by these names."""
+        named = {name for one in translation.statements for name in one.inputs} - translation.outputs
+        return sorted(named.intersection(self.places).difference(self.libraries))
+
+    def watch(self, translation):
+        """Has make asked again where what is taken from a folder comes to stand where make looks before."""
+        folders = [folder for _, folder in self.folders]
+        for name in {name for one in translation.statements for name in one.inputs} if folders else ():
+            at = next((at for at, folder in enumerate(folders) if name.startswith(f"{folder}/")), None)
+            own = None if at is None else name[len(folders[at]) + 1:]
+            if own and own not in translation.outputs and os.path.isfile(name):
+                before = [own, *(os.path.join(folder, own) for folder in folders[:at])]
+                self.port.written_out.files.update(f"{watched.LINK}{one}" for one in before)
+
+    def differences(self):
+        """A line for what make takes where it stands, as long as it isn't out of date, and ninja makes here."""
+        return [f"{name} stands in a folder that is searched, as {place}: make takes it there, and ninja makes it here"
+                for name, place in self.standing.items()]
 
     def candidates(self, name):
         """The names that make looks for, in its order, where it searches folders for one; none for one that was found
@@ -118,17 +156,17 @@ class Search(Mender):
         recipe = recipe_of(lines, at, rule)
         suffixes = SUFFIX_RULE.fullmatch(rule.targets[0]) if len(rule.targets) == 1 and not rule.needs else None
         if suffixes and recipe:
-            self.pattern_rule(line, [f"%{suffixes.group(2)}"], [f"%{suffixes.group(1)}"], recipe)
+            self.pattern_rule(lines, at, [f"%{suffixes.group(2)}"], [f"%{suffixes.group(1)}"], recipe)
         elif "%" in "".join(rule.targets):
             if rule.needs and "%" in rule.needs[0] and "$" not in rule.needs[0] and recipe:
-                self.pattern_rule(line, rule.targets, rule.needs, recipe)
+                self.pattern_rule(lines, at, rule.targets, rule.needs, recipe)
                 return [line] if len(rule.needs) > 1 else []
         elif rule.needs and not rule.targets[0].startswith("."):
             return [line]
         return []
 
-    def pattern_rule(self, line, targets, needs, recipe):
-        """The rule for each folder, before the makefile's own."""
+    def pattern_rule(self, lines, at, targets, needs, recipe):
+        """The rule for each folder, before the makefile's own, which stands at a line, or behind it."""
         if not self.folders:
             return
         texts = []
@@ -136,7 +174,12 @@ class Search(Mender):
             more = f" $(call KATI_FOUND,{' '.join(needs[1:])})" if needs[1:] else ""
             head = f"{' '.join(targets)}: {os.path.join(folder, needs[0])}{more}"
             texts += [head, *recipe]
-        line.before = "\n".join([KATIS_ALONE, *texts, "endif"])
+        text = "\n".join([KATIS_ALONE, *texts, "endif"])
+        if self.is_twice:
+            last = next(one for one in reversed(lines[at:end_of_recipe(lines, at + 1)]) if not one.is_gone)
+            last.behind = text
+        else:
+            lines[at].before = text
 
     def searched_rules(self, lines):
         """The prerequisites of rules by their names where they stand, as far as one stands elsewhere."""
@@ -150,13 +193,15 @@ class Search(Mender):
 
     def tail(self):
         """What kati gets at the end of the makefile."""
-        lines = []
-        for folder in dict.fromkeys(folder for _, folder in self.folders):
-            # With the prerequisite twice, as in builtin-rules.mk: a rule with those of an older one would remove it.
-            lines += [text for target, need, recipe in BUILTIN
-                      for text in (f"{target}: {folder}/{need} {folder}/{need}", f"\t{recipe}")]
-        others = [name for name in self.places if name not in self.libraries]
-        return [*lines, *(f"{name}: {self.places[name]}" for name in others)]
+        lines, folders = [], dict.fromkeys(folder for _, folder in self.folders)
+        for target, need, recipe in BUILTIN if folders else ():
+            if f"{need}{target}".replace("%", "") not in self.port.for_kati.taken_back:
+                # With the prerequisite twice, as in builtin-rules.mk, and once more: a rule with those of an older one
+                # would remove it.
+                found = [f"{need} {need} {need}"] if self.is_twice else []
+                found += [f"{folder}/{need} {folder}/{need}" for folder in folders]
+                lines += [text for needs in found for text in (f"{target}: {needs}", f"\t{recipe}")]
+        return [*lines, *(f"{name}: {self.places[name]}" for name in self.needed or ())]
 
     def head(self):
         """What kati gets at the beginning of the makefile."""

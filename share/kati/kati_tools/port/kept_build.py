@@ -101,7 +101,7 @@ class Build:
                        words.WRONG_USAGE)
         if os.path.isfile(translating.VALUES):
             from . import kept_values
-            kept_values.keep_true(self.asked)
+            kept_values.keep_true(self.asked, self.names_before() or self.makefiles())
             self.values_from = kept_values.inputs()
         return translating.Translator(self.asked, self.room, self.program)
 

@@ -26,9 +26,18 @@ def ask_make(asked):
         say(TOOL, line)
 
 
-def keep_true(asked):
-    """Makes values anew where one of them may be another: then make is asked for all of them."""
-    why = frozen_values.stale(values())
+def lacking(names):
+    """What to say of what the values lack and the makefiles of these names have come to name; None where they lack
+    none."""
+    # Loaded here, since it takes time, and is for makefiles alone that are newer.
+    from . import lacking_names
+    return lacking_names.told(names, values())
+
+
+def keep_true(asked, names):
+    """Makes values anew where one of them may be another, or where the makefiles of these names want one more: then
+    make is asked for all of them."""
+    why = frozen_values.stale(values()) or lacking(names)
     if asked.values or why:
         if why:
             say(TOOL, f"{why}: make is asked again")

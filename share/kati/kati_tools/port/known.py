@@ -14,8 +14,8 @@ from . import freezing, frozen_values, values_file
 class FirstLook:
     """What make did before anything was changed: the shell of its commands, and these, as `MakeRun.commands` answers
     them; the makefiles that it read, the files that it made first and those that it wrote anew, what `$(shell ..)`
-    wrote, the dependencies that aren't there when kati reads, the times of all files, and the variables of the
-    environment on which all that hangs."""
+    wrote, and what it wrote outside of this folder; the dependencies that aren't there when kati reads, the times of
+    all files, and the variables of the environment on which all that hangs."""
 
     shell: str = ""
     commands: tuple = ()
@@ -23,6 +23,7 @@ class FirstLook:
     made: list = field(default_factory=list)
     remade: list = field(default_factory=list)
     by_shell: list = field(default_factory=list)
+    outside: list = field(default_factory=list)
     hidden: list = field(default_factory=list)
     times: dict = field(default_factory=dict)
     of_environment: list = field(default_factory=list)
@@ -31,12 +32,14 @@ class FirstLook:
 @dataclass
 class ForKati:
     """What kati gets beside the lines of the makefiles: its limit of levels; the words of the command line that stand
-    in the makefile, which overrides them; the macros that are empty at its end; and what tells of the run."""
+    in the makefile, which overrides them; the macros that are empty at its end; what tells of the run; and the suffixes
+    of make's own rules that the makefile takes back."""
 
     depth: int = None
     taken_words: dict = field(default_factory=dict)
     cleared: list = field(default_factory=list)
     of_the_run: dict = field(default_factory=dict)
+    taken_back: list = field(default_factory=list)
 
 
 @dataclass

@@ -6,12 +6,16 @@ from ..build import translating
 RUN = ("CURDIR", "MAKECMDGOALS", "MAKELEVEL", "MAKE_COMMAND", "MAKE_HOST", "PWD", ".FEATURES", ".INCLUDE_DIRS")
 
 
+def named(text, assigned):
+    """What of it makefiles with this text ask for, without what they assign."""
+    asked = syntax.asked_for(text)
+    return [name for name in RUN if name in asked and name not in assigned]
+
+
 def ask(port):
     """Asks for what tells of the run, where the makefiles name it."""
-    asked = syntax.asked_for(port.values.taken)
-    names = [name for name in RUN if name in asked]
+    names = named(port.values.taken, {name for file in port.ported.values() for name, _ in file.definitions()})
     told = port.run.values([f"$({name})" for name in names]) if names else []
-    assigned = {name for file in port.ported.values() for name, _ in file.definitions()}
     # Of another run there are goals, where this one has none.
     port.for_kati.of_the_run = {name: value or "" for name, value in zip(names, told)
-                                if (value or name == translating.GOALS) and name not in assigned}
+                                if value or name == translating.GOALS}

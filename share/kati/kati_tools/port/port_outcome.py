@@ -6,7 +6,8 @@ from dataclasses import dataclass, field
 
 from ..base import files
 from ..makefile import includes, statements, syntax
-from . import dependency_includes, frozen_values, known, made_values, port_report, rewriting, unseen_reads, watched
+from . import dependency_includes, double_colons, frozen_values, known, made_values, port_report, rewriting, \
+    unseen_reads, watched, written_outside
 from .stuck import Stuck
 
 AT_WORK = rewriting.AT_WORK
@@ -138,9 +139,11 @@ def with_relative_names(line, tops):
 
 def told(made, comparison):
     """What to say of a port: that make was asked in a copy, where it was; what came into this folder by $(shell ..), as
-    it does where make reads the makefile; which values are of before the build; and how kati's commands differ from
-    make's, where they do."""
+    it does where make reads the makefile, and what was written elsewhere; which values are of before the build; and how
+    kati's commands differ from make's, where they do."""
     names = " ".join(made.first.by_shell)
     written = [f"$(shell ..) wrote {names} while make read the makefile"] if names else []
     others = comparison.newer.notes if comparison.is_same() else list(comparison.told())[1:]
-    return [*made.copy.told(), *written, *unseen_reads.told(made), *made.mender(made_values.MadeValues).told, *others]
+    written += written_outside.told(made)
+    doubtful = [one for kind in (made_values.MadeValues, double_colons.DoubleColons) for one in made.mender(kind).told]
+    return [*made.copy.told(), *written, *unseen_reads.told(made), *doubtful, *others]

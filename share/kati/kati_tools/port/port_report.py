@@ -6,7 +6,8 @@ from collections import Counter
 
 from ..make import command_lists, shell_reading
 from ..build import comparing, differences
-from . import mending_exports, newer_names, scanning, shell_flags, target_macros, template_faults, unseen_reads
+from . import folder_search, mending_exports, newer_names, scanning, shell_flags, taken_away, target_macros, \
+    template_faults, unseen_reads, written_outside
 from .frozen_values import NAME
 from ..base.programs import Stop
 
@@ -25,6 +26,7 @@ KINDS = {
     "load": "load: for make alone",
     "-load": "load: for make alone",
     "search": "VPATH and vpath: a rule for each folder",
+    "double colon": "a double colon without a recipe: for kati a single one, so that it finds make's rule",
     ".DEFAULT": ".DEFAULT: a rule for the names that it makes",
     "second expansion": ".SECONDEXPANSION: each target's prerequisites as make has them",
 }
@@ -71,6 +73,7 @@ def did(port):
         yield f"made first, as make does: {' '.join([*port.first.remade, *port.first.made])}"
     if port.first.by_shell:
         yield f"$(shell ..) writes {' '.join(port.first.by_shell)} while make reads the makefile; kati doesn't"
+    yield from written_outside.told(port)
     yield from unseen_reads.told(port)
     yield from port.notes
 
@@ -132,6 +135,8 @@ class Comparison:
         self.has_other_blanks = self.has_other_blanks or has_other_blanks
         self.of_the_shell = port.mender(shell_flags.ShellFlags).differences(translation)
         self.newer = newer_names.Newer(port, translation)
+        self.when_run = [*self.newer.differences, *taken_away.told(translation),
+                         *port.mender(folder_search.Search).differences()]
 
     def is_unchanged(self, again):
         """Whether make does what it did. Where it doesn't, `again` tells what it does now by the makefiles as they
@@ -146,7 +151,7 @@ class Comparison:
 
     def is_same(self):
         """Whether kati's commands are make's."""
-        return not (self.makes or self.katis or self.in_environment or self.of_the_shell or self.newer.differences)
+        return not (self.makes or self.katis or self.in_environment or self.of_the_shell or self.when_run)
 
     def told(self):
         """The lines that say so; the last one says what it comes to."""
@@ -158,7 +163,7 @@ class Comparison:
             return
         yield from self.in_environment
         yield from self.of_the_shell
-        yield from self.newer.differences
+        yield from self.when_run
         yield from differences.lines(self.makes, self.katis)
         yield f"kati's commands differ{'; they differ'.join(self.summed_up())}"
 
@@ -172,5 +177,5 @@ class Comparison:
             yield " in their environment"
         if self.of_the_shell:
             yield " in the shell and its flags"
-        if self.newer.differences:
+        if self.when_run:
             yield " in when they are run"

@@ -1,10 +1,9 @@
 """The values of kati-values.mk, asked for again: make reads the makefile with a probe round each of its calls."""
-import os
 import re
 
 from ..base import files
-from ..make import exported_names, make_run
-from . import command_reads, environment_names, frozen_values, watched
+from ..make import make_run
+from . import command_reads, environment_names, frozen_values, lacking_names, watched
 from ..base.programs import Stop
 from .values_file import Entry, ValuesFile, assigned_in
 
@@ -33,16 +32,19 @@ def renew(run, room, real_text):
     for one, answers in zip(list(file.entries), answered):
         doubt = renew_entry(one, answers, run, file)
         doubts += [f"{one.name}: {doubt}"] if doubt else []
-    file.entries += [Entry(frozen_values.ENVIRONMENT, name, "=", frozen_values.text_of_environment(value))
-                     for name, value in handed_now(run).items() if name not in {one.name for one in file.entries}]
+    add_lacking(file, run)
     return real_text(file.text()), doubts
 
 
-def handed_now(run):
-    """The values of the environment that kati gets now."""
-    names = (run.value("$(MAKEFILE_LIST)") or "").split()
-    makefiles = [name for name in names if os.path.basename(name) != frozen_values.NAME]
-    return environment_names.handed(exported_names.lines_of(exported_names.texts_of(makefiles)))
+def add_lacking(file, run):
+    """Adds the values of the environment that kati gets now, and what else the makefiles name now that tells of the
+    run."""
+    lines = lacking_names.lines_of((run.value("$(MAKEFILE_LIST)") or "").split())
+    known = {one.name for one in file.entries}
+    file.entries += [Entry(frozen_values.RUN, name, ":=", frozen_values.escaped(run.value(f"$({name})") or ""))
+                     for name in lacking_names.of_run(lines) if name not in known]
+    file.entries += [Entry(frozen_values.ENVIRONMENT, name, "=", frozen_values.text_of_environment(value))
+                     for name, value in environment_names.handed(lines).items() if name not in known]
 
 
 def pairs_of(told):

@@ -91,11 +91,16 @@ def is_meant(line):
     return rule.is_rule and not rule.specific and "$$" in " ".join(rule.needs)
 
 
-def database(port):
-    """What make knows of each target at the end, by its name."""
+def database_text(port):
+    """make's database at the end of a run for the goals."""
     words = ["-p", "-n", "-B", "--no-print-directory", "-f", port.makefile, *port.run.goals, *port.run.macros,
              f"SHELL={port.run.noop}"]
-    out, found = port.run.run(words)[1], {}
+    return port.run.run(words)[1]
+
+
+def database(port):
+    """What make knows of each target at the end, by its name."""
+    out, found = database_text(port), {}
     for match in TARGET.finditer(out):
         rest = out[match.end():max(out.find("\n\n", match.end()), match.end())]
         for name in match.group(1).split():

@@ -22,7 +22,7 @@ class TakenBack(Mender):
 
     def __init__(self, port):
         super().__init__(port)
-        self.is_settled, self.suffixes = False, []
+        self.is_settled = False
 
     def settle(self, translation):
         """Asks make for its rules; answers whether some are taken back."""
@@ -31,8 +31,8 @@ class TakenBack(Mender):
             return False
         self.is_settled = True
         if command_lists.alone(port_report.commands_of(translation.statements), self.port.first.commands[1]):
-            self.suffixes = self.asked()
-        return bool(self.suffixes)
+            self.port.for_kati.taken_back = self.asked()
+        return bool(self.port.for_kati.taken_back)
 
     def asked(self):
         """The suffixes of kati's rules that make hasn't."""
@@ -42,4 +42,5 @@ class TakenBack(Mender):
 
     def tail(self):
         """What kati gets at the end of the makefile."""
-        return [f"KATI_TAKEN_BACK = {' '.join(self.suffixes)}"] if self.suffixes else []
+        suffixes = self.port.for_kati.taken_back
+        return [f"KATI_TAKEN_BACK = {' '.join(suffixes)}"] if suffixes else []

@@ -1,0 +1,67 @@
+"""`X:: y` without a recipe, for which make looks for an implicit rule, and kati for none: kati gets `X: y` where no
+other `X::` stands beside it, as both mean the same then."""
+import re
+from collections import Counter
+
+from ..make import command_lists
+from ..makefile import statements
+from ..makefile.syntax import Kind
+from . import folder_search, port_report, second_expansion
+from .mender import Mender
+
+# What make knows of a target with a double colon for which it found an implicit rule.
+IMPLICIT = re.compile(r"^([^\s#:=][^:=\n]*)::.*\n(?:[#\t].*\n)*?#  Implicit/static pattern stem: ", re.MULTILINE)
+ADVICE = "make looks for an implicit rule for each, and kati for none: write its recipe"
+
+
+def with_one_colon(text):
+    """A rule line with a single colon in the place of the double one."""
+    at = statements.Rule(text).colon
+    return text[:at] + text[at + 1:]
+
+
+class DoubleColons(Mender):
+    """Those of a makefile, where make has commands that kati hasn't; `told` has what to say of those for which kati
+    looks for no rule."""
+
+    def __init__(self, port):
+        super().__init__(port)
+        self.is_settled, self.told = False, []
+
+    def settle(self, translation):
+        """Has kati look for implicit rules; answers whether that changes the makefile."""
+        lines = [] if self.is_settled else self.lines()
+        self.is_settled = True
+        commands = port_report.commands_of(translation.statements) if lines else []
+        if not lines or not command_lists.alone(self.port.first.commands[1], commands):
+            return False
+        found = IMPLICIT.findall(second_expansion.database_text(self.port))
+        made = {name for names in found for name in names.split()}
+        told = self.port.run.values([" ".join(rule.targets) for _, rule, _ in lines])
+        targets = [(names or "").split() for names in told]
+        counts = Counter(name for names in targets for name in names)
+        return any([self.mend(line, names, counts)
+                    for (line, _, has_recipe), names in zip(lines, targets)
+                    if not has_recipe and made.intersection(names)])
+
+    def lines(self):
+        """The lines with a double colon and without a `%`, each with its rule, and whether it has a recipe."""
+        found = []
+        for file in self.port.ported.values():
+            for at, line in enumerate(file.lines):
+                rule = line.says if line.kind is Kind.RULE and not (line.is_makes or line.is_gone) else None
+                if rule and rule.is_double and "%" not in "".join(rule.targets):
+                    found.append((line, rule, bool(folder_search.recipe_of(file.lines, at, rule))))
+        return found if not all(has_recipe for _, _, has_recipe in found) else []
+
+    def mend(self, line, names, counts):
+        """Gives kati a single colon, or tells why it can't be; answers whether it did."""
+        several = [name for name in names if counts[name] > 1]
+        if several or line.is_wrapped:
+            more = " and stands there more than once" if several else ""
+            self.told.append(f"{(several or names)[0]}:: has no recipe{more}: {ADVICE}")
+            self.port.note(self.told[-1])
+            return False
+        line.wrap(with_one_colon)
+        self.port.tell("double colon")
+        return True
