@@ -47,6 +47,7 @@ import shutil
 import subprocess
 import sys
 import tempfile
+import time
 from collections import Counter
 from pathlib import Path
 from typing import NamedTuple
@@ -59,6 +60,8 @@ from kati_tools.base import programs, words  # noqa: E402
 
 AS_MAKE, OTHERWISE = 0, 1
 SECONDS = 900
+# Seconds in which the time that a file gets is another one, whatever the kernel counts by.
+TICKS = 0.05
 WORD = "CC=cc -fno-ident"
 SOURCES = (".c", ".cc", ".cpp")
 NEW = "kati_new"
@@ -250,6 +253,8 @@ class Program:
     def step(self, step, edit, name):
         """Edits both copies, has make and ninja run, and compares."""
         before = [files_of(self.by_make), files_of(self.by_ninja)]
+        # What is edited gets a later time than what was just built: times of files go by the ticks of the kernel.
+        time.sleep(TICKS)
         for copy in (self.by_make, self.by_ninja):
             edit(copy, name)
         edited = {name} if name and edit is not remove else set()
