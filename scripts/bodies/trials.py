@@ -7,8 +7,8 @@ from pathlib import Path
 from . import edits, reports
 
 REFUSED, LET_THROUGH, NO_REFUSAL, NO_EVIDENCE = "refused", "let through", "no refusal", "no evidence"
-# So often an edit comes again that couldn't be judged beside others, and one by which there was no verdict.
-MOST_ROUNDS, MOST_WITHOUT_VERDICT = 3, 6
+# So often an edit comes again that couldn't be judged beside others.
+MOST_ROUNDS = 3
 
 
 def dependencies(root, crate):
@@ -50,6 +50,8 @@ class Trial:
         self.rounds, self.waiting = 0, list(tried)
         # Edits that are refused unless their controls are, too, by their controls.
         self.by_control = {}
+        # The edits of the last round without a verdict: one of them is the trouble.
+        self.suspects = []
 
     def run(self):
         """Tries all; answers itself."""
@@ -94,10 +96,15 @@ class Trial:
             self.waiting[self.waiting.index(edit)] = edit.control
             self.by_control[id(edit.control)] = edit
 
+    def candidates(self):
+        """The edits that a round may take: the half of those among which one is the trouble, else all that wait."""
+        suspects = [edit for edit in self.suspects if edit in self.waiting]
+        return suspects[:(len(suspects) + 1) // 2] or list(self.waiting)
+
     def round(self):
         """Applies as many edits as lie in different functions, checks, and judges them."""
         originals, chosen, taken = {}, [], set()
-        for edit in list(self.waiting):
+        for edit in self.candidates():
             before = self.text(edit.file)
             after = edit.applied(before)
             if after is None:
@@ -130,17 +137,15 @@ class Trial:
             self.judge_one(edit, report, len(chosen) == 1)
 
     def drop_what_does_not_compile(self, chosen, report):
-        """Without a verdict, the edits at the places that the check names are the trouble; else half of them are tried
-        without the others."""
+        """Without a verdict, the edits at the places that the check names are the trouble; where it names none, one
+        that was alone. Else the next rounds look for the trouble."""
         blamed = [edit for edit in chosen if any(self.covers(edit, *place) for place in report.compile_errors())]
-        for edit in blamed or chosen[:1 if len(chosen) == 1 else 0]:
+        for edit in blamed:
             self.end(edit, NO_REFUSAL, "doesn't compile")
-        if not blamed and len(chosen) > 1:
-            for edit in chosen[len(chosen) // 2:]:
-                edit.rounds += 1
-            self.waiting.sort(key=lambda edit: edit.rounds)
-            if chosen[0].rounds > MOST_WITHOUT_VERDICT:
-                self.end(chosen[0], NO_REFUSAL, "the check gave no verdict")
+        if not blamed and len(chosen) == 1:
+            self.end(chosen[0], NO_REFUSAL, "the check gave no verdict")
+        elif not blamed:
+            self.suspects = chosen
 
     def covers(self, edit, file, line):
         """Whether a place lies in a function that the edit changes."""

@@ -10,7 +10,12 @@ from support import TOP, Tree, needs
 PROVER = """
 import re, sys
 text = open("src/lib.rt").read()
-open("../../../log", "a").write(str(text.count("WRONG") + text.count("SAME")) + "\\n")
+with open("../../../log", "a+") as log:
+    log.write(str(text.count("WRONG") + text.count("SAME")) + "\\n")
+    log.seek(0)
+    asked = len(log.readlines())
+if "STUCK" in text and asked <= 20:
+    sys.exit(1)
 if "NONSENSE" in text:
     print("error: src/lib.rt:%d:1: expected `;`" % (text[:text.index("NONSENSE")].count("\\n") + 1))
     sys.exit(1)
@@ -98,6 +103,14 @@ class WrongBodies(Tree):
             "demo a_right: let through (proved)", "demo b_wrong: refused (goal ensures)",
             "demo c_plain: refused (goal ensures)", "demo: 3 edits, 2 refused, 0 without evidence, 3 rounds"])
         self.assertEqual((self.top.parent / "rooms/log").read_text().split(), ["1", "1", "1"])
+
+    def test_one_without_a_verdict_is_found_by_halves(self):
+        self.edit("a_wrong", "    as_it_was", "    WRONG")
+        self.edit("b_stuck", "    as_it_is", "    STUCK")
+        self.edit("c_wrong", "    by_hand_is", "    WRONG")
+        self.assertEqual(self.tried(status=1), [
+            "demo a_wrong: refused (goal ensures)", "demo b_stuck: no refusal (the check gave no verdict)",
+            "demo c_wrong: refused (goal ensures)", "demo: 3 edits, 2 refused, 0 without evidence, 5 rounds"])
 
     def test_answers_by_hand_want_a_control(self):
         why = "answer: no such branch"
