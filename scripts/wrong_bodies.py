@@ -10,11 +10,13 @@ repository with what earlier checks kept, runs one check, and reads whom it blam
                  calls) may be enough, and the edit changes that: NAME.control beside the edit, which has the new shape
                  and means the same, isn't let through or isn't there
     let through  its function is proved although it was edited, or nothing but its callees kept it from being proved
-    no refusal   the edited code doesn't compile, or only a name of a proof file went away: it wants another body
+    no refusal   the edited code doesn't compile, only a name of a proof file went away, or the check gives no verdict:
+                 it wants another body
 
 An edit of a type, of a constant or of a function of a cycle has a round to itself. A function that couldn't be judged,
-since one that it calls was edited too, comes again in a later round without that one. The work tree isn't touched. What
-came of an edit is printed as soon as it is known.
+since one that it calls was edited too, comes again in a later round without that one. After a round without a verdict
+that names no place, half of its edits are tried, until the one is found by which there is none. The work tree isn't
+touched. What came of an edit is printed as soon as it is known.
 
 examples:
   scripts/wrong_bodies.py                       all of wrong-bodies/
