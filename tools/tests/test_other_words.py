@@ -1,15 +1,40 @@
-"""kati-build --port for one goal after another: make is asked once for each, as long as what a port came from stays."""
+"""kati-build --port for one goal after another: make is asked once for each, as long as what a port came from stays,
+and the first port for a goal begins with what those for others have found out."""
 import argparse
 import json
 import shutil
 
-from support import Tree, needs
+from support import Tree, kati, kati_asked, needs
 
 from kati_tools.port import other_words, port_record
 
 MAKEFILE = "V := $(shell cat n.txt)\nall: out\nout: a.c ; echo $(V) > out\n" \
     "install: out ; echo $(shell echo i) $(V) $(P) > installed\nclean: ; rm -f out installed\n" \
     "stuck: ; $(eval A := 1) true\n"
+
+# With what kati refuses, in the makefile and in the recipes of some goals.
+OBJECTS = """\
+VERSION := $(shell cat version.txt)
+SRCS := $(wildcard src/*.c)
+OBJS = $(SRCS:.c=.o)
+export LC_ALL = C
+export KIND = a  b
+CC ?= cc
+override CFLAGS += -O0
+DESTDIR ?= $(CURDIR)/dest
+\tifeq ($(VERSION),1)
+LIBS = -lm
+\tendif
+all: prog
+prog: $(OBJS) ; cat $^ > $@
+src/%.o: src/%.c ; echo $(CC) $(CFLAGS) $(VERSION) $(LIBS) $< > $@
+debug: CFLAGS += -g
+debug: prog
+install: prog ; mkdir -p $(DESTDIR); cp prog $(DESTDIR)/$(shell cat name.txt)
+test: prog ; $(foreach one,$(wildcard tests/*.txt),cat $(one) &&) echo "$$KIND"
+clean: ; rm -f prog $(wildcard src/*.o)
+.PHONY: all install test clean debug
+"""
 
 
 @needs("kati", "kati-asked", "make", "ninja")
@@ -93,3 +118,101 @@ class Goals(Tree):
             self.let_time_pass()
         kept = [json.loads(one.read_text())["words"][1] for one in self.top.glob("build.kati/aside/*/ported.json")]
         self.assertEqual(sorted(kept, key=lambda one: int(one[2:])), [f"P={number}" for number in range(4, 12)])
+
+
+@needs("kati", "kati-asked", "make", "ninja")
+class OtherGoals(Tree):
+    """The first port for a goal, after one for another goal of the same makefiles."""
+
+    def setUp(self):
+        super().setUp()
+        self.counted = self.top.parent / "counted"
+        programs = {"KATI": ("kati", kati()), "KATI_ASKED": ("asked", kati_asked()), "MAKE": ("make", "make")}
+        self.around = {key: self.program(f"{name}-counted", f'echo {name} >> {self.counted}\nexec {path} "$@"')
+                       for key, (name, path) in programs.items()}
+
+    def lay_objects(self, count=3):
+        """A tree of so many objects."""
+        self.put_all({"Makefile": OBJECTS, "version.txt": "1\n", "name.txt": "it\n", "tests/a.txt": "a\n"})
+        self.put_all({f"src/f{number}.c": "" for number in range(count)})
+
+    def port(self, *words, status=0):
+        """What a port for these words comes to: the translation, and what it says; then how often make and kati are run
+        for it."""
+        self.counted.write_text("")
+        ran = self.tool("kati-build", "--port", "--no-ninja", *words, **self.around)
+        self.assertEqual(ran.status, status, ran.all)
+        told = self.counted.read_text().split()
+        said = [line for line in ran.said.split("\n") if not line.endswith("make is asked again")]
+        return (self.read("build.kati/translated.ninja"), said), (told.count("make"), told.count("kati"))
+
+    def assert_as_from_nothing(self, *words, status=0):
+        """A port after others comes to what one from nothing does."""
+        found = self.port(*words, status=status)[0]
+        self.tool("kati-build", "--remove")
+        self.assertEqual(found, self.port(*words, status=status)[0])
+
+    def test_it_costs_what_is_of_its_own(self):
+        self.lay_objects(100)
+        anew = self.port()[1]
+        self.assertGreater(min(anew), 4)
+        # make's commands for the goal, and the values of its own calls; kati once, and once more for --check.
+        for words, runs in ((["install"], (3, 2)), (["test"], (3, 2)), (["clean"], (3, 2))):
+            with self.subTest(words):
+                found = self.port(*words)[1]
+                self.assertLessEqual(found[0], runs[0])
+                self.assertLessEqual(found[1], runs[1])
+
+    def test_it_comes_to_what_a_port_from_nothing_does(self):
+        self.lay_objects()
+        for words in (["install"], ["test"], ["debug"], ["install", "DESTDIR=x", "VERSION=2"]):
+            with self.subTest(words):
+                self.port()
+                self.assert_as_from_nothing(*words)
+
+    def test_goals_that_the_makefile_names_are_asked_for_anew(self):
+        self.put("Makefile", "ifneq ($(filter clean,$(MAKECMDGOALS)),)\nA := $(shell echo c)\nelse\n"
+                             "A := $(shell echo o)\nendif\nall: ; echo $(A) > out\nclean: ; echo $(A) > out\n")
+        self.port()
+        self.assert_as_from_nothing("clean")
+        self.assertIn("echo c > out", self.read("build.kati/translated.ninja"))
+
+    def test_what_has_changed_since_is_asked_for_anew(self):
+        makefile = "-include more.mk\nA := $(shell cat a.txt)\nall: ; echo $(A) > out\n" \
+            "install: ; echo $(A) $(MORE) $(shell cat b.txt) > out\n"
+        self.put_all({"Makefile": makefile, "a.txt": "1\n", "b.txt": "1\n"})
+        for change, out in (({"a.txt": "2\n"}, "2 1"), ({"b.txt": "2\n"}, "2 2"),
+                            ({"more.mk": "MORE := $(shell echo m)\n"}, "2 m 2"),
+                            ({"more.mk": "MORE := $(shell echo n)\n"}, "2 n 2"),
+                            ({"Makefile": makefile.replace("$(MORE)", "$(MORE)!")}, "2 n! 2")):
+            with self.subTest(change):
+                self.port()
+                self.put_all(change)
+                self.port("install")
+                self.assertIn(f"echo {out} > out", " ".join(self.read("build.kati/translated.ninja").split()))
+
+    def test_an_include_that_came_since_is_read(self):
+        self.put_all({"Makefile": "all: ; echo $(A) > out\ninstall: ; echo $(A) $(shell echo i) > out\n"
+                                  "-include $(addsuffix .mk,own)\n"})
+        self.port()
+        self.put("own.mk", "A := $(shell echo a)\n")
+        self.assert_as_from_nothing("install")
+        self.assertIn("echo a i > out", self.read("build.kati/translated.ninja"))
+
+    def test_what_was_kept_and_is_not_as_it_was(self):
+        self.lay_objects()
+        for text in ("", "{", "[]", '{"answers": 1}', '{"for": {}, "watched": {}, "answers": {}, "faults": [], '
+                                                      '"menders": {}}'):
+            with self.subTest(text):
+                self.port()
+                self.put("build.kati/other-goals.json", text)
+                found = self.port("clean")[0]
+                self.tool("kati-build", "--remove")
+                self.assertEqual(found, self.port("clean")[0])
+
+    def test_a_difference_is_told_for_a_goal_too(self):
+        self.put("Makefile", "A := $(shell echo a)\nall: ; echo $(A) > out\n"
+                             "install: one two ; cat one two > three\none: ; echo 1 > one\n"
+                             "two: force ; echo $? > two\nforce:\n")
+        self.port()
+        self.assert_as_from_nothing("install", status=5)

@@ -69,21 +69,30 @@ def told_by(noop):
     return f"{noop}-environment-"
 
 
-def added_to_environment(noop, given, goals, ask):
-    """What make adds to the environment that it is given, for its commands. `ask` has it read the makefile, and a file
-    behind that, for some words and in an environment: no options, by which values may differ, and MAKECMDGOALS as for
-    the goals."""
+def with_goals(given, goals):
+    """An environment in which makefiles have MAKECMDGOALS as for these goals."""
+    return {**given, "MAKECMDGOALS": " ".join(goals)}
+
+
+def told_environments(noop, given, ask):
+    """The environments that commands of two targets have where make is given one, None for what isn't told. `ask` has
+    it read the makefile, and a file behind that, for some words and in an environment: no options, by which values may
+    differ."""
     names = [f"{told_by(noop)}{number}" for number in (1, 2)]
     for name in names:
         files.remove(name)
     rules = f"{noop}-telling.mk"
     telling = TELLING_RULES.format(told=shlex.quote(told_by(noop)).replace("$", "$$"))
     files.write(rules, bytes_of(telling + recipe_shell.guard(os.path.dirname(noop))))
-    given = {**given, "MAKECMDGOALS": " ".join(goals)}
     ask(rules, [*TELLING, f"SHELL={noop}"], given)
     texts = [files.read(name) for name in names]
-    told = [text and dict(one.split("=", 1) for one in text.split("\0") if "=" in one) for text in texts]
-    return command_environment.Added(told, given, noop)
+    return [text and dict(one.split("=", 1) for one in text.split("\0") if "=" in one) for text in texts]
+
+
+def added_to_environment(noop, given, goals, ask):
+    """What make adds to the environment that it is given, for its commands, as they tell it."""
+    given = with_goals(given, goals)
+    return command_environment.Added(told_environments(noop, given, ask), given, noop)
 
 
 def lines_of(text):

@@ -5,7 +5,7 @@ import subprocess
 from collections import Counter
 
 from ..base import files
-from . import make_commands, recipe_shell, shell_calls, target_environment
+from . import command_environment, kept_answers, make_commands, recipe_shell, shell_calls, target_environment
 from .running import run_make
 from ..base.programs import Stop
 
@@ -53,10 +53,12 @@ def with_users_flags(out, told):
 
 
 class MakeRun:
-    """How make is asked about one makefile with its goals and macros, in this process's folder."""
+    """How make is asked about one makefile with its goals and macros, in this process's folder. `known` is what it told
+    before that doesn't hang on the goals, and still is so."""
 
-    def __init__(self, makefile, goals, macros, room, more):
+    def __init__(self, makefile, goals, macros, room, more, known=None):
         self.makefile, self.goals, self.macros, self.room, self.more = makefile, goals, macros, room, more
+        self.answers = kept_answers.Answers(known or {}, room)
         # Whether the makefile has make run one command at a time.
         self.is_not_parallel = False
         self.noop, self.extra = (os.path.join(room, name) for name in ("noop", "question.mk"))
@@ -94,6 +96,10 @@ class MakeRun:
 
     def refuse_other_shells(self):
         """Stops where a line of a recipe would be run by another shell than the one that runs none."""
+        known = self.answers.known(kept_answers.SHELLS)
+        if known is not None:
+            self.is_not_parallel = known
+            return
         files.replace(self.extra, make_commands.UNLISTED + recipe_shell.ASKED, self.room)
         words = ["-p", "-n", "-B", "--no-print-directory", "-f", self.makefile, "-f", self.extra, *self.goals]
 
@@ -103,6 +109,7 @@ class MakeRun:
 
         database = recipe_shell.refuse_others(look, self.makefile, self.room)
         self.is_not_parallel = NOT_PARALLEL.search(database) is not None
+        self.answers.tell(kept_answers.SHELLS, self.is_not_parallel)
 
     def database(self, goal):
         """make's database once it has read the makefile, for a goal for which it makes nothing."""
@@ -115,7 +122,15 @@ class MakeRun:
         def ask(rules, more, given):
             self.run(["-f", self.makefile, "-f", rules, *self.macros, *more], given)
 
-        return make_commands.added_to_environment(self.noop, self.environment(), self.goals, ask)
+        given = make_commands.with_goals(self.environment(), self.goals)
+        known = self.answers.known(kept_answers.ENVIRONMENT)
+        if known is not None:
+            told = [kept_answers.environment(one, given) for one in known]
+        else:
+            told = make_commands.told_environments(self.noop, given, ask)
+            if None not in told:
+                self.answers.tell(kept_answers.ENVIRONMENT, [kept_answers.difference(one, given) for one in told])
+        return command_environment.Added(told, given, self.noop)
 
     def environments(self, shell):
         """What make's commands have in their environment, line by line of their recipes."""
@@ -125,26 +140,47 @@ class MakeRun:
         return target_environment.all_told(self.room, shell, lambda word: self.run([*words, word], given)[0])
 
     def make_includes(self):
-        """Has make make the makefiles that it reads, as it does before anything."""
-        question = f".PHONY: {NO_GOAL}\n{NO_GOAL}: ;\n"
-        files.replace(self.extra, question, self.room)
-        return self.run(["-n", "-f", self.makefile, "-f", self.extra, NO_GOAL, *self.macros])
+        """Has make make the makefiles that it reads, as it does before anything; answers its status, what it says, and
+        the names of what it has read then."""
+        known = self.answers.known(kept_answers.INCLUDES)
+        if known is not None:
+            return 0, "", known
+        question = f"$(info {ANSWER}0 $(MAKEFILE_LIST){END})\n.PHONY: {NO_GOAL}\n{NO_GOAL}: ;\n"
+        files.replace(self.extra, make_commands.UNLISTED + question, self.room)
+        status, out, said = self.run(["-n", "-f", self.makefile, "-f", self.extra, NO_GOAL, *self.macros])
+        # Where make has made one of them, it reads all once more.
+        names = (answered(out).get(0) or [""])[-1].split()
+        if not status:
+            self.answers.tell(kept_answers.INCLUDES, names)
+        return status, said, names
+
+    def told(self, kind, texts, ask):
+        """What make tells of texts, None for those that it doesn't; `ask` answers its output for the text of a makefile
+        that has it tell those that aren't known, with which it ends."""
+        known = {text: self.answers.known(kind + text) for text in texts}
+        more = [text for text in texts if known[text] is None]
+        if more:
+            asked = "".join(f"$(info {ANSWER}{number} {text}{END})\n" for number, text in enumerate(more))
+            # The error keeps make from anything but reading.
+            found = answered(ask(asked + "$(error asked)\n"))
+            told = iter([found.get(number, [None])[0] for number in range(len(more))])
+        values = [next(told) if known[text] is None else known[text] for text in texts]
+        for text, value in zip(texts, values):
+            if value is not None:
+                self.answers.tell(kind + text, value)
+        return values
 
     def values(self, texts):
         """What these texts expand to behind the makefile, None for those that make doesn't tell."""
-        if not texts:
-            return []
-        asked = "".join(f"$(info {ANSWER}{number} {text}{END})\n" for number, text in enumerate(texts))
-        # The error keeps make from anything but reading.
-        found = answered(self.ask(question=asked + "$(error asked)\n")[1])
-        return [found.get(number, [None])[0] for number in range(len(texts))]
+        return self.told(kept_answers.VALUE, texts, lambda question: self.ask(question=question)[1])
 
     def values_with_own_shell(self, texts):
         """The same where make has the shell that the makefile gives it."""
-        asked = "".join(f"$(info {ANSWER}{number} {text}{END})\n" for number, text in enumerate(texts))
-        files.replace(self.extra, f"{make_commands.UNLISTED}{asked}$(error asked)\n", self.room)
-        found = answered(self.run(["-n", "-f", self.makefile, "-f", self.extra, *self.goals, *self.macros])[1])
-        return [found.get(number, [None])[0] for number in range(len(texts))]
+        def ask(question):
+            files.replace(self.extra, make_commands.UNLISTED + question, self.room)
+            return self.run(["-n", "-f", self.makefile, "-f", self.extra, *self.goals, *self.macros])[1]
+
+        return self.told(kept_answers.WITH_OWN_SHELL, texts, ask)
 
     def value(self, text):
         """The same for one text."""
@@ -154,8 +190,11 @@ class MakeRun:
         """The status, the commands that make would run for the goals, what it says, and the commands before those,
         which make makefiles."""
         status, out, said = self.ask(goals)
-        question = f".PHONY: {NO_GOAL}\n{NO_GOAL}: ; : {ANSWER}0 $(MAKEFLAGS){END} {ANSWER}1 $(MFLAGS){END}\n"
-        first = self.ask([NO_GOAL], question)[1]
+        first = self.answers.known(kept_answers.FIRST)
+        if first is None:
+            question = f".PHONY: {NO_GOAL}\n{NO_GOAL}: ; : {ANSWER}0 $(MAKEFLAGS){END} {ANSWER}1 $(MFLAGS){END}\n"
+            first = self.ask([NO_GOAL], question)[1]
+            self.answers.tell(kept_answers.FIRST, first)
         before = [line for line in make_commands.lines_of(first) if ANSWER not in line]
         left, lines = Counter(before), []
         for line in make_commands.lines_of(with_users_flags(out, first)):

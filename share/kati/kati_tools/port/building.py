@@ -22,6 +22,7 @@ files:
   build.kati/translated.ninja  what kati wrote; with --deps, where header dependencies are too
   build.kati/ported/           the makefiles that --port ported, and their values
   build.kati/aside/            the same for other goals and macros, until they are given again
+  build.kati/other-goals.json  what make told that holds for other goals, too
   build.kati/files.txt         the list of the files that exist, as kati got it
   build.kati/asked.txt         the files that kati asked for, by which the next list is made
   build.kati/stale/            marks of includes that rules make; build.kati/fault.txt kati's fault

@@ -36,11 +36,10 @@ def look(port):
 def make_includes(port, before, by_shell):
     """Has make make its includes, where files had these times `before`, and loads what it reads; `by_shell` are the
     files that commands change each time."""
-    status, _, said = port.run.make_includes()
+    status, said, names = port.run.make_includes()
     if status:
         raise MakeFails(status, said)
-    told = port.run.value("$(MAKEFILE_LIST)")
-    port.first.read = {os.path.normpath(os.path.relpath(name)) for name in (told or "").split()}
+    port.first.read = {os.path.normpath(os.path.relpath(name)) for name in names}
     load_read(port)
     port.first.times = after = port.copy.times()
     sort_made(port, sorted(set(after) - set(before)), sorted(changed(before, after) - by_shell))

@@ -59,7 +59,9 @@ class Port:
         self.asked, self.copy, self.room = asked, copy, room
         self.makefile = os.path.normpath(asked.makefile)
         self.is_led_out = copy.take_in(self.makefile)
-        self.run = make_run.MakeRun(self.makefile, asked.goals, asked.macros, room, copy.environment())
+        # What a port for other goals has found out, which is the beginning of this one.
+        self.run = make_run.MakeRun(self.makefile, asked.goals, asked.macros, room, copy.environment(),
+                                    asked.known.answers)
         # The files by their names, and the macros that stand for values; the file of values of before is `kept_values`.
         self.ported, self.kept_values = {}, kept_values(copy, room)
         self.values = frozen_values.Values(values_file.ValuesFile(self.kept_values)
@@ -69,6 +71,8 @@ class Port:
         self.probes, self.fitting = None, {}
         # What mends constructs, with what it has found out, by its class.
         self.freezer, self.menders = freezing.Freezer(self), {}
+        # kati's faults that were mended.
+        self.faults = []
         # What is told at the end.
         self.did, self.notes = Counter(), copy.told()
         # kati's list of files, for this port.

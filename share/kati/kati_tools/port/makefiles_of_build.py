@@ -43,28 +43,30 @@ class Ported:
             say(TOOL, f"{why}: make is asked again")
         self.port(kept)
 
-    def port(self, kept):
-        """Ports; once more where something has changed meanwhile that the port came from."""
+    def port(self, kept, is_anew=False):
+        """Ports; once more where something has changed meanwhile that the port came from. Where it `is_anew`, make is
+        asked for all, whatever it told for other goals."""
         need("make")
         self.is_new, before = True, None
         for _ in range(begun.TIMES):
             start = begun.Start(self.room)
-            before = self.port_once(kept, start, before)
+            before = self.port_once(kept, start, before, is_anew or self.asked.values)
             if before is None:
                 return
-            changed = next(word for word in before if any(map(start.is_newer, watched.inputs_of(word))))
+            changed = next((word for word in before if any(map(start.is_newer, watched.inputs_of(word)))), "a file")
         raise Stop(f"{changed} changes each time while make is asked: run kati-build again when that is over")
 
-    def port_once(self, kept, start, before):
+    def port_once(self, kept, start, before, is_anew):
         """Ports, and writes what came of it, where nothing is newer than the start but by sums that `before` has; else
         answers the sums of what the port came from."""
+        # Loaded here alone, since it takes time, and most runs port nothing.
+        from ..make import in_place
+        from . import other_goals, port_outcome
+        known = other_goals.kept(self.record, is_anew)
         asked = argparse.Namespace(makefile=self.record.makefile, goals=words.goals_of(self.asked.words),
                                    macros=words.macros_of(self.asked.words), kati=self.asked.kati,
                                    depth=self.asked.depth, files_from=self.asked.files_from, has_deps=True,
-                                   for_build=True)
-        # Loaded here alone, since it takes time, and most runs port nothing.
-        from ..make import in_place
-        from . import port_outcome
+                                   for_build=True, known=known)
         with scratch.room("kati-build-") as room:
             with at_work.telling(TOOL, port_outcome.AT_WORK.format(asked.makefile)):
                 found = in_place.in_place_or_copy(room, above.texts_of(asked.makefile),
@@ -72,12 +74,14 @@ class Ported:
             self.stuck, self.whose, self.difference, self.taken = (
                 found.stuck, found.whose, found.difference, found.taken)
             sums = watched.sums_of(name for name in found.watched if name not in found.made)
-            if sums != before and any(map(start.is_newer, watched.inputs(sums))):
+            if sums != before and any(map(start.is_newer, watched.inputs({**known.watched, **sums}))):
                 return sums
             if not self.stuck:
                 self.write(found)
         if not self.stuck:
-            self.note(found, {**sums, **watched.sums_of(name for name in found.watched if name in found.made)}, kept)
+            sums.update(watched.sums_of(name for name in found.watched if name in found.made))
+            self.note(found, sums, kept)
+            other_goals.keep(self.record, known, found.found, sums)
         return None
 
     def note(self, found, sums, kept):
@@ -177,7 +181,7 @@ class PortedTranslator(translating.Translator):
         another branch. Answers whether it did, and kati has makefiles now."""
         if self.ported.is_new:
             return False
-        self.ported.port(self.ported.record.kept())
+        self.ported.port(self.ported.record.kept(), is_anew=True)
         self.go_in()
         return self.ported.stuck is None
 

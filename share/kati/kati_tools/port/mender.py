@@ -13,6 +13,12 @@ class Mender:
     def begin(self):
         """Mends what is known to be refused, before kati is asked."""
 
+    def begin_as(self, before):
+        """Mends, before kati is asked, what a port for other goals had to, as it told by `found`."""
+
+    def found(self):
+        """What a port for other goals needn't be told by kati, as data; None where there is nothing."""
+
     def settle(self, translation):
         """Mends what kati takes otherwise than make, by its translation; answers whether that changes the makefile."""
         del translation

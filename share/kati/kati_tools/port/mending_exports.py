@@ -68,13 +68,30 @@ class Exports(Mender):
                    if not unfit(self.added.all[name])]
         new = [name for name in lacking if name not in self.handed]
         others = [name for name in lacking if name in self.handed and name not in self.frozen
-                  and "\n" not in (self.added.values[name] or "\n") and name not in self.of_targets]
+                  and self.is_one_value(name)]
         self.handed = sorted([*self.handed, *new])
+        self.freeze(others)
+        return bool(new or others)
+
+    def is_one_value(self, name):
+        """Whether a variable has for all targets one value, which a line can have."""
+        return "\n" not in (self.added.values[name] or "\n") and name not in self.of_targets
+
+    def freeze(self, names):
+        """Gives kati make's value of these variables."""
         line = self.port.ported[self.port.makefile].lines[0]
-        for name in others:
+        for name in names:
             value = self.added.values[name]
             self.frozen[name] = self.port.values.add(line, name, f"$({name})", value, f"$({name})")
-        return bool(new or others)
+
+    def begin_as(self, before):
+        """Hands on what a port for other goals did, as far as make's commands have it."""
+        self.handed = [name for name in before["handed"] if name in self.wanted and not unfit(self.added.all[name])]
+        self.freeze([name for name in before["frozen"] if name in self.handed and self.is_one_value(name)])
+
+    def found(self):
+        """What kati's commands got, and what of it with make's value."""
+        return {"handed": self.handed, "frozen": list(self.frozen)} if self.handed else None
 
     def handed_otherwise(self, translation):
         """The names that kati's commands get with another value than make's have."""

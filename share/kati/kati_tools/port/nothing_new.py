@@ -8,7 +8,7 @@ from ..base.programs import SHARE, own_sources, say
 from ..build import translating, unchanged
 
 # What is noted of a build, in forms that a version of these tools has.
-NOTED = ("ported.json", "asked.txt", "outside.txt", unchanged.NAME)
+NOTED = ("ported.json", "other-goals.json", "asked.txt", "outside.txt", unchanged.NAME)
 
 
 def drop_of_other_version(build):

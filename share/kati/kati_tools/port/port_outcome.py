@@ -6,8 +6,8 @@ from dataclasses import dataclass, field
 
 from ..base import files
 from ..makefile import includes, statements, syntax
-from . import dependency_includes, double_colons, frozen_values, known, made_values, port_report, rewriting, \
-    unseen_reads, watched, written_outside
+from . import dependency_includes, double_colons, frozen_values, known, made_values, other_goals, port_report, \
+    rewriting, unseen_reads, watched, written_outside
 from .stuck import Stuck
 
 AT_WORK = rewriting.AT_WORK
@@ -17,9 +17,9 @@ AT_WORK = rewriting.AT_WORK
 class Outcome:
     """The words to watch; why the port is stuck, and by which program, None where it isn't. Else the folder of the
     ported makefiles and their texts, what make has made before anything, each with the file that holds it, the folders
-    that their includes go through; and what kati-build keeps of it: what to say, which of kati's commands differ, None
-    where all do, the line that sums that up, None where they don't, the macros of the command line that stand in the
-    makefile, and whether make runs one job at a time."""
+    that their includes go through; what it has found out that holds for other goals; and what kati-build keeps of it:
+    what to say, which of kati's commands differ, None where all do, the line that sums that up, None where they don't,
+    the macros of the command line that stand in the makefile, and whether make runs one job at a time."""
 
     watched: list
     stuck: str = None
@@ -28,6 +28,7 @@ class Outcome:
     texts: dict = field(default_factory=dict)
     made: dict = field(default_factory=dict)
     folders: list = field(default_factory=list)
+    found: dict = field(default_factory=dict)
     report: list = field(default_factory=list)
     differing: list = None
     difference: str = None
@@ -61,7 +62,7 @@ def of_rewritten(made, comparison, room):
     texts = {name: real(text) for name, text in texts_of(made).items()}
     return Outcome(watched_by(made, texts), folder=os.path.relpath(made.copy.top, made.copy.base), texts=texts,
                    made=kept_in(os.path.join(room, "made"), [*made.first.made, *made.first.by_shell]),
-                   folders=folders_of(made), report=report,
+                   folders=folders_of(made), found=other_goals.found_by(made), report=report,
                    differing=None if differs_otherwise else [real(line) for line in comparison.katis],
                    difference=None if comparison.is_same() else report[-1], taken=sorted(made.for_kati.taken_words),
                    is_not_parallel=made.run.is_not_parallel)

@@ -7,7 +7,7 @@ makes of a makefile is asked before anything is changed (first_look.py). What me
 import os
 import re
 
-from . import asking_kati, constructs, first_look, mending_alike, saving
+from . import asking_kati, constructs, first_look, mending_alike, other_goals, saving
 from .stuck import Stuck, last_line
 from ..base.programs import Stop
 
@@ -41,6 +41,7 @@ def mend(port, translation):
     fault, before = Fault(port, found[-1]), state(port)
     if not any(one(port, fault) and state(port) != before for one in constructs.menders_of(fault)):
         raise Stuck(fault.told(), fault)
+    other_goals.note(port, fault)
     mending_alike.mend(port, fault)
 
 
@@ -54,6 +55,7 @@ def rewrite(port):
     constructs.give_menders(port)
     first_look.look(port)
     constructs.begin(port)
+    other_goals.begin(port)
     for _ in range(ROUNDS):
         saving.save(port)
         translation = asking_kati.translate(port)

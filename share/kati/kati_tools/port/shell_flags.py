@@ -37,6 +37,14 @@ class ShellFlags(Mender):
             self.macros = {name: value for (name, usual), (origin, value) in zip(OF_POSIX.items(), told)
                            if origin == "default" and value != usual}
 
+    def begin_as(self, before):
+        """Gives kati make's flags, as a port for other goals had to."""
+        self.given = self.flags or None
+
+    def found(self):
+        """Whether kati had others."""
+        return True if self.given is not None else None
+
     def katis(self, translation):
         """The shells of kati's commands, with their flags."""
         return command_environment.shells_of(one.command for one in translation.statements if one.command is not None)

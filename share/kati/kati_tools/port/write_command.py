@@ -10,7 +10,7 @@ from ..base import at_work, files, programs, scratch, words
 from ..makefile import above
 from ..make import in_place, make_run
 from ..build import translating
-from . import frozen_values, known, port_report, renewing, rewriting, saved_meanwhile, saving, writing
+from . import frozen_values, known, other_goals, port_report, renewing, rewriting, saved_meanwhile, saving, writing
 from .stuck import Stuck
 from ..base.programs import DIFFERS, TOLD_AT_INTERRUPT, Stop, need, write_text
 
@@ -147,7 +147,8 @@ def run(given):
     files_from = given.files_from if given.files_from in ("git", "find") else os.path.abspath(given.files_from)
     asked = argparse.Namespace(makefile=words.from_here(makefiles[0]), goals=words.goals_of(given.words[1:]),
                                kati=given.kati, macros=words.macros_of(given.words), diff=given.diff, depth=None,
-                               has_deps=False, for_build=False, files_from=files_from)
+                               has_deps=False, for_build=False, files_from=files_from,
+                               known=other_goals.Known())
     return write(asked)
 
 
