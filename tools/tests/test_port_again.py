@@ -6,6 +6,8 @@ import subprocess
 
 from support import Tree, kati_asked, needs
 
+from kati_tools.base.programs import DIFFERS
+
 LOOP = "MODS := $(notdir $(wildcard mod/*))\nSRCS := $(foreach m,$(MODS),$(wildcard mod/$(m)/*.c))\n" \
     "out: $(SRCS)\n\techo $^ > $@\n"
 
@@ -106,6 +108,25 @@ class Asked(Ported):
             self.assert_as_make()
         self.put("va/one.p", "another\n")
         self.assertNotIn("asked again", self.assert_as_make())
+
+    def test_a_made_file_that_comes_to_stand_in_another_folder(self):
+        self.put_all({"Makefile": "VPATH = obj\nall: x.o sub/y.o\n%.o: %.c\n\tmkdir -p $(@D); cp $< $@\n", "x.c": "",
+                      "sub/y.c": "", "obj/some": ""})
+        self.build("--no-ninja")
+        for name, said in (("obj/x.o", "obj/x.o"), ("obj/sub/y.o", "obj/sub")):
+            self.put(name, "")
+            own = name[len("obj/"):]
+            told = self.build("--no-ninja", status=DIFFERS)
+            self.assertIn(f"kati-build: {said} is there now: make is asked again\n", told)
+            self.assertIn(f"kati-build: {own} stands in a folder that is searched, as {name}: ", told)
+        self.let_time_pass()
+        self.ninja()
+        said = self.build("--no-ninja")
+        self.assertIn(".o is there now: make is asked again\n", said)
+        self.assertNotIn("stands in a folder", said)
+        self.assertEqual(self.build("--no-ninja"), "")
+        self.put("obj/sub/z.o", "")
+        self.assertEqual(self.build("--no-ninja"), "")
 
     def test_a_source_of_a_pattern_rule_that_comes_to_stand_here(self):
         self.put_all({"Makefile": "VPATH = va\nout: one.o\n\tcat $^ > $@\n%.o: %.c\n\tcat $< > $@\n",

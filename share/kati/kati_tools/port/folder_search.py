@@ -25,6 +25,13 @@ def is_fitting(pattern, name):
     return pattern == "%" or re.fullmatch(re.escape(pattern).replace("%", ".+", 1), name) is not None
 
 
+def first_absent(path):
+    """The first folder of a path that isn't there, or the whole path."""
+    while not os.path.isdir(os.path.dirname(path) or "."):
+        path = os.path.dirname(path)
+    return path
+
+
 class Search(Mender):
     """The folders that make searches, and what that means for kati."""
 
@@ -129,6 +136,17 @@ class Search(Mender):
             if own and own not in translation.outputs and os.path.isfile(name):
                 before = [own, *(os.path.join(folder, own) for folder in folders[:at])]
                 self.port.written_out.files.update(f"{watched.LINK}{one}" for one in before)
+
+        for name in translation.outputs if folders else ():
+            self.watch_made(name)
+
+    def watch_made(self, name):
+        """Has make asked again where what the build makes comes to stand in a folder that is searched, or goes there;
+        and where it does so here while it stands there."""
+        places = self.candidates(name)[1:]
+        self.port.written_out.files.update(f"{watched.LINK}{first_absent(one)}" for one in places)
+        if any(map(os.path.exists, places)):
+            self.port.written_out.files.add(f"{watched.LINK}{name}")
 
     def differences(self):
         """A line for what make takes where it stands, as long as it isn't out of date, and ninja makes here."""
