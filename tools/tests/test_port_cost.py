@@ -1,7 +1,13 @@
 """What a port costs: runs of kati and of make don't grow with the number of faults that don't hang on each other."""
 import os
+import subprocess
+import types
+import unittest
 
 from support import Tree, kati, needs
+
+from kati_tools.make import running
+from kati_tools.port import frozen_values
 
 # Of each construct: lines of a makefile, and what its recipe has of them; ~ stands for a number.
 CONSTRUCTS = (
@@ -79,3 +85,51 @@ class Cost(Tree):
         words = "ports Makefile: make is asked what its lines mean, and kati whether it takes them\n"
         self.assertEqual(self.tool("kati-port", "--diff", "Makefile").whole.count(f"kati-port: {words}"), 1)
         self.assertEqual(self.tool("kati-build", "--port").whole.count(f"kati-build: {words}"), 1)
+
+
+class Waiting(unittest.TestCase):
+    """Waiting for make."""
+
+    def test_its_status_and_a_limit(self):
+        self.assertEqual(running.status_of(["sh", "-c", "exit 3"], 60), 3)
+        with self.assertRaises(subprocess.TimeoutExpired):
+            running.status_of(["sleep", "60"], 0.01)
+
+
+class Compared(str):
+    """A text that counts how often it is compared with others."""
+
+    count = 0
+    __hash__ = str.__hash__
+
+    def __eq__(self, other):
+        Compared.count += 1
+        return str.__eq__(self, other)
+
+
+class Names(unittest.TestCase):
+    """The macros of kati-values.mk."""
+
+    LINE = types.SimpleNamespace(prefix="V_")
+
+    def test_their_names(self):
+        values = frozen_values.Values()
+        values.take("$(V_a) V_a_3x V_b_2")
+
+        def add(*rest):
+            return values.add(self.LINE, *rest)
+
+        self.assertEqual(add("a", "1", "1", ""), "V_a_2")
+        self.assertEqual(add("a", "2", "2", ""), "V_a_3")
+        self.assertEqual(add("a", "1", "1", ""), "V_a_2")
+        self.assertEqual(add("a", "1", "1", "", True), "V_a_4")
+        self.assertEqual(add("b", "3", None, ""), "V_b")
+        values.all[-1].table = {"V_b_x": "1"}
+        self.assertEqual(add("b", "3", None, ""), "V_b_3")
+        self.assertEqual(add("a", "4", "4", ""), "V_a_5")
+
+    def test_a_new_one_is_compared_with_few(self):
+        values, Compared.count = frozen_values.Values(), 0
+        for number in range(500):
+            values.add(self.LINE, "shell", Compared(number), Compared(number), "")
+        self.assertLess(Compared.count, 2000)

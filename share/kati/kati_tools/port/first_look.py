@@ -29,8 +29,8 @@ def look(port):
     for one in port.menders.values():
         one.look()
     port.first.outside = written_outside.paths(port.copy, texts | calls.texts(), start)
-    port.values.taken = "\n".join([*(file.before for file in port.ported.values()),
-                                   files.read(frozen_values.NAME) or ""])
+    port.values.take("\n".join([*(file.before for file in port.ported.values()),
+                                files.read(frozen_values.NAME) or ""]))
 
 
 def make_includes(port, before, by_shell):

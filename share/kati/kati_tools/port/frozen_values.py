@@ -110,19 +110,36 @@ class Values:
     are those of the files that are ported, and `environment` has the values of the environment that kati gets."""
 
     def __init__(self, kept=None):
-        self.all, self.kept, self.taken, self.prefixes, self.environment = [], kept, "", set(), {}
+        self.all, self.kept, self.prefixes, self.environment = [], kept, set(), {}
+        self.taken, self.taken_words = "", set()
+        # How many of them the names and the table of texts know, and the last number behind a name.
+        self.count, self.names, self.by_texts, self.numbers = 0, set(), {}, {}
+
+    def take(self, text):
+        """Has no macro get a name that stands in a text."""
+        self.taken, self.taken_words = text, set(re.findall(r"\w+", text))
+
+    def take_in(self):
+        """Has the names and the table of texts know all."""
+        for one in self.all[self.count:]:
+            self.names.add(one.name)
+            self.by_texts.setdefault((one.prefix, one.makes, one.katis, one.is_deferred), one)
+        self.count = len(self.all)
 
     def add(self, line, wanted, makes, katis, source, is_deferred=False):
         """The name of a macro of a line for these two texts: the wanted one behind the line's prefix, with a number
         where that is taken."""
-        for one in [one for one in self.all if one.prefix == line.prefix and not one.table]:
-            if (one.makes, one.katis, one.is_deferred) == (makes, katis, is_deferred):
-                return one.name
-        number, first = 1, self.free_of_others(line.prefix, wanted)
-        name = first
-        while name in {one.name for one in self.all} or re.search(rf"\b{re.escape(name)}\b", self.taken):
+        self.take_in()
+        found = self.by_texts.get((line.prefix, makes, katis, is_deferred))
+        if found is not None and not found.table and (found.makes, found.katis) == (makes, katis):
+            return found.name
+        first = self.free_of_others(line.prefix, wanted)
+        number = self.numbers.get(first, 1)
+        name = first if number == 1 else f"{first}_{number}"
+        while name in self.names or name in self.taken_words:
             number += 1
             name = f"{first}_{number}"
+        self.numbers[first] = number
         self.all.append(Value(name, makes, katis, source, is_deferred))
         self.all[-1].prefix = line.prefix
         return name
