@@ -156,8 +156,8 @@ class OtherGoals(Tree):
         self.lay_objects(100)
         anew = self.port()[1]
         self.assertGreater(min(anew), 4)
-        # make's commands for the goal, and the values of its own calls; kati once, and once more for --check.
-        for words, runs in ((["install"], (3, 2)), (["test"], (3, 2)), (["clean"], (3, 2))):
+        # make's commands for the goal, the values of its own calls, what is exported now; kati once, and --check.
+        for words, runs in ((["install"], (4, 2)), (["test"], (4, 2)), (["clean"], (4, 2))):
             with self.subTest(words):
                 found = self.port(*words)[1]
                 self.assertLessEqual(found[0], runs[0])
@@ -190,6 +190,16 @@ class OtherGoals(Tree):
                 self.put_all(change)
                 self.port("install")
                 self.assertIn(f"echo {out} > out", " ".join(self.read("build.kati/translated.ninja").split()))
+
+    def test_what_nothing_shows_to_have_changed(self):
+        hidden = self.program("hidden", "cat $(dirname $0)/hidden.txt")
+        (self.top.parent / "hidden.txt").write_text("1\n")
+        self.put("Makefile", f"export A := $(shell {hidden})\nB = $(eval B := $(shell {hidden}))$(B)\n"
+                             "all: ; echo $(A) $(B) > out\ninstall: ; echo $(A) $(B) $$A > out\n")
+        self.port()
+        (self.top.parent / "hidden.txt").write_text("2\n")
+        self.port("install")
+        self.assertIn("A=\"2\" /bin/sh -c 'echo 2 2 $$A > out'", self.read("build.kati/translated.ninja"))
 
     def test_an_include_that_came_since_is_read(self):
         self.put_all({"Makefile": "all: ; echo $(A) > out\ninstall: ; echo $(A) $(shell echo i) > out\n"

@@ -1,4 +1,7 @@
 """What make told that doesn't hang on the goals: asked for others by the same makefiles, it needn't tell that again."""
+import os
+
+from .command_environment import OWN
 
 # What is asked beside the values of texts.
 SHELLS, INCLUDES, FIRST, ENVIRONMENT = "shells", "includes", "first", "environment"
@@ -20,7 +23,8 @@ class Answers:
     """What make told before, by what it was asked, and what it tells now, while it is asked in the folder `room`."""
 
     def __init__(self, before, room):
-        self.before, self.now, self.room = before, {}, room
+        # By a link to that folder its path is no text to replace.
+        self.before, self.now, self.room = before if os.path.realpath(room) == room else {}, {}, room
 
     def known(self, question):
         """What make told before; None where it didn't."""
@@ -35,6 +39,11 @@ class Answers:
     def all(self):
         """What is known, for another run of these tools."""
         return {question: answer for question, answer in {**self.before, **self.now}.items() if answer is not None}
+
+
+def has_exports(difference):
+    """Whether make hands something on by such a difference, of which the value may be another one without a sign."""
+    return not OWN.issuperset([*difference["has"], *difference["lacks"]])
 
 
 def difference(told, given):

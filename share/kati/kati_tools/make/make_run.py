@@ -128,8 +128,9 @@ class MakeRun:
             told = [kept_answers.environment(one, given) for one in known]
         else:
             told = make_commands.told_environments(self.noop, given, ask)
-            if None not in told:
-                self.answers.tell(kept_answers.ENVIRONMENT, [kept_answers.difference(one, given) for one in told])
+            found = [kept_answers.difference(one, given) for one in told if one is not None]
+            if None not in told and not any(map(kept_answers.has_exports, found)):
+                self.answers.tell(kept_answers.ENVIRONMENT, found)
         return command_environment.Added(told, given, self.noop)
 
     def environments(self, shell):

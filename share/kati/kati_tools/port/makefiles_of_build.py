@@ -56,21 +56,29 @@ class Ported:
             changed = next((word for word in before if any(map(start.is_newer, watched.inputs_of(word)))), "a file")
         raise Stop(f"{changed} changes each time while make is asked: run kati-build again when that is over")
 
-    def port_once(self, kept, start, before, is_anew):
-        """Ports, and writes what came of it, where nothing is newer than the start but by sums that `before` has; else
-        answers the sums of what the port came from."""
+    def outcome(self, room, known):
+        """What comes of a port that begins with what is known."""
         # Loaded here alone, since it takes time, and most runs port nothing.
         from ..make import in_place
-        from . import other_goals, port_outcome
-        known = other_goals.kept(self.record, is_anew)
+        from . import port_outcome
         asked = argparse.Namespace(makefile=self.record.makefile, goals=words.goals_of(self.asked.words),
                                    macros=words.macros_of(self.asked.words), kati=self.asked.kati,
                                    depth=self.asked.depth, files_from=self.asked.files_from, has_deps=True,
                                    for_build=True, known=known)
+        with at_work.telling(TOOL, port_outcome.AT_WORK.format(asked.makefile)):
+            return in_place.in_place_or_copy(room, above.texts_of(asked.makefile),
+                                             lambda place: port_outcome.of_port(place, asked, room))
+
+    def port_once(self, kept, start, before, is_anew):
+        """Ports, and writes what came of it, where nothing is newer than the start but by sums that `before` has; else
+        answers the sums of what the port came from."""
+        from . import other_goals
+        known = other_goals.kept(self.record, is_anew)
         with scratch.room("kati-build-") as room:
-            with at_work.telling(TOOL, port_outcome.AT_WORK.format(asked.makefile)):
-                found = in_place.in_place_or_copy(room, above.texts_of(asked.makefile),
-                                                  lambda place: port_outcome.of_port(place, asked, room))
+            found = self.outcome(room, known)
+            if known.answers and (found.stuck or found.difference):
+                # What make told for other goals may be another value by now, where nothing shows it.
+                return self.port_once(kept, start, before, True)
             self.stuck, self.whose, self.difference, self.taken = (
                 found.stuck, found.whose, found.difference, found.taken)
             sums = watched.sums_of(name for name in found.watched if name not in found.made)
