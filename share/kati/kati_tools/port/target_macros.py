@@ -13,6 +13,7 @@ An include may have been ported with another program, so that such lines stand t
 CFLAGS_HERE for kati: they are taken as they are, and this makefile gets its own end."""
 import itertools
 import re
+from collections import Counter
 
 from ..makefile import references, statements
 from ..build import ninja_text
@@ -92,9 +93,13 @@ def kept_for_make(lines):
                 yield lines[at - 1:at + 4]
 
 
-def times_meant(name, targets):
-    """How many of these targets and patterns are a name."""
-    return sum(re.fullmatch(re.escape(one).replace("%", ".+", 1), name) is not None for one in targets)
+def times_meant(targets, outputs):
+    """How often each of these outputs is named by targets and patterns, for those that are."""
+    found = Counter(one for one in targets if one in outputs and "%" not in one)
+    for pattern in [one for one in targets if "%" in one]:
+        form = re.compile(re.escape(pattern).replace("%", ".+", 1))
+        found.update(filter(form.fullmatch, outputs))
+    return found
 
 
 class TargetMacros(Mender):
@@ -154,9 +159,9 @@ class TargetMacros(Mender):
             # `?=` does nothing where all targets have the macro, and behind `override` no line without that does
             # anything for its targets.
             is_lost, overrides = one.operator == "?=" and flavor != "undefined", "override" in one.words
-            times = {name: times_meant(name, names) for name in graph.by_output if not is_lost}
+            times = {} if is_lost else times_meant(names, graph.by_output)
             one.hit = {name: count for name, count in times.items()
-                       if count and (overrides or (one.macro, name) not in overridden)}
+                       if overrides or (one.macro, name) not in overridden}
             if overrides:
                 overridden.update((one.macro, name) for name in names)
         live = [one for one in self.all if one.hit]
