@@ -1,9 +1,8 @@
 //! Books of rules, a line each.
-use crate::asking::{Question, add, add_lines, answers, put_answer, put_answer_to};
+use crate::asking::{Question, add, add_lines, add_read, answers, put_answer, put_answer_to};
 use crate::sameness::same;
 use crate::telling::put_place;
-use kt_rules::{Book, Place, RuleFault, RuleReader, Warnings};
-use kt_rules_doubles::place_of;
+use kt_rules::{Book, Place, RuleReader};
 use std::alloc::{AllocError, Global};
 use std::process::Abort;
 use std::test::Fail;
@@ -219,7 +218,7 @@ fn numbers_entries(rt: HostRuntime) -> Result<(), Fail> {
         b"a: b;x\nc d &: e;y\na: f\n.c.o:;z\n%.o: %.c;w\nd: g",
         &mut Vec::new(alloc),
     );
-    let numbers = book.entry_numbers()?;
+    let numbers = book.entry_numbers().expect(&rt, "memory");
     let rows: [(&[u8], &[usize]); 6] = [
         (b"a", &[0, 2]),
         (b"c", &[1]),
@@ -404,7 +403,7 @@ fn lends_places_of_pattern_rules(rt: HostRuntime) -> Result<(), Fail> {
     let mut told = Vec::new(alloc);
     let mut book = Book::new(alloc)?;
     assert!(rt; takes(alloc, &mut book, b".c.o:;cc", 3));
-    if let Some(place) = first_place(&book)? {
+    if let Some(place) = first_place(&book).expect(&rt, "memory") {
         put_place(&mut told, place);
     }
     assert_eq!(rt; told.as_slice(), b"m:3 ".as_slice());
@@ -476,17 +475,11 @@ fn stays_as_it_was_where_it_refuses(rt: HostRuntime) -> Result<(), Fail> {
     Ok(())
 }
 
-/// Adds the entry of a line, and finishes.
-fn add_last(
-    alloc: Global,
-    book: &mut Book,
-    reader: &mut RuleReader,
-    head: &[u8],
-) -> Result<Warnings, RuleFault> {
-    let entry = reader.read(head, None, place_of(alloc, 1)?)?;
-    let warnings = book.add(entry)?;
+/// Whether a book takes the rule of a line that a reader reads, before it is finished.
+fn takes_last(alloc: Global, book: &mut Book, reader: &mut RuleReader, head: &[u8]) -> bool {
+    let is_taken = add_read(alloc, book, reader, head, None).is_ok();
     book.finish_adding();
-    Ok(warnings)
+    is_taken
 }
 
 /// The second rule needs the names that the first one left.
@@ -500,7 +493,7 @@ fn takes_more_after_it_was_finished(rt: HostRuntime) -> Result<(), Fail> {
         b"b: include/of_thirty_two_letters.h1 | include/of_thirty_two_letters.h2",
     ];
     for head in heads {
-        assert!(rt; add_last(alloc, &mut book, &mut reader, head).is_ok());
+        assert!(rt; takes_last(alloc, &mut book, &mut reader, head));
     }
     answers_as(
         &rt,

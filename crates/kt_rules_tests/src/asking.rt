@@ -3,10 +3,10 @@ use crate::sameness::same;
 use crate::telling::{put_fault, put_needs, put_place};
 use kt_list::Names;
 use kt_rules::{
-    Book, BookRule, Explicit, Name, NeededNames, NeedsView, Pattern, RuleFault, TargetRule,
-    Warnings,
+    Book, BookRule, Explicit, Name, NeededNames, NeedsView, Pattern, RuleFault, RuleReader,
+    TargetRule, Warnings,
 };
-use kt_rules_doubles::entry_of;
+use kt_rules_doubles::{entry_of, place_of, text_of};
 use kt_testing::put;
 use std::alloc::{AllocError, Global};
 use std::process::Abort;
@@ -19,6 +19,22 @@ pub(crate) fn add(
     number: u64,
 ) -> Result<Warnings, RuleFault> {
     let entry = entry_of(alloc, line, number)?;
+    book.add(entry)
+}
+
+/// Adds the rule of a line that a reader reads.
+pub(crate) fn add_read(
+    alloc: Global,
+    book: &mut Book,
+    reader: &mut RuleReader,
+    head: &[u8],
+    recipe: Option<&[u8]>,
+) -> Result<Warnings, RuleFault> {
+    let recipe = match recipe {
+        Some(text) => Some(text_of(alloc, text)?),
+        None => None,
+    };
+    let entry = reader.read(head, recipe, place_of(alloc, 1)?)?;
     book.add(entry)
 }
 

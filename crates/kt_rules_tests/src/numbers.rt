@@ -1,8 +1,7 @@
 //! Names of a book by their numbers.
-use crate::asking::{Question, answers};
+use crate::asking::{Question, add_read, answers};
 use crate::sameness::same;
-use kt_rules::{Book, RuleFault, RuleReader};
-use kt_rules_doubles::{place_of, text_of};
+use kt_rules::{Book, RuleReader};
 use std::alloc::Global;
 use std::test::Fail;
 
@@ -92,18 +91,15 @@ fn finds_rules_by_number(rt: HostRuntime) -> Result<(), Fail> {
     Ok(())
 }
 
-fn book_of(alloc: Global) -> Result<Book, RuleFault> {
-    let mut book = Book::new(alloc)?;
+// Whether a book takes the rules of all lines.
+fn takes_all(alloc: Global, book: &mut Book) -> bool {
     let mut reader = RuleReader::new(alloc);
     for (head, recipe) in LINES {
-        let recipe = match recipe {
-            Some(text) => Some(text_of(alloc, text)?),
-            None => None,
-        };
-        let entry = reader.read(head, recipe, place_of(alloc, 1)?)?;
-        let _warnings = book.add(entry)?;
+        if add_read(alloc, book, &mut reader, head, recipe).is_err() {
+            return false;
+        }
     }
-    Ok(book)
+    true
 }
 
 #[test]
@@ -127,14 +123,11 @@ fn tells_what_is_made_alike(rt: HostRuntime) -> Result<(), Fail> {
         (b"c", b"c", true),
         (b"c", b"e", false),
     ];
-    match book_of(alloc) {
-        Ok(book) => {
-            for (name, other, expected) in rows {
-                let alike = book.are_made_alike(name, 0, other, 0);
-                same(&rt, (name, other), alike, expected);
-            }
-        }
-        Err(_refused) => assert!(rt; false),
+    let mut book = Book::new(alloc)?;
+    assert!(rt; takes_all(alloc, &mut book));
+    for (name, other, expected) in rows {
+        let alike = book.are_made_alike(name, 0, other, 0);
+        same(&rt, (name, other), alike, expected);
     }
     Ok(())
 }
