@@ -26,7 +26,7 @@ unfoldable pub use Rattle.kt_graph.specs.inner.nodes.Inputs.{differ, rise, rise_
 pub use Rattle.kt_graph.specs.inner.nodes.Needed.{first_needs, joined_after, needed_as, needed_by, needed_by_parts, needing_as, needing_view, part_with, rules_needs, single_node}
 pub use Rattle.kt_graph.specs.inner.nodes.Numbering.{AddsNumbers, HasNumbers, IsMaking, IsNumbered, IsStoredAs, SayParts, SaysNeeds, SaysNode, SaysPart, StandFor}
 pub use Rattle.kt_graph.specs.inner.nodes.Reached.{HasSame, IsPlaced, IsPushed, IsReachedAt, ReachesNumber, StaysPlaced, listed_in, place_held, place_marked, reached_text}
-pub use Rattle.kt_graph.specs.inner.nodes.Stored.{AreAlike, AreRowsOf, AreStored, Grew, IsHeadOf, IsHeadWithin, IsLike, IsPartWithin, IsSpanWithin, PutsParts, StoredNode, StoredPart, cut, input_numbers, node_like, node_stored, nodes_stored, order_only_numbers, part_held, part_like, part_stored, parts_held, parts_stored, some_if, stored_at, stored_with}
+pub use Rattle.kt_graph.specs.inner.nodes.Stored.{AreAlike, AreRowsOf, AreStored, Grew, HasOnePart, IsHeadOf, IsHeadWithin, IsLike, IsPartWithin, IsSpanWithin, PutsParts, StoredNode, StoredPart, cut, input_numbers, node_like, node_stored, nodes_stored, order_only_numbers, part_held, part_like, part_stored, parts_held, parts_stored, some_if, stored_at, stored_with}
 pub use Rattle.kt_graph.specs.inner.search.Ends.{AreAllNoted, AreNoted, HasAll, IsFixedEnd, IsNoted, KeepsNoted, NotesAll, NotesEnd, candidate_numbered, candidates_numbered, numbers_at}
 pub use Rattle.kt_graph.specs.nodes.Node.{bare_part, chosen_rule, double_node, explicit_node, implicit_node, kind_without, needs_after, node_by, node_with, other_rules, part_of, plain_node, searched, used_rule}
 unfoldable pub use Rattle.kt_graph.specs.nodes.Node.{inputs_of, joined_needs, node_of, order_only_of, suffix_stem}

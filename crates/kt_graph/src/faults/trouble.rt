@@ -8,7 +8,7 @@ use kt_rules::FaultKind;
 use std::alloc::Global;
 
 /// What is wrong, and the name that the message is about.
-#[derive(Clone, Copy, Debug)]
+#[derive(Clone, Copy)]
 pub(crate) enum Trouble<'g> {
     /// No rule makes a goal.
     NoRule(&'g [u8]),

@@ -185,9 +185,9 @@ impl<'a> GraphBuilder<'a> {
 
     // The node of a name with one rule, which needs what the last node does.
     fn node_like_last(&mut self, rule: TargetRule<'a>) -> Result<(), AllocError>
-        ensures { OnOk result (LastNeeds self.old (needs_for (rule_view rule.entry).0 (rule_view rule.entry).1)
-            → BuildsNode self.old (sole_node (suffixes_of self.old.book.now) (rule_view rule.entry).1.name
-            (rule_view rule.entry)) self.new) }
+        requires { LastNeeds self.old (needs_for (rule_view rule).0 (rule_view rule).1) }
+        ensures { OnOk result (BuildsNode self.old (sole_node (suffixes_of self.old.book.now)
+            (rule_view rule.entry).1.name (rule_view rule.entry)) self.new) }
     {
         let last = self.nodes.len().saturating_sub(1);
         let making = group_of(self.alloc, rule.entry)?;

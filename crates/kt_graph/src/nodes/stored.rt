@@ -1,9 +1,10 @@
 //! Nodes as the graph holds them, in three lists, with numbers for names.
 ghost use Rattle.std.specs.Prelude.{◌≡◌, ◌++◌, ◌∷◌, ◌<◌, ◌≤◌, ◌^◌, ◌⊎◌, [], All, IfOk, OnErr, OnOk, drop, get_or, length};
-ghost use Rattle.std.specs.Prelude.{option_map, option_to_list, slice_get, true, None};
+ghost use Rattle.std.specs.Prelude.{option_map, option_to_list, slice_get, true, None, Some};
 ghost use Rattle.kt_graph.specs.declared.nodes.node.NodeKind.TheVariants.{DoubleColon};
 ghost use Rattle.kt_graph.specs.inner.nodes.Stored.{input_numbers, order_only_numbers};
-ghost use Rattle.kt_graph.specs.inner.nodes.Stored.{AreAlike, AreRowsOf, AreStored, Grew, IsHeadOf, IsLike};
+ghost use Rattle.kt_graph.specs.declared.nodes.stored.Head.{Head};
+ghost use Rattle.kt_graph.specs.inner.nodes.Stored.{AreAlike, AreRowsOf, AreStored, Grew, HasOnePart, IsHeadOf, IsLike};
 ghost use Rattle.kt_list.specs.Prefixes.{HasMore};
 ghost use Rattle.kt_graph.specs.inner.nodes.Stored.{IsPartWithin, IsSpanWithin, node_like, nodes_stored};
 ghost use Rattle.kt_graph.specs.inner.nodes.Stored.{PutsParts, cut, stored_with, part_held, part_seen};
@@ -117,13 +118,14 @@ impl<'a> StoredNodes<'a> {
     }
 
     /// Adds a node with one part at the end, which needs what another such node does. Its rows are the other's: none is
-    /// looked at. Without such a node, the error is out of memory, too.
+    /// looked at.
     pub(crate) fn push_like(
         &mut self,
         number: usize,
         maker: Maker,
         part: Part<'a>,
     ) -> Result<(), AllocError>
+        requires { HasOnePart self.old number }
         ensures { OnOk result (self.new ≡ self.old ++ node_like maker.kind maker.made_with part.entry
             (stored_at self.old number) ∷ []) }
     {
@@ -331,7 +333,8 @@ fn put_like<'a>(
     maker: Maker,
     part: Part<'a>,
 ) -> Result<Head, AllocError>
-    requires { AreStored parts.old.items rows.now heads.now }
+    requires stored { AreStored parts.old.items rows.now heads.now }
+    requires one { HasOnePart (nodes_stored parts.old.items rows.now heads.now) number }
     ensures grew { Grew parts.old.items rows.now parts.new.items rows.now }
     ensures head { IfOk result (IsHeadOf parts.new.items rows.now (node_like maker.kind maker.made_with part.entry
         (stored_at (nodes_stored parts.old.items rows.now heads.now) number))) }
@@ -348,17 +351,13 @@ fn head_like(
     number: usize,
     maker: Maker,
 ) -> Result<(Head, u32), AllocError>
-    requires { All (λ head. IsSpanWithin (length parts.now) head.parts) heads.now }
+    requires within { All (λ head. IsSpanWithin (length parts.now) head.parts) heads.now }
+    requires there { number < length heads.now }
+    requires alone { (head : Head) → slice_get heads.now number ≡ Some head → length (cut parts.now head.parts) ≡ 1 }
     ensures { IfOk result (IsLike heads.now parts.now number maker) }
 {
-    let like = match heads.get(number) {
-        Some(head) => head,
-        None => return Err(AllocError),
-    };
-    let needs = match cut(parts, like.parts) {
-        [part] => part.needs,
-        _ => return Err(AllocError),
-    };
+    let like = heads[number];
+    let needs = cut(parts, like.parts)[0].needs;
     let making = maker.making()?;
     let head = Head {
         kind: maker.kind,

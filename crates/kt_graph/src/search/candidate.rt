@@ -9,7 +9,7 @@ use kt_text::match_pattern;
 use memchr::{memchr, memrchr};
 
 /// A pattern rule, by its number, with the way in which it matches a name.
-#[derive(Clone, Copy, Debug)]
+#[derive(Clone, Copy)]
 pub(crate) struct Candidate {
     pub(crate) rule: usize,
     pub(crate) fit: Fit,
@@ -18,7 +18,7 @@ pub(crate) struct Candidate {
 }
 
 /// Where a name has the directory that a pattern leaves out, and the stem.
-#[derive(Clone, Copy, Debug)]
+#[derive(Clone, Copy)]
 pub(crate) struct Fit {
     /// The length of the directory that a pattern without a slash leaves out.
     pub(crate) directory: usize,

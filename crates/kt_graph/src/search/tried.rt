@@ -21,7 +21,7 @@ pub(crate) struct Tried {
 }
 
 /// Where a question is among the others.
-#[derive(Clone, Copy, Debug)]
+#[derive(Clone, Copy)]
 pub(crate) enum Placed {
     /// It was there already, with this answer.
     Before(Option<Candidate>),

@@ -1,6 +1,6 @@
 -- What is wrong with a graph, from its nodes.
 use Rattle.std.proofs.Common.{◌≡◌, ◌<◌, Bool, true, false, not, ◌||◌, cond, ◌⊎◌, ⊎_elim, List, [], ◌∷◌, ◌++◌, length, map, filter, find, All, Option, None, Some, option_map, refl, sym, ap, ◌∙◌, subst, arith}
-use Rattle.kt_graph.proofs.Common.{Contains, list_any, IsStrictlySortedBy, nat_cmp, is_eq, option_map_or, Ordering, Less, slice_cmp, bytes_eq, false≢true, true≢false, lt-ltb, ltb-true, nat_list_cmp_total, tied_itself, length-map, All-contains, All-filter, All-map, recursion_from_All, sorted_tail, All-after_first, none-some, same_Some, bytes_eq-Decides, Text, Rule, is_repeated, made_names, Node, is_leaf, node_of, canon_of, is_reserved, ComesFirst, IsCyclic, IsDoubled, IsFirst, IsGraph, IsMade, IsReached, IsReserved, Trouble, no_rule, circular, reserved_name, one_file, is_unmade, unmade_goal, first_or_rest, in_first, in_rest}
+use Rattle.kt_graph.proofs.Common.{Contains, list_any, IsStrictlySortedBy, nat_cmp, option_map_or, Ordering, Less, slice_cmp, bytes_eq, false≢true, true≢false, lt-ltb, ltb-true, length-map, All-contains, All-filter, All-map, sorted_tail, All-after_first, none-some, same_Some, bytes_eq-Decides, Text, Rule, is_repeated, made_names, Node, is_leaf, node_of, canon_of, is_reserved, ComesFirst, IsCyclic, IsDoubled, IsFirst, IsGraph, IsMade, IsReached, IsReserved, Trouble, no_rule, circular, reserved_name, one_file, is_unmade, unmade_goal, first_or_rest, in_first, in_rest}
 use Rattle.kt_graph.specs.faults.Faults.{IsFileTrouble}
 use Rattle.kt_graph.specs.inner.faults.Files.{count_of}
 use Rattle.kt_graph.specs.nodes.Groups.{made_nodes}

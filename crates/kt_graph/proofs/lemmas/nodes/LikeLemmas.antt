@@ -1,6 +1,6 @@
 -- The node of a target that needs what the one before does.
 use Rattle.std.proofs.Common.{◌≡◌, ℕ, zero, suc, Bool, true, false, ◌||◌, ◌-◌, List, [], ◌∷◌, ◌++◌, length, map, fold, take, Option, Some, slice_get, nat_eq, refl, sym, ap, subst, ◌∙◌, arith}
-use Rattle.kt_graph.proofs.Common.{list_any, pointwise, append-nil, fold-append, none-some, same_Some, bytes_eq-Decides, head_is, Needs, Target, explicit_rules, has_recipe, is_double, rule_needs, Rule, needs_for, is_among, with_name, all_needs, suffixes_of, Text, GraphBuilder, Explicit, AreTold, BuildsNode, IsLeafOf, IsLikeLast, LastNeeds, sole_node, part_with, IsMaking, SayParts, SaysNeeds, SaysNode, SaysPart, StandFor, StoredNode, StoredPart, node_like, part_like, stored_at, Node, Part, group_of, joined_needs, needs_after, node_of, node_with, other_rules, own_part, part_of}
+use Rattle.kt_graph.proofs.Common.{list_any, pointwise, append-nil, fold-append, none-some, same_Some, bytes_eq-Decides, head_is, Needs, Target, explicit_rules, has_recipe, is_double, rule_needs, Rule, needs_for, is_among, with_name, all_needs, suffixes_of, Text, GraphBuilder, Explicit, AreTold, BuildsNode, IsLeafOf, IsLikeLast, LastNeeds, sole_node, part_with, IsMaking, SayParts, SaysNeeds, SaysNode, SaysPart, StandFor, HasOnePart, StoredNode, StoredPart, node_like, part_like, stored_at, Node, Part, group_of, joined_needs, needs_after, node_of, node_with, other_rules, own_part, part_of}
 use Rattle.std.proofs.Math.Bool.{or-true}
 use Rattle.kt_rules.specs.declared.entry.Kind.{Kind}
 use Rattle.kt_graph.specs.declared.nodes.part.Part.{Part as NewPart}
@@ -92,6 +92,11 @@ last_needs builder name made told like rules =
       inputs = says.inputs;
       order_only = says.order_only;
     }
+
+-- so it has one part, also where other things were added
+pub last_alone : (old : GraphBuilder) (nodes : List StoredNode) (needs : Needs) → nodes ≡ old.nodes → LastNeeds old needs
+    → HasOnePart nodes (length old.nodes - 1)
+last_alone old nodes needs same last = rw (same, last.there, last.alone) refl
 
 -- it is stored as the last one
 pub holds_like : (old middle : GraphBuilder) (nodes : List StoredNode) (suffixes : List Text) (name : Text) (made : Rule × Target) (part : NewPart) (making : Option Instance)

@@ -1,6 +1,6 @@
 -- Nodes in three lists: what is stored stays when more is added.
 use Rattle.std.proofs.Common.{◌≡◌, ℕ, zero, suc, not, ◌+◌, ◌-◌, ◌<◌, ◌≤◌, List, [], ◌∷◌, ◌++◌, All, Option, None, Some, option_map, length, take, drop, get_or, slice_get, refl, sym, ap, ◌∙◌, subst, arith}
-use Rattle.kt_graph.proofs.Common.{append-nil, append_assoc, drop-append-le, get_or_append_left, length-append, length-drop, map-append, take-append-le, All-contains, All-drop, All-head, All-push, All-tail, All-take, All-weaker, none-some, same_Some, slice_get-get_or, slice_get-map, option_to_list, NodeKind, HeldPart, AreRowsOf, AreStored, Grew, IsHeadOf, IsHeadWithin, IsLike, IsPartWithin, IsSpanWithin, PutsParts, StoredNode, StoredPart, cut, input_numbers, node_like, node_stored, stored_with, nodes_stored, order_only_numbers, part_stored, parts_stored, some_if, stored_at, HasMore, is_leaf}
+use Rattle.kt_graph.proofs.Common.{append-nil, append_assoc, drop-append-le, get_or_append_left, length-append, length-drop, length-map, map-append, take-append-le, All-contains, All-drop, All-head, All-push, All-tail, All-take, All-weaker, none-some, same_Some, slice_get-get_or, slice_get-map, option_to_list, NodeKind, HeldPart, AreRowsOf, AreStored, Grew, HasOnePart, IsHeadOf, IsHeadWithin, IsLike, IsPartWithin, IsSpanWithin, PutsParts, StoredNode, StoredPart, cut, input_numbers, node_like, node_stored, stored_with, nodes_stored, order_only_numbers, part_stored, parts_stored, some_if, stored_at, HasMore, is_leaf}
 use Rattle.std.proofs.Math.Seq.{drop-append_seam}
 use Rattle.kt_graph.specs.declared.nodes.part.Maker.{Maker}
 use Rattle.kt_graph.specs.declared.nodes.part.Part.{Part as NewPart}
@@ -205,6 +205,20 @@ pub stored_is : (nodes : List StoredNode) (number : ℕ) (node : StoredNode) →
 stored_is [] number node at = absurd (none-some node at)
 stored_is (first ∷ nodes) zero node at = same_Some first node at
 stored_is (first ∷ nodes) (suc number) node at = stored_is nodes number node at
+
+-- a node that has one part is there, and its part is alone in its place
+pub one_there : (parts : List HeldPart) (rows : List (List ℕ)) (heads : List Head) (number : ℕ) → HasOnePart (nodes_stored parts rows heads) number
+    → number < length heads
+one_there parts rows [] number one = cc
+one_there parts rows (head ∷ heads) zero one = omega arith
+one_there parts rows (head ∷ heads) (suc number) one = omega (arith, one_there parts rows heads number one)
+
+pub one_cut : (parts : List HeldPart) (rows : List (List ℕ)) (heads : List Head) (number : ℕ) → HasOnePart (nodes_stored parts rows heads) number
+    → (head : Head) → slice_get heads number ≡ Some head → length (cut parts head.parts) ≡ 1
+one_cut parts rows heads number one head at =
+    let is = stored_is (nodes_stored parts rows heads) number (node_stored parts rows head)
+    (slice_get-map (node_stored parts rows) heads number ∙ ap (option_map (node_stored parts rows)) at) in
+    sym (length-map (cut parts head.parts) (part_stored rows)) ∙ ap (λ (s : StoredNode). length s.parts) (sym is) ∙ one
 
 -- a node that needs what another does
 module _ (parts : List HeldPart) (rows : List (List ℕ)) (heads : List Head) (number : ℕ) (maker : Maker) (made : Head × ℕ) (part : NewPart) (held : HeldPart)

@@ -33,6 +33,10 @@ abbrev pub stored_at : List StoredNode → ℕ → StoredNode
 stored_at nodes number =
     get_or nodes number (record { kind = Leaf; parts = []; made_with = None; inputs = []; order_only = [] })
 
+-- a node that is there has just one part
+abbrev pub HasOnePart : List StoredNode → ℕ → Type 0
+HasOnePart nodes number = length (stored_at nodes number).parts ≡ 1
+
 -- the prerequisites of parts, each once
 abbrev pub input_numbers : List StoredPart → List ℕ
 input_numbers parts = fold with_number [] (flat_map (λ part. part.prerequisites) parts)

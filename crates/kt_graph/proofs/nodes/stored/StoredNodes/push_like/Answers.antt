@@ -1,7 +1,11 @@
-use Rattle.std.proofs.Common.{List, ◌++◌, ◌∷◌, ◌∙◌, [], ap}
-use Rattle.kt_graph.specs.inner.nodes.Stored.{StoredNode, node_like, nodes_stored, stored_at}
+use Rattle.std.proofs.Common.{List, ◌++◌, ◌∷◌, ◌∙◌, [], ap, subst, sym}
+use Rattle.kt_graph.specs.inner.nodes.Stored.{HasOnePart, StoredNode, node_like, nodes_stored, stored_at}
 use Rattle.kt_graph.proofs.lemmas.nodes.StoredLemmas.{nodes_push, stored_push}
 use Rattle.kt_graph.proofs.nodes.stored.StoredNodes.push_like.Goals as goal
+
+pub put_like-requires-clause-one : goal.put_like-requires-clause-one
+put_like-requires-clause-one c =
+    rw c.as_slice.ensures.value (subst (λ (nodes : List StoredNode). HasOnePart nodes c.args.number) (sym c.self.view_is) c.requires)
 
 pub invariant_of-self-2 : goal.invariant_of-self-2
 invariant_of-self-2 c =
