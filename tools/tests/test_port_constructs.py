@@ -50,6 +50,11 @@ CONSTRUCTS = {
         ({"Makefile": "X = $(eval X := $(shell echo val))$(X)\nY = $(if $(Y_),,$(eval Y_ := $(shell cat y)))$(Y_)\n"
                       "all: ; echo $(X) $(Y) > out\n", "y": "v2\n"},
          ["ifdef MAKE_VERSION\nX = $(eval X := $(shell echo val))$(X)\nelse\nX = $(V_X)\nendif\n", " reads y "]),
+    "a template that has macros evaluate their own values":
+        ({"Makefile": "lazy = $(eval $1 = $$(eval $1 := $(value $(1)))$$($1))\nX = $(shell echo val) $(Z)\n"
+                      "Y = $(shell cat y)\nZ = z\n$(call lazy,X)\n$(call lazy,Y)\nall: ; echo $(X) $(Y) > out\n",
+          "y": "v2\n"},
+         ["ifdef MAKE_VERSION\n$(call lazy,X)\nelse\n", "\nX = $(V_X)\n", " reads y "]),
     "a command that a recipe's function asks about":
         ({"Makefile": "all: a b\na b:\n\techo $(if $(shell test $@ = a && echo x),yes,no) > $@\n"},
          ["$(if $(V_shell),yes,no) > $@\n", "\nV_shell = $(V_shell_$@)\n"]),

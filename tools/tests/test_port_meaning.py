@@ -50,6 +50,12 @@ TREES = {
     "a double colon without a recipe":
         {"Makefile": "CC = sh cc.sh\nUTILS = a b\nall:: $(UTILS)\n$(UTILS):: lib\nlib: ; touch $@\n", "a.c": "",
          "b.c": "", "cc.sh": "shift $(($# - 1)); echo program > $1\n"},
+    "a folder that is named as a suffix":
+        {"Makefile": "O = .o\nall: $(O) .o/a.x .o/b.x ; ls .o > all\n.o/%.x: %.c\n\tcp $< $@\n$(O):\n\tmkdir .o\n",
+         "a.c": "a\n", "b.c": "b\n"},
+    "a folder that is made before what lies in it":
+        {"Makefile": "all: obj prog\nobj/a obj/s/b: ; mkdir -p obj/s; echo > $@\nobj: in ; mkdir obj\n"
+                     "prog: obj/a obj/s/b ; ls obj > $@\n", "in": ""},
     "a library":
         {"Makefile": "LIBS = -lm\nall: out\nout: in $(LIBS) -lc ; echo $^ > out\n", "in": ""},
 }

@@ -5,8 +5,8 @@ makefile and means something else by it than make."""
 from typing import Callable, Mapping, NamedTuple
 
 from . import (default_rule, dependency_includes, double_colons, environment_names, folder_search, inner_makes,
-    made_values, mending, mending_appends, mending_exports, mending_lines, mending_shell, of_the_run, recipe_prefix,
-    second_expansion, shared_includes, shell_flags, taken_back, target_macros, written_out)
+    made_folders, made_values, mending, mending_appends, mending_exports, mending_lines, mending_shell, of_the_run, recipe_prefix,
+    second_expansion, shared_includes, shell_flags, suffix_names, taken_back, target_macros, written_out)
 
 
 class Construct(NamedTuple):
@@ -39,6 +39,7 @@ CONSTRUCTS = (
     Construct("`VPATH`, `vpath`", {"E17": mending.folder_pattern}, mender=folder_search.Search),
     Construct("`-lm` as a prerequisite", mender=folder_search.Search),
     Construct("`X:: y` without a recipe, which make makes by an implicit rule", mender=double_colons.DoubleColons),
+    Construct("`.o: ; mkdir .o`, where the goals need a file or folder of that name", mender=suffix_names.SuffixNames),
     Construct("`.DEFAULT`", {"E22": mending.default}, mender=default_rule.DefaultRule),
     Construct("`debug: CFLAGS += -g`, where the goals don't need `debug`", {"E23": mending.target_macro},
               mender=target_macros.TargetMacros),
@@ -53,7 +54,8 @@ CONSTRUCTS = (
     Construct("`X = $(eval X := $(shell ..))$(X)`, which a recipe is the first to use",
               {"E32": mending.evaluated_value}),
     Construct("macros or includes that nest in more than 100 levels", {"E08": mending.too_deep}),
-    Construct("a template in which `eval` reads what kati refuses", other=written_out.mend),
+    Construct("a template in which `eval` reads what kati refuses", {"E32": written_out.evaluated_values},
+              other=written_out.mend),
     Construct("`$(shell ..)` that has another value each time in a recipe, or reads a file there that the build makes",
               mender=made_values.MadeValues),
     Construct("`$(MAKE) -C lib`", mender=inner_makes.InnerMakes),
@@ -69,11 +71,12 @@ CONSTRUCTS = (
     Construct("those that a rule makes, as by `cc -MM`, or that a recipe moves or rewrites",
               {"E04": mending.absent_include, **{number: mending.by_dependencies for number in ("E24", "E28", "E31")}},
               mender=dependency_includes.DependencyIncludes),
+    Construct("`obj: ; mkdir obj`, where `obj/a.o` doesn't name `obj`", mender=made_folders.MadeFolders),
 )
 # What has to be kept in mind, in the order of the table; and in that in which it stands at the end of the makefile.
 MENDERS = tuple(dict.fromkeys(one.mender for one in CONSTRUCTS if one.mender))
 AT_THE_END = (folder_search.Search, target_macros.TargetMacros, mending_exports.Exports, shell_flags.ShellFlags,
-              mending_shell.ShellTexts, taken_back.TakenBack)
+              mending_shell.ShellTexts, taken_back.TakenBack, made_folders.MadeFolders)
 
 
 def give_menders(port):

@@ -155,16 +155,13 @@ def put(file, line, new):
                              frame(line, "endif")]
 
 
-def mend(port, fault):
-    """Writes out what the line of a fault evaluates, and what others do by the same macros; answers whether it
-    could."""
-    if fault.line is None or not is_bare(fault.line):
-        return False
-    asked, added = Asked(port, lines_like(port, fault)), []
+def write_out(port, lines, is_meant=bool):
+    """Writes out what lines evaluate, of those for which kati is to get such lines; answers whether there are any."""
+    asked, added = Asked(port, lines), []
     for file in port.ported.values():
         for line in [line for line in asked.lines if line in file.lines and not follows_tab(file, line)]:
             new = katis_lines(line, asked.texts_of(line) or [""])
-            if new:
+            if is_meant(new):
                 note(port, line)
                 put(file, line, new)
                 port.probes.read.add_read(new)
@@ -172,4 +169,21 @@ def mend(port, fault):
                 port.tell("written out")
     if any([port.probes.add(line) for line in added]):
         port.probes.ask(list(port.ported.values()), port.run, port.room)
+    return bool(added)
+
+
+def mend(port, fault):
+    """Writes out what the line of a fault evaluates, and what others do by the same macros; answers whether it
+    could."""
+    if fault.line is None or not is_bare(fault.line):
+        return False
+    write_out(port, lines_like(port, fault))
     return any(line is fault.line for line in port.written_out.lines)
+
+
+def evaluated_values(port, fault):
+    """E32: writes out what gives macros a value that evaluates itself, as `lazy = $(eval $1 = $$(eval $1 := ..)$$($1))`
+    in `$(call lazy,X)`; answers whether it could."""
+    del fault
+    lines = [line for line in port.lines() if is_bare(line) and templates(line)]
+    return bool(lines) and write_out(port, lines, lambda new: any(map(mending.evaluates_itself, new)))
