@@ -219,6 +219,14 @@ class Told(Meant):
         self.assertIn("kati's commands differ in when they are run\n", said)
         self.assertIn(told, self.tool("kati-build", "--port", "--no-ninja").said)
 
+    def test_a_link_that_is_made_once(self):
+        told = "l: ln -s fails where the link stands, for make and ninja, "
+        for command in ("ln -s $< $@", "ln -sf $< $@", "rm -f $@; ln -s $< $@", "test -e $@ || ln -s $< $@"):
+            self.put_all({"Makefile": f"all: l\nl: in ; {command}\n", "in": ""})
+            for said in (self.tool("kati-port", "--write", "Makefile").out,
+                         self.tool("kati-build", "--port", "--no-ninja").said):
+                (self.assertIn if command == "ln -s $< $@" else self.assertNotIn)(told, said)
+
     def test_a_double_colon_that_stands_more_than_once(self):
         self.put_all({"Makefile": "CC = sh cc.sh\nall: a\na:: b\na:: c\nb c: ; touch $@\n", "a.c": "",
                       "cc.sh": "shift $(($# - 1)); echo program > $1\n"})

@@ -144,7 +144,7 @@ def told(made, comparison):
     kati's commands differ from make's, where they do."""
     names = " ".join(made.first.by_shell)
     written = [f"$(shell ..) wrote {names} while make read the makefile"] if names else []
-    others = comparison.newer.notes if comparison.is_same() else list(comparison.told())[1:]
+    others = comparison.notes if comparison.is_same() else list(comparison.told())[1:]
     written += written_outside.told(made)
     doubtful = [one for kind in (made_values.MadeValues, double_colons.DoubleColons) for one in made.mender(kind).told]
     return [*made.copy.told(), *written, *unseen_reads.told(made), *doubtful, *others]

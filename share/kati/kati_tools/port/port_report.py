@@ -6,8 +6,8 @@ from collections import Counter
 
 from ..make import command_lists, shell_reading
 from ..build import comparing, differences
-from . import folder_search, mending_exports, newer_names, scanning, shell_flags, taken_away, target_macros, \
-    template_faults, unseen_reads, written_outside
+from . import folder_search, made_links, mending_exports, newer_names, scanning, shell_flags, taken_away, \
+    target_macros, template_faults, unseen_reads, written_outside
 from .frozen_values import NAME
 from ..base.programs import Stop
 
@@ -137,6 +137,8 @@ class Comparison:
         self.has_other_blanks = self.has_other_blanks or has_other_blanks
         self.of_the_shell = port.mender(shell_flags.ShellFlags).differences(translation)
         self.newer = newer_names.Newer(port, translation)
+        # What is told, and is no difference.
+        self.notes = [*self.newer.notes, *made_links.told(translation)]
         self.when_run = [*self.newer.differences, *taken_away.told(translation),
                          *port.mender(folder_search.Search).differences()]
 
@@ -159,7 +161,7 @@ class Comparison:
         """The lines that say so; the last one says what it comes to."""
         varying = f", {self.count_varying} of them another one each time" if self.count_varying else ""
         yield f"make's commands are as before: {len(self.before)}{varying}"
-        yield from self.newer.notes
+        yield from self.notes
         if self.is_same():
             yield f"kati's commands are make's{', blanks aside' if self.has_other_blanks else ''}"
             return
