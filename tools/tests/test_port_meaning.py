@@ -117,6 +117,16 @@ class Mended(Meant):
                 self.assertRegex(self.port(), SAME)
                 self.assertEqual(self.make(), wanted)
 
+    def test_what_a_recipe_takes_away_is_made_behind_it(self):
+        self.put_all({"Makefile": "all: clean x y\nclean: ; rm -f x\nx: ; echo x > $@\ny: x ; cp x $@\n"})
+        wanted = self.make()
+        for _ in range(2):
+            ran = self.tool("kati-build", "--port")
+            self.assertEqual((ran.status, {name: self.read(name) for name in wanted}), (0, wanted), ran.all)
+            self.assertNotIn("differ", ran.said)
+        self.assertIn("echo x > x", self.ninja())
+        self.assertEqual({name: self.read(name) for name in wanted}, wanted)
+
     def test_flags_of_make_are_those_of_a_users_run(self):
         self.put_all({"Makefile": "all: ; @echo '[$(MAKEFLAGS)][$(MFLAGS)]' $(A) > out\n"})
         self.assertRegex(self.port(), SAME)
@@ -210,7 +220,7 @@ class Told(Meant):
         self.assertIn("$? is all prerequisites for kati", self.port())
 
     def test_what_another_recipe_takes_away(self):
-        makefile = "all: kill x y\nkill: ; rm -f x\nx: ; echo x > $@\ny: y.o ; cp y.o $@; rm y.o\ny.o: ; echo y > $@\n"
+        makefile = "all: kill x y\nkill: ; rm -f x\nx: ; echo x$^ > $@\ny: y.o ; cp y.o $@; rm y.o\ny.o: ; echo y > $@\n"
         self.put("Makefile", makefile)
         told = "kill takes x away, which make makes again in the same run, and ninja in the next one;"
         said = self.port(status=DIFFERS)

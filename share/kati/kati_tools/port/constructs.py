@@ -6,7 +6,8 @@ from typing import Callable, Mapping, NamedTuple
 
 from . import (default_rule, dependency_includes, double_colons, environment_names, folder_search, inner_makes,
     made_folders, made_values, mending, mending_appends, mending_exports, mending_lines, mending_shell, of_the_run, recipe_prefix,
-    second_expansion, shared_includes, shell_flags, suffix_names, taken_back, target_macros, written_out)
+    second_expansion, shared_includes, shell_flags, suffix_names, taken_away, taken_back,
+    target_macros, written_out)
 
 
 class Construct(NamedTuple):
@@ -72,11 +73,12 @@ CONSTRUCTS = (
               {"E04": mending.absent_include, **{number: mending.by_dependencies for number in ("E24", "E28", "E31")}},
               mender=dependency_includes.DependencyIncludes),
     Construct("`obj: ; mkdir obj`, where `obj/a.o` doesn't name `obj`", mender=made_folders.MadeFolders),
+    Construct("`all: clean prog`, where `clean` takes `prog` away by `rm`", mender=taken_away.TakenAway),
 )
 # What has to be kept in mind, in the order of the table; and in that in which it stands at the end of the makefile.
 MENDERS = tuple(dict.fromkeys(one.mender for one in CONSTRUCTS if one.mender))
 AT_THE_END = (folder_search.Search, target_macros.TargetMacros, mending_exports.Exports, shell_flags.ShellFlags,
-              mending_shell.ShellTexts, taken_back.TakenBack, made_folders.MadeFolders)
+              mending_shell.ShellTexts, taken_back.TakenBack, made_folders.MadeFolders, taken_away.TakenAway)
 
 
 def give_menders(port):

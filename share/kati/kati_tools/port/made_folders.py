@@ -9,8 +9,8 @@ from ..makefile.syntax import Kind
 from . import command_reads, taken_away
 from .mender import Mender
 
-# Names that stand in a rule as they are; and what has `mkdir` take a folder that is there.
-PLAIN, TAKES = re.compile(r"[\w./+-]+"), re.compile(r"-\w*p\w*|--parents")
+# What has `mkdir` take a folder that is there.
+TAKES = re.compile(r"-\w*p\w*|--parents")
 
 
 def is_made_once(statement):
@@ -53,7 +53,7 @@ class MadeFolders(Mender):
         for one in translation.statements:
             for folder in sorted(folders & parents(one.outputs if one.command is not None else ())):
                 if folder not in taken_away.needed_by(one, by_output) and not behind[folder].intersection(one.outputs) \
-                        and all(map(PLAIN.fullmatch, [folder, *one.outputs])):
+                        and all(map(taken_away.PLAIN.fullmatch, [folder, *one.outputs])):
                     self.within.setdefault(folder, []).extend(one.outputs)
         return bool(self.within)
 
