@@ -66,6 +66,18 @@ class Dependencies(Tree):
         self.assertIn("-o a.o a.c", self.run_in("make").out)
         self.assertEqual(self.run_in("./prog").status, 7)
 
+    def test_files_of_the_compiler_with_other_names(self):
+        text = WRITTEN.replace("-MP", "-MF $(@:.o=.mk)").replace(":.o=.d", ":.o=.mk")
+        self.put_all({"Makefile": text, **HEADER})
+        for value in (1, 7):
+            self.put("a.h", f"#define A {value}\n")
+            self.build()
+            self.assertIn("a.h", self.read("a.mk"))
+            self.assertEqual(self.run_in("./prog").status, value)
+            self.assert_quiet()
+        self.put("a.h", "#define A 8\n")
+        self.assertIn("-o a.o a.c", self.run_in("make").out)
+
     def test_ninja_reads_what_the_compiler_writes_and_kati_does_not(self):
         self.put_all({"Makefile": WRITTEN, **HEADER})
         self.build()

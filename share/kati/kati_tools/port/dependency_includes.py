@@ -37,11 +37,22 @@ def softened(text):
 
 class DependencyIncludes(Mender):
     """The includes of header dependencies of a port. `lines` are those that stand for make alone, with the names in
-    them; `read` those of them that kati reads as well, `unread` the names that it refuses."""
+    them; `read` those of them that kati reads as well, `unread` the names that it refuses. `by_compilers` are the names
+    that compilers write, by make's commands."""
 
     def __init__(self, port):
         super().__init__(port)
         self.lines, self.read, self.unread, self.is_tried = {}, set(), [], False
+        self.by_compilers = set()
+
+    def look(self):
+        """Finds what compilers write, which may have names as those of other makefiles."""
+        found = [header_dependencies.written_in(text) for text in self.port.first.commands[1] if WRITES.search(text)]
+        self.by_compilers = {os.path.normpath(name) for name in found if name}
+
+    def is_meant(self, name):
+        """Whether a name is one of header dependencies."""
+        return bool(NAMES.search(name)) or os.path.normpath(name) in self.by_compilers
 
     def names_in(self, lines):
         """The names that these lines include, as make has them, patterns among them as they are."""
@@ -61,7 +72,7 @@ class DependencyIncludes(Mender):
 
     def add(self, line, names):
         """Keeps a line for make alone, for now, if it includes nothing else; answers whether it does."""
-        if not names or not all(map(NAMES.search, names)):
+        if not names or not all(map(self.is_meant, names)):
             return False
         line.wrap()
         self.lines[line] = names

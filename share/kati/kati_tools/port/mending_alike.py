@@ -1,4 +1,5 @@
-"""What is mended with a fault: all that kati would refuse in the same way, of what make reads and evaluates.
+"""What is mended with a fault: all that kati would refuse in the same way, or in another one of those that the lines
+themselves show, of what make reads and evaluates.
 
 So one run of kati's does for many faults; what make doesn't come by stays as it is."""
 from typing import Any, NamedTuple
@@ -44,9 +45,8 @@ def unchanged_lines(port):
     return ((file, line) for file, line in unwrapped_lines(port) if not line.edits)
 
 
-def functions(port, fault):
+def functions(port):
     """E16: the lines of which make evaluated the calls, but for what words of the command line give values to."""
-    del fault
     given = {one.split("=", 1)[0].rstrip(":+?") for one in port.asked.macros}
     # The line of before by which the values are included stays.
     for _, line in [one for one in read_lines(port) if not one[1].edits and frozen_values.NAME not in one[1].text]:
@@ -56,9 +56,8 @@ def functions(port, fault):
             port.freezer.line(line)
 
 
-def forms(port, fault):
+def forms(port):
     """E17: lines that begin with a refused word, and `!=`."""
-    del fault
     for file, line in unwrapped_lines(port):
         word, assigned = line.first_word(), line.assignment()
         is_shell = bool(assigned) and assigned[1] == "!="
@@ -66,25 +65,22 @@ def forms(port, fault):
             mend_alike(port, Alike(file, line, "E17", "!=" if is_shell else word))
 
 
-def of_targets(port, fault):
+def of_targets(port):
     """E23."""
-    del fault
     for _, line in unwrapped_lines(port):
         if port.probes.read.kind(line) is Kind.TARGET_ASSIGNMENT and not line.is_tab:
             port.mender(target_macros.TargetMacros).add(line)
 
 
-def behind_tabs(port, fault):
+def behind_tabs(port):
     """E06: words behind a tab that make takes for the beginning of no recipe line."""
-    del fault
     for file, line in unchanged_lines(port):
         if line.is_tab and port.probes.read.is_behind_tab(line) and port.probes.read.kind(line) in BEHIND_TAB:
             mending_lines.tabs(port, Alike(file, line, "E06"))
 
 
-def empty_names(port, fault):
+def empty_names(port):
     """E15: conditionals by names that are empty at the end."""
-    del fault
     meant = [(file, line, name) for file, line in unchanged_lines(port) if not line.is_body
              for name in [mending_lines.tested_name(line)] if name.startswith("$")]
     told = port.run.values([name for _, _, name in meant])
@@ -93,9 +89,8 @@ def empty_names(port, fault):
             mending_lines.empty_name(port, Alike(file, line, "E15"))
 
 
-def names(port, fault):
+def names(port):
     """E20: wildcards in rule lines, and includes of header dependencies by wildcards."""
-    del fault
     includes = [line for _, line in unchanged_lines(port) if port.probes.read.kind(line) is Kind.INCLUDE
                 and not line.is_tab and any(map(is_wild, references.words(line.joined)[1:]))]
     dependencies = port.mender(dependency_includes.DependencyIncludes)
@@ -125,5 +120,5 @@ ALIKE = {"E06": behind_tabs, "E15": empty_names, "E16": functions, "E17": forms,
 
 def mend(port, fault):
     """Mends what is alike."""
-    if fault.number in ALIKE:
-        ALIKE[fault.number](port, fault)
+    for one in ALIKE.values() if fault.number in ALIKE else ():
+        one(port)
