@@ -124,6 +124,18 @@ class Outside(Tree):
                     shutil.rmtree(self.top / f"prog/{name}.kati")
                     self.assertEqual(again, self.listed(name, *words))
 
+    def test_what_make_writes_above_with_a_makefile(self):
+        self.put("sub/full.mk", "all: ; echo $(shell cat ../made) > out\n")
+        self.put("sub/Makefile", "all: out\nMakefile: FORCE ; cd .. && cp sub/full.mk sub/Makefile && echo 1 > made\n"
+                                 "FORCE:\n")
+        before = self.read("sub/Makefile")
+        for option in ("--write", "--diff"):
+            ran = self.run_in("env", "-C", "sub", self.tool_path("kati-port"), option, "Makefile")
+            self.assertIn("make writes Makefile anew before anything, and ../made with it; run make first", ran.said)
+            self.assertEqual((ran.status, self.read("sub/Makefile")), (1, before))
+        self.assertEqual(self.run_in("make", "-C", "sub").status, 0)
+        self.assertEqual(self.read("sub/out"), "1\n")
+
     def test_it_is_not_looked_for_again(self):
         self.lay(RULE.format("../inc/h.h"))
         inc, src = ["../inc/g.h", "../inc/h.h"], ["../src/a.c", "../src/b.c"]

@@ -36,9 +36,12 @@ def look(port):
 def make_includes(port, before, by_shell):
     """Has make make its includes, where files had these times `before`, and loads what it reads; `by_shell` are the
     files that commands change each time."""
+    above = port.copy.times_above()
     status, said, names = port.run.make_includes()
     if status:
         raise MakeFails(status, said)
+    above_now = port.copy.times_above()
+    port.first.made_above = sorted({*changed(above, above_now), *set(above_now).difference(above)})
     port.first.read = {os.path.normpath(os.path.relpath(name)) for name in names}
     load_read(port)
     port.first.times = after = port.copy.times()

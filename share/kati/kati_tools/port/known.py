@@ -13,15 +13,17 @@ from . import freezing, frozen_values, values_file
 @dataclass
 class FirstLook:
     """What make did before anything was changed: the shell of its commands, and these, as `MakeRun.commands` answers
-    them; the makefiles that it read, the files that it made first and those that it wrote anew, what `$(shell ..)`
-    wrote, and what it wrote outside of this folder; the dependencies that aren't there when kati reads, the times of
-    all files, and the variables of the environment on which all that hangs."""
+    them; the makefiles that it read, the files that it made first, those that it wrote anew, and those that it wrote
+    above or beside this folder with these; what `$(shell ..)` wrote, and what it wrote outside of this folder; the
+    dependencies that aren't there when kati reads, the times of all files, and the variables of the environment on
+    which all that hangs."""
 
     shell: str = ""
     commands: tuple = ()
     read: set = field(default_factory=set)
     made: list = field(default_factory=list)
     remade: list = field(default_factory=list)
+    made_above: list = field(default_factory=list)
     by_shell: list = field(default_factory=list)
     outside: list = field(default_factory=list)
     hidden: list = field(default_factory=list)

@@ -77,7 +77,8 @@ def has_read_all(port):
     first = port.first
     named = {name for file in port.ported.values() for name in includes.named_in(file.before)}
     is_all = all("*" not in name and os.path.isfile(name) for name in named)
-    return is_all and not (first.made or first.remade or first.by_shell or first.outside or first.hidden)
+    made = first.made or first.made_above or first.remade
+    return is_all and not (made or first.by_shell or first.outside or first.hidden)
 
 
 def note(port, fault):

@@ -80,6 +80,7 @@ def ported_at(place, asked, room):
         except Stuck as stuck:
             lines = filter(None, [str(stuck), port_report.advice(made, stuck.fault)])
             raise Stop(place.real_text("\n".join([f"{asked.makefile} isn't ported", *lines])), 1) from None
+        refuse_made_above(made)
         comparison = port_report.Comparison(made, translation)
         if not comparison.is_unchanged(lambda: saving.commands_again(made)):
             raise Stop(f"{asked.makefile} isn't ported: make's commands would change\n"
@@ -90,6 +91,15 @@ def ported_at(place, asked, room):
             raise Stop(f"{asked.makefile} isn't ported: {name} is a link to a file elsewhere, which others may read; "
                        "put a copy in its place. kati-build --port builds by it as it is", 1)
         return written, [place.real_text(line) for line in told(made, comparison)], comparison.is_same()
+
+
+def refuse_made_above(made):
+    """Stops where make writes makefiles anew, and more than those, above or beside this folder: what is written here
+    would be without that."""
+    first = made.first
+    if first.remade and first.made_above:
+        raise Stop(f"{made.makefile} isn't ported: make writes {' '.join(first.remade)} anew before anything, and "
+                   f"{first.made_above[0]} with it; run make first", 1)
 
 
 def ported(asked, room):
