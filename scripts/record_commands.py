@@ -149,7 +149,9 @@ class Recording:
         """The commands of make's build."""
         recorder = Recorder(self.room / "make", self.asked.shell, True)
         self.anew()
-        if run([programs.need("make"), *self.given, f"SHELL={recorder.path}"], self.tree, self.log):
+        programs.need("make")
+        # By the name by which kati-build runs it, which is the value of $(MAKE).
+        if run([os.environ.get("MAKE") or "make", *self.given, f"SHELL={recorder.path}"], self.tree, self.log):
             raise self.failed("make")
         return recorder.commands()
 

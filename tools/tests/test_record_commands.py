@@ -18,8 +18,8 @@ class Recording(Tree):
 
     def test_the_same_commands(self):
         self.put_all({"Makefile": "export A = 1\nall: out\nout: in\n\t# a comment \\\n\tsort  in \\\n\t  > out\n"
-                                  "\t@echo 'a,b' | sed 's/,/\\\n\t/' >> out\n", "in": "b\na\n"})
-        self.assertEqual(self.record(".", status=0), "same: 2 commands\n")
+                                  "\t@echo 'a,b' | sed 's/,/\\\n\t/' >> out\n\t@echo $(MAKE) >> out\n", "in": "b\na\n"})
+        self.assertEqual(self.record(".", status=0), "same: 3 commands\n")
         self.assertEqual(sorted(path.name for path in self.top.iterdir()), ["Makefile", "in"])
 
     def test_another_text_that_is_told(self):
