@@ -67,7 +67,8 @@ class Dependencies(Tree):
         self.assertEqual(self.run_in("./prog").status, 7)
 
     def test_files_of_the_compiler_with_other_names(self):
-        text = WRITTEN.replace("-MP", "-MF $(@:.o=.mk)").replace(":.o=.d", ":.o=.mk")
+        text = "ALL = a.o t.o\n" + WRITTEN.replace("-MP", "-MF $(@:.o=.mk)").replace(
+            "$(OBJS:.o=.d)", "$(patsubst %.o, %.mk, $(ALL))")
         self.put_all({"Makefile": text, **HEADER})
         for value in (1, 7):
             self.put("a.h", f"#define A {value}\n")

@@ -50,9 +50,15 @@ class DependencyIncludes(Mender):
         found = [header_dependencies.written_in(text) for text in self.port.first.commands[1] if WRITES.search(text)]
         self.by_compilers = {os.path.normpath(name) for name in found if name}
 
-    def is_meant(self, name):
-        """Whether a name is one of header dependencies."""
-        return bool(NAMES.search(name)) or os.path.normpath(name) in self.by_compilers
+    def are_meant(self, names):
+        """Whether names are those of header dependencies: by what they are called, or as compilers write some of them
+        and the others, which aren't there, end in the same way."""
+        if all(map(NAMES.search, names)):
+            return bool(names)
+        written = [name for name in names if os.path.normpath(name) in self.by_compilers]
+        endings = {os.path.splitext(name)[1] for name in written}
+        return all(os.path.splitext(name)[1] in endings and not os.path.exists(name)
+                   for name in set(names).difference(written))
 
     def names_in(self, lines):
         """The names that these lines include, as make has them, patterns among them as they are."""
@@ -72,7 +78,7 @@ class DependencyIncludes(Mender):
 
     def add(self, line, names):
         """Keeps a line for make alone, for now, if it includes nothing else; answers whether it does."""
-        if not names or not all(map(self.is_meant, names)):
+        if not self.are_meant(names):
             return False
         line.wrap()
         self.lines[line] = names
@@ -96,8 +102,17 @@ class DependencyIncludes(Mender):
         found = header_dependencies.Dependencies(translation.statements).files.values() if self.lines else ()
         written = set(map(os.path.normpath, found))
         more = [line for line, names in self.lines.items() if line not in self.read and not set(names) <= {*self.unread}
-                and not all(is_written(name, written) for name in names)]
+                and not self.are_written(names, written, translation)]
         return self.have_read(more) or self.try_all()
+
+    @staticmethod
+    def are_written(names, written, translation):
+        """Whether Ninja reads what these names are: compilers write some, and nothing makes the others, which aren't
+        there, as those of objects that the goals don't need."""
+        others = [name for name in names if not is_written(name, written)]
+        made = translation.outputs if others else ()
+        return len(others) < len(names) and not any(os.path.exists(name) or os.path.normpath(name) in made
+                                                    for name in others)
 
     def try_all(self):
         """Tries those that are there already; where kati refuses one, all are for make alone. Answers whether a line
