@@ -118,7 +118,7 @@ def wildcards(port, line):
 ALIKE = {"E06": behind_tabs, "E15": empty_names, "E16": functions, "E17": forms, "E20": names, "E23": of_targets}
 
 
-def mend(port, fault):
-    """Mends what is alike."""
-    for one in ALIKE.values() if fault.number in ALIKE else ():
+def mend(port, numbers):
+    """Mends what is alike, where one of the faults with these numbers is of that sort."""
+    for one in ALIKE.values() if ALIKE.keys() & set(numbers) else ():
         one(port)

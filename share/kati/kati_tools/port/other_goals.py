@@ -94,9 +94,9 @@ def begin(port):
     for one in port.menders.values():
         if type(one).__name__ in known.menders:
             one.begin_as(known.menders[type(one).__name__])
-    for number in dict.fromkeys(number for number, *_ in known.faults if number in mending_alike.ALIKE):
-        mending_alike.ALIKE[number](port, None)
-        port.faults.append([number, None, None, "", ""])
+    numbers = list(dict.fromkeys(number for number, *_ in known.faults if number in mending_alike.ALIKE))
+    mending_alike.mend(port, numbers)
+    port.faults += [[number, None, None, "", ""] for number in numbers]
     port.faults += [one for one in known.faults if one[0] not in mending_alike.ALIKE and mend_again(port, *one)]
 
 

@@ -42,7 +42,7 @@ def mend(port, translation):
     if not any(one(port, fault) and state(port) != before for one in constructs.menders_of(fault)):
         raise Stuck(fault.told(), fault)
     other_goals.note(port, fault)
-    mending_alike.mend(port, fault)
+    mending_alike.mend(port, [fault.number])
 
 
 def state(port):
