@@ -155,7 +155,7 @@ class OtherGoals(Tree):
     def test_it_costs_what_is_of_its_own(self):
         self.lay_objects(100)
         anew = self.port()[1]
-        self.assertGreater(min(anew), 4)
+        self.assertTrue(anew[0] > 4 and anew[1] > 2, anew)
         # make's commands for the goal, the values of its own calls, what is exported now; kati once, and --check.
         for words, runs in ((["install"], (4, 2)), (["test"], (4, 2)), (["clean"], (4, 2))):
             with self.subTest(words):
