@@ -212,13 +212,19 @@ class OtherGoals(Tree):
     def test_what_was_kept_and_is_not_as_it_was(self):
         self.lay_objects()
         for text in ("", "{", "[]", '{"answers": 1}', '{"for": {}, "watched": {}, "answers": {}, "faults": [], '
-                                                      '"menders": {}}'):
+                                                      '"menders": {}, "differing": []}'):
             with self.subTest(text):
                 self.port()
                 self.put("build.kati/other-goals.json", text)
                 found = self.port("clean")[0]
                 self.tool("kati-build", "--remove")
                 self.assertEqual(found, self.port("clean")[0])
+
+    def test_what_differed_before_is_no_cause_to_ask_anew(self):
+        self.put("Makefile", "ifdef MAKE_VERSION\nSHELL = /bin/bash\nendif\nA := $(shell echo a)\n"
+                             "all: ; echo $(A) > out\ninstall: ; echo $(A) $(shell echo i) > out\n")
+        self.port(status=5)
+        self.assertLessEqual(self.port("install", status=5)[1][0], 4)
 
     def test_a_difference_is_told_for_a_goal_too(self):
         self.put("Makefile", "A := $(shell echo a)\nall: ; echo $(A) > out\n"

@@ -76,8 +76,7 @@ class Ported:
         known = other_goals.kept(self.record, is_anew)
         with scratch.room("kati-build-") as room:
             found = self.outcome(room, known)
-            if known.answers and (found.stuck or found.difference):
-                # What make told for other goals may be another value by now, where nothing shows it.
+            if known.is_doubted(found.stuck, found.found.get("differing", ())):
                 return self.port_once(kept, start, before, True)
             self.stuck, self.whose, self.difference, self.taken = (
                 found.stuck, found.whose, found.difference, found.taken)

@@ -14,7 +14,7 @@ from ..makefile import includes
 from . import mending_alike, watched
 
 NAME = "other-goals.json"
-FORM = {"for": dict, "watched": dict, "answers": dict, "faults": list, "menders": dict}
+FORM = {"for": dict, "watched": dict, "answers": dict, "faults": list, "menders": dict, "differing": list}
 # By what a makefile may do otherwise for other goals, wherever it does.
 GOALS = "MAKECMDGOALS"
 # Faults in recipes, which other goals may not need.
@@ -23,11 +23,17 @@ OF_RECIPES = ("E16", "E32")
 
 class Known:
     """What ports before this one have found out: what make told, with the sums of the words that it hangs on; kati's
-    faults, each as its number, the file and the text of the line, the word that it ends with, and its words; and what
-    menders did, by the names of their classes."""
+    faults, each as its number, the file and the text of the line, the word that it ends with, and its words; what
+    menders did, by the names of their classes; and what of the commands differed."""
 
-    def __init__(self, answers=(), sums=(), faults=(), menders=()):
+    def __init__(self, answers=(), sums=(), faults=(), menders=(), differing=()):
         self.answers, self.watched, self.faults, self.menders = dict(answers), dict(sums), list(faults), dict(menders)
+        self.differing = list(differing)
+
+    def is_doubted(self, stuck, differing):
+        """Whether what make told for other goals may be another value by now, where nothing shows it: the port is stuck
+        with it, or something differs that didn't."""
+        return bool(self.answers) and (bool(stuck) or not set(differing) <= set(self.differing))
 
 
 def given(record):
@@ -46,20 +52,23 @@ def kept(record, is_asked_anew):
         return Known()
     is_so = not is_asked_anew and found["for"] == given(record) and watched.first_changed(found["watched"]) is None
     told = (found["answers"], found["watched"]) if is_so else ((), ())
-    return Known(*told, found["faults"], found["menders"])
+    return Known(*told, found["faults"], found["menders"], found["differing"])
 
 
 def keep(record, known, found, sums):
     """Keeps what a port, with these sums of what it hangs on, has `found`, which began with what was known."""
-    data = {"for": given(record), "watched": {**known.watched, **sums}, **found}
+    differing = list(dict.fromkeys([*(known.differing if known.answers else ()), *found["differing"]]))
+    data = {"for": given(record), "watched": {**known.watched, **sums}, **found, "differing": differing}
     files.keep(os.path.join(record.room, NAME), json.dumps(data) + "\n", record.room)
 
 
-def found_by(port):
+def found_by(port, comparison):
     """What a port has found out, as data."""
     told = {type(one).__name__: one.found() for one in port.menders.values()}
+    differing = [*comparison.makes, *comparison.katis, *comparison.in_environment, *comparison.of_the_shell]
     return {"answers": lasting_answers(port), "faults": port.faults,
-            "menders": {name: one for name, one in told.items() if one is not None}}
+            "menders": {name: one for name, one in told.items() if one is not None},
+            "differing": [port.copy.real_text(one) for one in differing]}
 
 
 def lasting_answers(port):

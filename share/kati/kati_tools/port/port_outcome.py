@@ -62,7 +62,7 @@ def of_rewritten(made, comparison, room):
     texts = {name: real(text) for name, text in texts_of(made).items()}
     return Outcome(watched_by(made, texts), folder=os.path.relpath(made.copy.top, made.copy.base), texts=texts,
                    made=kept_in(os.path.join(room, "made"), [*made.first.made, *made.first.by_shell]),
-                   folders=folders_of(made), found=other_goals.found_by(made), report=report,
+                   folders=folders_of(made), found=other_goals.found_by(made, comparison), report=report,
                    differing=None if differs_otherwise else [real(line) for line in comparison.katis],
                    difference=None if comparison.is_same() else report[-1], taken=sorted(made.for_kati.taken_words),
                    is_not_parallel=made.run.is_not_parallel)
