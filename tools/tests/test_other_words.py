@@ -211,14 +211,13 @@ class OtherGoals(Tree):
 
     def test_what_was_kept_and_is_not_as_it_was(self):
         self.lay_objects()
-        for text in ("", "{", "[]", '{"answers": 1}', '{"for": {}, "watched": {}, "answers": {}, "faults": [], '
-                                                      '"menders": {}, "differing": []}'):
-            with self.subTest(text):
-                self.port()
-                self.put("build.kati/other-goals.json", text)
-                found = self.port("clean")[0]
-                self.tool("kati-build", "--remove")
-                self.assertEqual(found, self.port("clean")[0])
+        for change in (lambda text: "", lambda text: text[:-1], lambda text: text.replace("V", "W")):
+            self.tool("kati-build", "--remove")
+            self.port()
+            self.put("build.kati/other-goals.json", change(self.read("build.kati/other-goals.json")))
+            found = self.port("clean")
+            self.tool("kati-build", "--remove")
+            self.assertEqual(found, self.port("clean"))
 
     def test_what_differed_before_is_no_cause_to_ask_anew(self):
         self.put("Makefile", "ifdef MAKE_VERSION\nSHELL = /bin/bash\nendif\nA := $(shell echo a)\n"

@@ -5,16 +5,17 @@ lacked.
 What make told counts as long as the makefiles, the macros of the command line, these tools and all that it hangs on
 are as they were. The faults are a beginning alone: kati is asked all the same, and its commands are compared with
 make's for these goals as ever."""
+import hashlib
 import json
 import os
 
 from ..base import files, words
+from ..base.programs import bytes_of
 from ..make import kept_answers
 from ..makefile import includes
 from . import mending_alike, watched
 
 NAME = "other-goals.json"
-FORM = {"for": dict, "watched": dict, "answers": dict, "faults": list, "menders": dict, "differing": list}
 # By what a makefile may do otherwise for other goals, wherever it does.
 GOALS = "MAKECMDGOALS"
 # Faults in recipes, which other goals may not need.
@@ -42,15 +43,19 @@ def given(record):
     return {**found, "words": [record.makefile, *words.macros_of(record.asked.words)]}
 
 
+def sum_of(text):
+    """What tells a text that was written whole from another one."""
+    return hashlib.sha256(bytes_of(text)).hexdigest()
+
+
 def kept(record, is_asked_anew):
-    """What is kept in the folder of a record; what make told only where that still is so and it isn't asked anew."""
-    try:
-        found = json.loads(files.read(os.path.join(record.room, NAME)) or "null")
-    except ValueError:
+    """What is kept in the folder of a record, by these tools; what make told only where that still is so and it isn't
+    asked anew."""
+    total, _, text = (files.read(os.path.join(record.room, NAME)) or "").partition("\n")
+    found, now = json.loads(text) if total == sum_of(text) else None, given(record)
+    if found is None or found["for"]["tools"] != now["tools"]:
         return Known()
-    if not isinstance(found, dict) or not all(isinstance(found.get(key), one) for key, one in FORM.items()):
-        return Known()
-    is_so = not is_asked_anew and found["for"] == given(record) and watched.first_changed(found["watched"]) is None
+    is_so = not is_asked_anew and found["for"] == now and watched.first_changed(found["watched"]) is None
     told = (found["answers"], found["watched"]) if is_so else ((), ())
     return Known(*told, found["faults"], found["menders"], found["differing"])
 
@@ -59,7 +64,8 @@ def keep(record, known, found, sums):
     """Keeps what a port, with these sums of what it hangs on, has `found`, which began with what was known."""
     differing = list(dict.fromkeys([*(known.differing if known.answers else ()), *found["differing"]]))
     data = {"for": given(record), "watched": {**known.watched, **sums}, **found, "differing": differing}
-    files.keep(os.path.join(record.room, NAME), json.dumps(data) + "\n", record.room)
+    text = json.dumps(data)
+    files.keep(os.path.join(record.room, NAME), f"{sum_of(text)}\n{text}", record.room)
 
 
 def found_by(port, comparison):
