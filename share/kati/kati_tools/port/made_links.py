@@ -26,8 +26,8 @@ def told(translation):
     """A line for all statements that have such a command, and may have it run again."""
     found = []
     for one in translation.statements:
-        texts = comparing.unwrapped(one.command) if one.inputs and " -" in (one.command or "") else ()
-        if any(links_once(text, one.outputs) for text in texts) \
+        texts = comparing.unwrapped(one.command) if one.inputs and "ln -" in (one.command or "") else ()
+        if any(links_once(text, one.outputs) for text in texts if "ln -" in text) \
                 and not set(taken_away.removed_by(one.command)).intersection(one.outputs):
             found += one.outputs
     if found:
