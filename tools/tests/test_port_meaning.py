@@ -220,7 +220,8 @@ class Told(Meant):
         self.assertIn("$? is all prerequisites for kati", self.port())
 
     def test_what_another_recipe_takes_away(self):
-        makefile = "all: kill x y\nkill: ; rm -f x\nx: ; echo x$^ > $@\ny: y.o ; cp y.o $@; rm y.o\ny.o: ; echo y > $@\n"
+        makefile = "all: kill x y\nkill: ; rm -f x\nx: ; echo x$^ > $@\n" \
+            "y: y.o ; cp y.o $@; rm y.o\ny.o: ; echo y > $@\n"
         self.put("Makefile", makefile)
         told = "kill takes x away, which make makes again in the same run, and ninja in the next one;"
         said = self.port(status=DIFFERS)

@@ -5,9 +5,9 @@ makefile and means something else by it than make."""
 from typing import Callable, Mapping, NamedTuple
 
 from . import (default_rule, dependency_includes, double_colons, environment_names, folder_search, inner_makes,
-    made_folders, made_values, mending, mending_appends, mending_exports, mending_lines, mending_shell, of_the_run, recipe_prefix,
-    second_expansion, shared_includes, shell_flags, suffix_names, taken_away, taken_back,
-    target_macros, written_out)
+    made_folders, made_values, mending, mending_appends, mending_exports, mending_lines, mending_shell, of_the_run,
+    recipe_prefix, second_expansion, shared_includes, shell_flags, suffix_names, taken_away, taken_back, target_macros,
+    written_out)
 
 
 class Construct(NamedTuple):

@@ -1,6 +1,6 @@
-"""A folder that a rule makes by `mkdir`, as `obj: ; mkdir obj` of `prog: obj obj/a.o`, in which another target lies that
-doesn't name it: make comes by the folder first. Ninja makes the folder of each output by itself before a command runs,
-so that `mkdir` fails; for kati the folder stands before what lies in it."""
+"""A folder that a rule makes by `mkdir`, as `obj: ; mkdir obj` of `prog: obj obj/a.o`, in which another target lies
+that doesn't name it: make comes by the folder first. Ninja makes the folder of each output by itself before a command
+runs, so that `mkdir` fails; for kati the folder stands before what lies in it."""
 import os
 import re
 

@@ -1,6 +1,6 @@
-"""`ln -s` without `-f`, which fails where its link stands: once what it leads to is another one, make ends with a fault,
-and takes the link for made when it is run again; ninja runs what has failed until it ends well, and runs it at first
-also where make has built."""
+"""`ln -s` without `-f`, which fails where its link stands: once what it leads to is another one, make ends with a
+fault, and takes the link for made when it is run again; ninja runs what has failed until it ends well, and runs it at
+first also where make has built."""
 import os
 import re
 
@@ -32,5 +32,5 @@ def told(translation):
             found += one.outputs
     if found:
         more = f" and {len(found) - MOST} more" if len(found) > MOST else ""
-        yield (f"{' '.join(found[:MOST])}{more}: ln -s fails where the link stands, for make and ninja, and ninja has no "
-               "end of it until the link is taken away; write ln -sf")
+        yield (f"{' '.join(found[:MOST])}{more}: ln -s fails where the link stands, for make and ninja, and ninja has "
+               "no end of it until the link is taken away; write ln -sf")

@@ -68,8 +68,8 @@ def told(translation):
 
 
 class TakenAway(Mender):
-    """What a recipe takes away, and make makes anew behind it, hangs on that recipe for kati, as `xa: killxa`, as far as
-    its commands stay what they are. `before` has these."""
+    """What a recipe takes away, and make makes anew behind it, hangs on that recipe for kati, as `xa: killxa`, as far
+    as its commands stay what they are. `before` has these."""
 
     def __init__(self, port):
         super().__init__(port)
