@@ -55,6 +55,17 @@ class Copies(Tree):
             self.assertEqual((ran.status, self.read("all")), (0, "\n"), ran.all)
             shutil.rmtree(self.top / "build.kati")
 
+    def test_folders_that_links_lead_to_keep_their_modes(self):
+        self.put_all({"Makefile": "V := $(shell cat lib/a) $(wildcard ../../*/x)\nall: ; echo $(V) > all\n",
+                      "../shared/a": "1\n"})
+        (self.top / "lib").symlink_to("../shared")
+        shared = self.top.parent / "shared"
+        shared.chmod(0o755)
+        for copies in ({"KATI_COPIES": "1"}, {}):
+            self.assertEqual(self.tool("kati-build", "--port", **copies).status, 0)
+            self.assertEqual((shared.stat().st_mode & 0o777, self.read("all")), (0o755, "1\n"))
+            shutil.rmtree(self.top / "build.kati")
+
     def test_a_file_that_cant_be_copied_is_told(self):
         self.put("Makefile", "N := $(shell wc -c < n.txt)\nall: ; echo $(N)\n")
         self.put("n.txt", "n" * 200_000)

@@ -42,9 +42,11 @@ class Room:
             if self.take_away not in LEFT:
                 return
             for at, folders, _ in os.walk(self.path):
-                for name in folders:
+                for path in (os.path.join(at, name) for name in folders):
                     with contextlib.suppress(OSError):
-                        os.chmod(os.path.join(at, name), 0o700)
+                        # A link may lead to a folder of the user's.
+                        if not os.path.islink(path):
+                            os.chmod(path, 0o700)
             shutil.rmtree(self.path, ignore_errors=True)
             ROOMS.discard(os.path.abspath(self.path))
             LEFT.remove(self.take_away)
