@@ -56,13 +56,13 @@ class Copies(Tree):
             shutil.rmtree(self.top / "build.kati")
 
     def test_folders_that_links_lead_to_keep_their_modes(self):
-        self.put_all({"Makefile": "V := $(shell cat lib/a)\nall: ; echo $(V) > all\n", "../shared/a": "1\n"})
-        shared = self.top.parent / "shared"
-        shared.chmod(0o755)
-        (self.top / "lib").symlink_to(shared)
+        self.put_all({"Makefile": "V := $(shell cat lib/a)\nall: ; echo $(V) > all\n", "../linked/a": "1\n"})
+        linked = self.top.parent / "linked"
+        linked.chmod(0o755)
+        (self.top / "lib").symlink_to(linked)
         for copies in ({"KATI_COPIES": "1"}, {}):
             self.assertEqual(self.tool("kati-build", "--port", **copies).status, 0)
-            self.assertEqual((shared.stat().st_mode & 0o777, self.read("all")), (0o755, "1\n"))
+            self.assertEqual((linked.stat().st_mode & 0o777, self.read("all")), (0o755, "1\n"))
             shutil.rmtree(self.top / "build.kati")
 
     def test_a_file_that_cant_be_copied_is_told(self):

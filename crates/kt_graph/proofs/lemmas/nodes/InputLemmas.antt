@@ -96,12 +96,6 @@ order_only_same rows parts =
     ∙ ap (λ l. fold with_number [] (numbers_without (input_numbers (parts_stored rows parts)) l))
     (sym (flat_map-map (λ (part : StoredPart). part.order_only) (part_stored rows) parts))
 
--- a list of one item is its first
-pub first_alone : {A : Type 0} (items : List A) (other : A) → length items ≡ 1 → items ≡ get_or items 0 other ∷ []
-first_alone [] other one = cc
-first_alone (item ∷ []) other one = refl
-first_alone (item ∷ next ∷ more) other one = cc
-
 pub one_alone : {A : Type 0} (xs : List A) (x : A) → 1 ≤ length xs → length xs < 2 → x ≡ get_or xs 0 x → xs ≡ x ∷ []
 one_alone [] x some few at = absurd (omega (arith, some))
 one_alone (first ∷ []) x some few at = ap (λ y. y ∷ []) (sym at)
