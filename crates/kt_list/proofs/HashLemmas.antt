@@ -1,5 +1,5 @@
 -- The hash of a list, two numbers at a time.
-use Rattle.std.proofs.Common.{◌≡◌, ℕ, ◌+◌, ◌-◌, ◌*◌, ◌≤◌, List, [], ◌∷◌, length, get_or, take, drop, ap, ◌∙◌, arith, take_all}
+use Rattle.std.proofs.Common.{◌≡◌, ℕ, ◌+◌, ◌-◌, ◌*◌, ◌≤◌, List, [], ◌∷◌, length, get_or, take, drop, arith, take_all}
 use Rattle.kt_list.specs.inner.Lists.{hash_from, hash_with}
 
 pub two_hashed : (hash next all : ℕ) (left : List ℕ) → 2 ≤ length left → hash_from hash left ≡ all
@@ -7,6 +7,4 @@ pub two_hashed : (hash next all : ℕ) (left : List ℕ) → 2 ≤ length left �
     → hash_from next (take (length left - 2) (drop 2 left)) ≡ all
 two_hashed hash next all [] long is step = absurd (omega (arith, long))
 two_hashed hash next all (one ∷ []) long is step = absurd (omega (arith, long))
-two_hashed hash next all (one ∷ two ∷ list) long is step =
-    let rest : take (length (one ∷ two ∷ list) - 2) list ≡ list = take_all (length (one ∷ two ∷ list) - 2) list (omega arith) in
-    ap (hash_from next) rest ∙ ap (λ (h : ℕ). hash_from h list) step ∙ is
+two_hashed hash next all (one ∷ two ∷ list) long is step = grind (arith, take, length, take_all)

@@ -1,8 +1,7 @@
 -- Lists of numbers by their numbers.
-use Rattle.std.proofs.Common.{◌≡◌, ◌⊎◌, inl, inr, ⊎_elim, ℕ, zero, suc, ◌<◌, Bool, true, false, cond, nat_lt, List, [], ◌∷◌, ◌++◌, length, get_or, Option, Some, None, is_some, slice_get, sym, ap, ◌∙◌, refl, arith, subst, IfSome, IfNone, if◌then◌else◌}
+use Rattle.std.proofs.Common.{rules, ◌≡◌, ◌⊎◌, inl, inr, ⊎_elim, ℕ, zero, suc, ◌<◌, Bool, true, false, cond, nat_lt, List, [], ◌∷◌, ◌++◌, length, get_or, Option, Some, None, is_some, slice_get, sym, ap, ◌∙◌, refl, arith, subst, IfSome, IfNone, if◌then◌else◌}
 use Rattle.std.specs.List.{Contains, IsDistinct, position_or_len}
 use Rattle.std.specs.Str.{bytes_eq}
-use Rattle.std.specs.Cmp.Lexicographic.{nat_list_eq_equiv}
 use Rattle.std.proofs.lemmas.Bool.{false≢true, false_from_ne_true, lt-ltb}
 use Rattle.std.proofs.lemmas.Option.{slice_get-get_or, slice_get_within, get_or_from_slice_get}
 use Rattle.std.proofs.lemmas.Slice.Eq.{bytes_eq-Decides}
@@ -47,10 +46,7 @@ module _ (lists : List (List ℕ)) (list : List ℕ) where
       ∙ ap (λ (b : Bool). cond b (Some n) None) (lt-ltb n (length lists) within)
 
   pub not_among : ((place : ℕ) → slice_get lists place ≡ Some list → ⊥) → is_among lists list ≡ false
-  not_among none =
-      false_from_ne_true (is_among lists list)
-      (λ yes. let any = Any-from_list_any (bytes_eq list) lists yes in
-      none any.0 (slice_get-get_or lists any.0 any.1 any.2 ∙ ap Some (any.3 ∙ sym ((bytes_eq-Decides list any.1).0 any.4))))
+  not_among none = grind (arith, false_from_ne_true, Any-from_list_any, slice_get-get_or, bytes_eq-Decides)
 
   none_or : ((place : ℕ) → slice_get lists place ≡ Some list → ⊥) → (o : Option ℕ) → place_of lists list ≡ o → place_of lists list ≡ None
   none_or none None h = h
@@ -84,27 +80,18 @@ module _ (lists : List (List ℕ)) (list : List ℕ) (ones : List ℕ) (firsts :
   pub number_is : (result : Option ℕ) → IfSome result (λ n. slice_get lists n ≡ Some list)
       → IfNone result ((place : ℕ) → slice_get lists place ≡ Some list → ((first ≡ Some place) ⊎ Contains items place) → ⊥)
       → result ≡ place_of lists list
-  number_is None found lacks = sym (not_placed lists list (nowhere lacks))
-  number_is (Some n) found lacks = sym (placed lists list n are.1 found)
+  number_is result found lacks = grind (arith, not_placed, nowhere, placed)
 
   pub number_if : (result : Option ℕ) → IfSome result (λ n. slice_get lists n ≡ Some list)
       → IfNone result ((place : ℕ) → slice_get lists place ≡ Some list → ((first ≡ Some place) ⊎ Contains items place) → ⊥)
       → is_some result ≡ is_among lists list
-  number_if None found lacks = sym (lacking lacks)
-  number_if (Some n) found lacks = sym (among lists list n found)
+  number_if result found lacks = grind (arith, lacking, among)
 
 -- ---- what is found stays so
 
 pub none_are : (lists : List (List ℕ)) (ones : List ℕ) (firsts : List (ℕ × ℕ)) (others : List ℕ) → lists ≡ []
     → AreFound lists ones firsts others × IsDistinct bytes_eq lists
-none_are lists ones firsts others none = (
-  (λ place list at. absurd (nothing_at place list (sym (ap (λ (xs : List (List ℕ)). slice_get xs place) none) ∙ at))),
-  subst (λ xs. IsDistinct bytes_eq xs) (sym none)
-      (IsDistinct-from_apart bytes_eq [] (λ i j d less within. absurd (omega (arith, within)))),
-)
-  where
-    nothing_at : (place : ℕ) (list : List ℕ) → slice_get {X = List ℕ} [] place ≡ Some list → ⊥
-    nothing_at place list at = cc
+none_are lists ones firsts others none = grind (arith, IsDistinct-from_apart)
 
 module _ (lists lists' : List (List ℕ)) (ones ones' : List ℕ) (firsts firsts' : List (ℕ × ℕ)) (others others' : List ℕ)
     (are : AreFound lists ones firsts others × IsDistinct bytes_eq lists)
@@ -119,16 +106,10 @@ module _ (lists lists' : List (List ℕ)) (ones ones' : List ℕ) (firsts firsts
     found_more : (place : ℕ) (other : List ℕ)
         → (slice_get lists place ≡ Some other) ⊎ ((place ≡ length lists) × (list ≡ other)) → IsFound ones' firsts' others' other place
     found_more place other (inl at) = kept other place (are.0 place other at)
-    found_more place other (inr last) =
-        subst (λ l. IsFound ones' firsts' others' l place) last.1
-        (subst (λ n. IsFound ones' firsts' others' list n) (next ∙ sym last.0) noted)
+    found_more place other (inr last) = grind arith
 
     pub are_more : AreFound lists' ones' firsts' others' × IsDistinct bytes_eq lists'
-    are_more =
-        subst (λ rows. AreFound rows ones' firsts' others' × IsDistinct bytes_eq rows) (sym grew) (
-          (λ place other at. found_more place other (at_pushed lists list other place at)),
-          IsDistinct-push nat_list_eq_equiv lists list are.1 new,
-        )
+    are_more = search (rules, found_more, at_pushed, IsDistinct-push)
 
     pub number_next : Some number ≡ place_of lists' list
     number_next =
