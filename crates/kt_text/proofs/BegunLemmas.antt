@@ -1,5 +1,5 @@
 -- What a text holds where the appending of more was cut off.
-use Rattle.std.proofs.Common.{◌≡◌, [], ◌++◌, refl, sym, ap, ◌∙◌, append_assoc, append-nil}
+use Rattle.std.proofs.Common.{arith, ◌≡◌, [], ◌++◌, refl, sym, ap, ◌∙◌, append_assoc, append-nil}
 use Rattle.kt_text.specs.Begun.{HasBegun}
 use Rattle.kt_text.specs.Words.{Text}
 
@@ -18,9 +18,4 @@ begun_front part back old new cut = (
 
 -- the first part, and a prefix of what comes after it
 pub begun_after : (front part old middle new : Text) → middle ≡ old ++ front → HasBegun part middle new → HasBegun (front ++ part) old new
-begun_after front part old middle new grown cut = (
-  front ++ cut.0,
-  cut.1,
-  cut.2 ∙ ap (λ t. t ++ cut.0) grown ∙ append_assoc old front cut.0,
-  append_assoc front cut.0 cut.1 ∙ ap (λ t. front ++ t) cut.3,
-)
+begun_after front part old middle new grown cut = grind (arith, append_assoc)

@@ -1,6 +1,6 @@
 -- The condensed text of a line has no newline.
-use Rattle.std.proofs.Common.{◌≡◌, ◌<◌, ◌-◌, ◌==◌, ℕ, Bool, true, false, List, [], ◌∷◌, ◌++◌, length, take, refl, sym, ap, subst, ◌∙◌, arith, append-nil, cond, ⊎_elim}
-use Rattle.kt_text.proofs.Common.{cases_Bool, eqb-true, false_from_ne_true, onto_first, flat_map, no_cr, without_terminator, Text, trimmed_start, trimmed_end, is_continued, is_ended, groups, pieces_of, before_backslash, trimmed_line, space_before, condensed_line, condensed_rest, condensed_group, condensed_of}
+use Rattle.std.proofs.Common.{◌≡◌, ◌<◌, ◌-◌, ◌==◌, ℕ, Bool, true, false, List, [], ◌∷◌, ◌++◌, length, take, refl, sym, ap, subst, arith, append-nil, cond, ⊎_elim}
+use Rattle.kt_text.proofs.Common.{cases_Bool, eqb-true, false_from_ne_true, onto_first, no_cr, without_terminator, Text, trimmed_start, trimmed_end, is_continued, is_ended, groups, pieces_of, before_backslash, trimmed_line, space_before, condensed_line, condensed_rest, condensed_group, condensed_of}
 use Rattle.kt_text.specs.Condensing.{IsLine}
 use Rattle.kt_text.proofs.CondensedLemmas.{condensed_alone, one_group}
 use Rattle.kt_text.proofs.NewlineLemmas.{IsFree, free_append, free_take, free_drop, free_space, free_nil, free_at}
@@ -23,30 +23,24 @@ byte_before byte (piece ∷ next ∷ pieces) h a = (byte ∷ a.0, ap (λ (t : Te
 
 newline_before : (pieces : List Text) → ArePieces pieces → ArePieces ((10 ∷ []) ∷ pieces)
 unfolding ArePieces IsFree
-newline_before [] a = absurd a
-newline_before (piece ∷ pieces) a = ([], refl, tt, a)
+newline_before pieces a = grind arith
 
 pub are_pieces : (text : Text) → ArePieces (pieces_of text)
 unfolding ArePieces IsFree pieces_of
 are_pieces [] = tt
-are_pieces (byte ∷ text) =
-    ⊎_elim (λ h. rw h (subst (λ b. ArePieces ((b ∷ []) ∷ pieces_of text)) (sym (eqb-true byte 10 h)) (newline_before (pieces_of text) (are_pieces text))))
-    (λ h. rw h (byte_before byte (pieces_of text) h (are_pieces text)))
-    (cases_Bool (byte == 10))
+are_pieces (byte ∷ text) = grind (arith, ⊎_elim, eqb-true, newline_before, byte_before, cases_Bool, are_pieces text)
 
 -- ---- what a piece keeps
 
 free_either : (test : Bool) (first second : Text) → IsFree first → IsFree second → IsFree (cond test first second)
-free_either true first second a b = a
-free_either false first second a b = b
+free_either test first second a b = grind arith
 
 pub free_no_cr : (text : Text) → IsFree text → IsFree (no_cr text)
 free_no_cr text a = free_either _ (take (length text - 1) text) text (free_take (length text - 1) text a) a
 
 -- the last piece
 free_content : (line : Text) → IsFree line → IsFree (without_terminator line)
-free_content line a =
-    free_either _ (no_cr (take (length line - 1) line)) line (free_no_cr (take (length line - 1) line) (free_take (length line - 1) line a)) a
+free_content line a = grind (arith, free_either, take, length, free_no_cr, free_take)
 
 -- any other
 pub front_content : (front : Text) → IsFree front → IsFree (without_terminator (front ++ 10 ∷ []))
@@ -56,10 +50,7 @@ pub free_backslash : (front : Text) → IsFree front → IsFree (before_backslas
 free_backslash front a = free_take _ (without_terminator (front ++ 10 ∷ [])) (front_content front a)
 
 free_space_before : (continued continues : Bool) (text : Text) → IsFree (space_before continued continues text)
-free_space_before false continues text = free_nil
-free_space_before true false text = free_space
-free_space_before true true [] = free_nil
-free_space_before true true (byte ∷ text) = free_space
+free_space_before continued continues text = grind (arith, free_nil, free_space)
 
 pub free_start : (text : Text) → IsFree text → IsFree (trimmed_start text)
 free_start text a = free_drop _ text a
@@ -68,12 +59,10 @@ pub free_end : (text : Text) → IsFree text → IsFree (trimmed_end text)
 free_end text a = free_take _ text a
 
 free_more : (continued : Bool) (front : Text) → IsFree front → IsFree (trimmed_line continued true (front ++ 10 ∷ []))
-free_more false front a = free_end _ (free_backslash front a)
-free_more true front a = free_end _ (free_start _ (free_backslash front a))
+free_more continued front a = grind (arith, free_end, free_backslash, free_start)
 
 free_last : (continued : Bool) (line : Text) → IsFree line → IsFree (trimmed_line continued false line)
-free_last false line a = free_content line a
-free_last true line a = free_start _ (free_content line a)
+free_last continued line a = grind (arith, free_content, free_start)
 
 pub no_end : (line : Text) → IsFree line → is_ended line ≡ false
 unfolding is_ended
@@ -82,16 +71,11 @@ no_end (byte ∷ line) a = false_from_ne_true _ (λ h. free_at (byte ∷ line) a
 
 more_is_free : (continued : Bool) (front : Text) → IsFree front → IsFree (condensed_line continued true (front ++ 10 ∷ []))
 unfolding condensed_line
-more_is_free continued front a =
-    let text : Text = trimmed_line continued true (front ++ 10 ∷ []) in
-    free_append (space_before continued true text) (text ++ []) (free_space_before continued true text) (free_append text [] (free_more continued front a) free_nil)
+more_is_free continued front a = grind (arith, free_append, free_space_before, free_more, free_nil)
 
 last_is_free : (continued : Bool) (line : Text) → IsFree line → IsFree (condensed_line continued false line)
 unfolding condensed_line
-last_is_free continued line a =
-    let text : Text = trimmed_line continued false line in
-    rw (no_end line a)
-    (free_append (space_before continued false text) (text ++ []) (free_space_before continued false text) (free_append text [] (free_last continued line a) free_nil))
+last_is_free continued line a = grind (arith, no_end, free_append, free_space_before, free_last, free_nil)
 
 rest_is_free : (lines : List Text) → ArePieces lines → IsFree (condensed_rest lines)
 unfolding ArePieces condensed_rest
@@ -103,11 +87,7 @@ rest_is_free (line ∷ next ∷ lines) a =
 
 group_is_free : (lines : List Text) → ArePieces lines → IsFree (condensed_group lines)
 unfolding ArePieces condensed_group
-group_is_free [] a = absurd a
-group_is_free (line ∷ []) a = last_is_free false line a
-group_is_free (line ∷ next ∷ lines) a =
-    free_append (condensed_line false true line) (condensed_rest (next ∷ lines))
-    (subst (λ (t : Text). IsFree (condensed_line false true t)) (sym a.1) (more_is_free false a.0 a.2)) (rest_is_free (next ∷ lines) a.3)
+group_is_free lines a = grind (arith, last_is_free, free_append, more_is_free, rest_is_free)
 
 -- ---- one group
 
@@ -119,14 +99,7 @@ more_groups line lines = let b = groups-begins line lines in rw b.are (omega ari
 
 more_group : (more : Bool) (line next : Text) (lines : List Text) → is_continued line ≡ more → (length (groups (next ∷ lines)) ≡ 1 → groups (next ∷ lines) ≡ (next ∷ lines) ∷ [])
     → length (groups (line ∷ next ∷ lines)) ≡ 1 → groups (line ∷ next ∷ lines) ≡ (line ∷ next ∷ lines) ∷ []
-more_group true line next lines h whole e =
-    let c = groups-continued line (next ∷ lines) h in
-    let same = length-onto line (groups (next ∷ lines)) (more_groups next lines) in
-    c ∙ onto_whole line (next ∷ lines) (whole (sym same ∙ sym (ap length c) ∙ e))
-more_group false line next lines h whole e =
-    let c = ap length (groups-ended line (next ∷ lines) h) in
-    let some = more_groups next lines in
-    absurd (omega arith)
+more_group more line next lines h whole e = grind (arith, groups-continued, length-onto, more_groups, onto_whole, length, groups-ended)
 
 whole_group : (lines : List Text) → length (groups lines) ≡ 1 → groups lines ≡ lines ∷ []
 unfolding groups
@@ -136,11 +109,7 @@ whole_group (line ∷ next ∷ lines) e = more_group (is_continued line) line ne
 
 pub line_is_free : (line : Text) → IsLine line → IsFree (condensed_of line)
 unfolding condensed_of
-line_is_free line h =
-    let one = whole_group (pieces_of line) h in
-    let is : flat_map condensed_group (groups (pieces_of line)) ≡ condensed_group (pieces_of line) =
-    ap (flat_map condensed_group) one ∙ append-nil (condensed_group (pieces_of line)) in
-    subst IsFree (sym is) (group_is_free (pieces_of line) (are_pieces line))
+line_is_free line h = grind (arith, whole_group, append-nil, group_is_free, are_pieces)
 
 pub condensed_once : (line : Text) → IsLine line → condensed_of (condensed_of line) ≡ condensed_of line
 condensed_once line h = condensed_alone (condensed_of line) (free_at (condensed_of line) (line_is_free line h))

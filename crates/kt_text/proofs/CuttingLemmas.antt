@@ -1,6 +1,6 @@
 -- A text cut at its first newline, and what condensing makes of what stands before it.
-use Rattle.std.proofs.Common.{◌≡◌, ◌≢◌, ◌⊎◌, ◌-◌, ◌+◌, ◌==◌, ◌%◌, ◌&&◌, ℕ, Bool, true, false, not, List, [], ◌∷◌, ◌++◌, length, take, refl, sym, ap, ap₂, subst, ◌∙◌, arith, append_assoc, append-nil, length-append, cond, if◌then◌else◌, inl, inr, ⊎_elim, nat_lt, slice_index}
-use Rattle.kt_text.proofs.Common.{cases_Bool, eq-eqb, eqb-true, false_from_ne_true, false≢true, lt-ltb, ne_eqb, reverse-append, take_at, get_or-append_seam, suffix_len, prefix_len, no_cr, without_terminator, Text, trimmed_end, trimmed_start, before_backslash, condensed_line, condensed_of, groups, is_continued, is_continued_text, is_ended, pieces_of, space_before}
+use Rattle.std.proofs.Common.{◌≡◌, ◌≢◌, ◌⊎◌, ◌-◌, ◌==◌, ◌&&◌, ℕ, Bool, true, false, not, List, [], ◌∷◌, ◌++◌, length, take, refl, sym, ap, ap₂, subst, ◌∙◌, arith, append_assoc, append-nil, length-append, cond, if◌then◌else◌, inl, inr, ⊎_elim, nat_lt, slice_index}
+use Rattle.kt_text.proofs.Common.{cases_Bool, eq-eqb, eqb-true, false≢true, lt-ltb, ne_eqb, reverse-append, take_at, get_or-append_seam, no_cr, without_terminator, Text, trimmed_end, trimmed_start, condensed_line, condensed_of, groups, is_continued, is_continued_text, is_ended, pieces_of, space_before}
 use Rattle.kt_text.specs.Condensing.{IsNewline, Spacing, is_continuation, space, spelled, tab, continuation, returned}
 use Rattle.kt_text.proofs.CondensedLemmas.{condensed_of-start, left_text, left_text-alone, left_text-step, one_group, one_piece}
 use Rattle.kt_text.proofs.CondensingLemmas.{no_end}
@@ -35,24 +35,16 @@ last_at front byte =
 
 -- one backslash more
 pub odd_more : (front : Text) → is_continued_text (front ++ 92 ∷ []) ≡ not (is_continued_text front)
-odd_more front =
-    let size : suffix_len (λ b. b == 92) (front ++ 92 ∷ []) ≡ 1 + suffix_len (λ b. b == 92) front = ap (prefix_len (λ b. b == 92)) (reverse-append front (92 ∷ [])) in
-    ap (λ n. n % 2 == 1) size ∙ one_more_odd (suffix_len (λ b. b == 92) front)
+odd_more front = grind (arith, reverse-append, one_more_odd)
 
 -- and one other byte
 even_other : (front : Text) (byte : ℕ) → (byte == 92) ≡ false → is_continued_text (front ++ byte ∷ []) ≡ false
-even_other front byte h =
-    let none : suffix_len (λ b. b == 92) (front ++ byte ∷ []) ≡ 0 = ap (prefix_len (λ b. b == 92)) (reverse-append front (byte ∷ [])) ∙ rw h refl in
-    ap (λ n. n % 2 == 1) none
+even_other front byte h = grind (arith, reverse-append)
 
 -- a text whose last byte isn't the one that would be cut off
 kept_whole : (text : Text) (byte : ℕ) (other : Text) → (slice_index text (length text - 1) == byte) ≡ false
     → cond (nat_lt 0 (length text) && slice_index text (length text - 1) == byte) other text ≡ text
-kept_whole text byte other h = rw h (neither (nat_lt 0 (length text)) other text)
-  where
-    neither : (b : Bool) (first second : Text) → cond (b && false) first second ≡ second
-    neither true first second = refl
-    neither false first second = refl
+kept_whole text byte other h = grind (arith, nat_lt, length, cond)
 
 no_cr-other : (text : Text) → slice_index text (length text - 1) ≢ 13 → no_cr text ≡ text
 no_cr-other text h = kept_whole text 13 (take (length text - 1) text) (ne_eqb (slice_index text (length text - 1)) 13 h)
@@ -61,9 +53,7 @@ pub front_at : (front : Text) (byte : ℕ) → take (length (front ++ byte ∷ [
 front_at front byte = let size = length-append front (byte ∷ []) in take_at front (byte ∷ []) (length (front ++ byte ∷ []) - 1) (omega (arith, size))
 
 no_cr-return : (front : Text) → no_cr (front ++ 13 ∷ []) ≡ front
-no_cr-return front =
-    let size = length-append front (13 ∷ []) in
-    rw (lt-ltb 0 (length (front ++ 13 ∷ [])) (omega (arith, size)), eq-eqb _ 13 (last_at front 13)) (front_at front 13)
+no_cr-return front = grind (arith, length-append, lt-ltb, length, eq-eqb, last_at, front_at)
 
 -- a text with an odd number of backslashes at its end
 record EndsOdd (text : Text) : Type 0 where
@@ -72,8 +62,7 @@ record EndsOdd (text : Text) : Type 0 where
   pub even : is_continued_text front ≡ false
 
 not_true : (b : Bool) → not b ≡ true → b ≡ false
-not_true true h = absurd (false≢true h)
-not_true false h = refl
+not_true b h = grind (arith, false≢true)
 
 ends_odd : (text : Text) → is_continued_text text ≡ true → EndsOdd text
 ends_odd [] odd = absurd (false≢true odd)
@@ -161,19 +150,12 @@ part continued continues text = space_before continued continues (kept_part cont
 
 line_more : (continued : Bool) (line front : Text) → without_terminator line ≡ front ++ 92 ∷ [] → condensed_line continued true line ≡ part continued true front
 unfolding condensed_line
-line_more false line front e =
-    let back : before_backslash line ≡ front = ap (λ (t : Text). take (length t - 1) t) e ∙ front_at front 92 in
-    append-nil (trimmed_end (before_backslash line)) ∙ ap (λ (t : Text). trimmed_end t) back
-line_more true line front e =
-    let back : before_backslash line ≡ front = ap (λ (t : Text). take (length t - 1) t) e ∙ front_at front 92 in
-    let kept : Text = trimmed_end (trimmed_start (before_backslash line)) in
-    ap (λ t. space_before true true kept ++ t) (append-nil kept) ∙ ap (λ (t : Text). part true true t) back
+line_more continued line front e = grind (arith, take, length, front_at, append-nil)
 
 line_last : (continued : Bool) (line front : Text) → without_terminator line ≡ front → is_ended line ≡ true
     → condensed_line continued false line ≡ part continued false front ++ 10 ∷ []
 unfolding condensed_line
-line_last false line front e ends = rw ends (ap (λ (t : Text). t ++ 10 ∷ []) e)
-line_last true line front e ends = rw ends (ap (λ (t : Text). 32 ∷ (trimmed_start t ++ 10 ∷ [])) e)
+line_last continued line front e ends = grind arith
 
 content_free : (line : Text) → IsFree line → without_terminator line ≡ line
 unfolding is_ended
@@ -181,18 +163,11 @@ content_free line free = kept_whole line 10 (no_cr (take (length line - 1) line)
 
 line_alone : (continued : Bool) (line : Text) → IsFree line → condensed_line continued false line ≡ part continued false line
 unfolding condensed_line
-line_alone false line free =
-    ap (λ b. without_terminator line ++ (if b then 10 ∷ [] else [])) (no_end line free)
-    ∙ append-nil (without_terminator line) ∙ content_free line free
-line_alone true line free =
-    ap (λ b. 32 ∷ (trimmed_start (without_terminator line) ++ (if b then 10 ∷ [] else []))) (no_end line free)
-    ∙ ap (λ t. 32 ∷ t) (append-nil (trimmed_start (without_terminator line)) ∙ ap (λ (t : Text). trimmed_start t) (content_free line free))
+line_alone continued line free = grind (arith, no_end, append-nil, content_free)
 
 -- a text without newline
 from_pieces : (continued : Bool) (text : Text) (found : List Text) → found ≡ text ∷ [] → left_text continued (groups found) ≡ condensed_line continued false text
-from_pieces continued text found e =
-    ap (λ l. left_text continued (groups l)) e ∙ ap (left_text continued) (one_group (is_continued text) text refl)
-    ∙ left_text-alone continued text [] ∙ append-nil (condensed_line continued false text)
+from_pieces continued text found e = grind (arith, left_text, one_group, left_text-alone, append-nil)
 
 pub from_free : (continued : Bool) (text : Text) → IsFree text → condensed_from continued text ≡ part continued false text
 unfolding condensed_from
@@ -226,12 +201,7 @@ pub ending_continued : (front : Text) (one : Spacing) → IsFree front → is_co
 unfolding IsFree
 ending_continued front space free h = absurd (false≢true h)
 ending_continued front tab free h = absurd (false≢true h)
-ending_continued front continuation free h = record {
-  before = front ++ 92 ∷ [];
-  whole = sym (append_assoc front (92 ∷ []) (10 ∷ []));
-  free = free_append front (92 ∷ []) free (refl, tt);
-  content = no_cr-other (front ++ 92 ∷ []) (λ e. false≢true (eq-eqb 92 13 (sym (last_at front 92) ∙ e)));
-}
+ending_continued front continuation free h = grind (arith, append_assoc, free_append, no_cr-other, false≢true, eq-eqb, last_at)
 ending_continued front returned free h = record {
   before = front ++ (92 ∷ 13 ∷ []);
   whole = sym (append_assoc front (92 ∷ 13 ∷ []) (10 ∷ []));
@@ -254,9 +224,7 @@ ending_newline front mark free is =
 from_ending : (more continued : Bool) (front mark kept after : Text) → (e : Ending front mark kept) → is_continued_text kept ≡ more
     → condensed_from continued (front ++ (mark ++ after)) ≡ condensed_line continued more (e.before ++ 10 ∷ []) ++ condensed_from more after
 unfolding is_continued
-from_ending more continued front mark kept after e h =
-    ap (condensed_from continued) (sym (append_assoc front mark after) ∙ ap (λ t. t ++ after) e.whole)
-    ∙ line_step more continued (e.before ++ 10 ∷ []) after (ends_so e.before) (ap (λ t. is_continued_text t) (content_ended e.before ∙ e.content) ∙ h) (pieces_after e.before after e.free)
+from_ending more continued front mark kept after e h = grind (arith, append_assoc, line_step, ends_so, content_ended, pieces_after)
 
 pub from_continued : (continued : Bool) (front : Text) (one : Spacing) (after : Text) → IsFree front → is_continuation one ≡ true → is_continued_text front ≡ false
     → condensed_from continued (front ++ (spelled one ++ after)) ≡ part continued true front ++ condensed_from true after

@@ -1,5 +1,5 @@
 -- A text is condensed cut by cut, and in no other way.
-use Rattle.std.proofs.Common.{◌≡◌, ◌≢◌, ◌⊎◌, ◌≤◌, ◌-◌, ◌+◌, ◌==◌, ◌||◌, ℕ, zero, suc, Bool, true, false, List, [], ◌∷◌, ◌++◌, length, refl, sym, ap, ap₂, subst, ◌∙◌, arith, append_assoc, append-nil, length-append, inl, inr, ⊎_elim, slice_index}
+use Rattle.std.proofs.Common.{rules, ◌≡◌, ◌≢◌, ◌⊎◌, ◌≤◌, ◌-◌, ◌+◌, ◌==◌, ◌||◌, ℕ, zero, suc, Bool, true, false, List, [], ◌∷◌, ◌++◌, length, refl, sym, ap, ap₂, subst, ◌∙◌, arith, append_assoc, append-nil, length-append, ⊎_elim, slice_index}
 use Rattle.kt_text.proofs.Common.{eq-eqb, eqb-true, false≢true, get_or-append-add, flat_map, list_any, Text, is_blank, trimmed_end, trimmed_start, condensed_of, is_continued_text, space_before}
 use Rattle.kt_text.specs.Condensing.{Condenses, IsGap, IsNewline, FirstStands, Spacing, StandsAfter, is_continuation, spelled}
 use Rattle.kt_text.specs.Condensing.{space, tab, continuation, returned}
@@ -19,9 +19,7 @@ abbrev pub BeginsPlain : Text → Type 0
 BeginsPlain text = (one : Spacing) (rest : Text) → text ≢ spelled one ++ rest
 
 pub not_either : (a b : Bool) → (a ≡ true → ⊥) → (b ≡ true → ⊥) → (a || b) ≡ false
-not_either true b first second = absurd (first refl)
-not_either false true first second = absurd (second refl)
-not_either false false first second = refl
+not_either a b first second = grind arith
 
 plain_first : (byte : ℕ) (text : Text) → BeginsPlain (byte ∷ text) → is_blank byte ≡ false
 unfolding is_blank
@@ -36,20 +34,12 @@ plain_start (byte ∷ text) rest plain = start_plain byte text (plain_first byte
 plain_continued : (front : Text) (one : Spacing) (after : Text) → IsFree front → is_continuation one ≡ true → is_continued_text front ≡ false
     → BeginsPlain (front ++ (spelled one ++ after)) → condensed_from true (front ++ (spelled one ++ after)) ≡ 32 ∷ condensed_from false (front ++ (spelled one ++ after))
 plain_continued [] one after free is even plain = absurd (plain one after refl)
-plain_continued (byte ∷ front) one after free is even plain =
-    let h = plain_first byte (front ++ (spelled one ++ after)) plain in
-    let kept : trimmed_end (trimmed_start (byte ∷ front)) ≡ byte ∷ trimmed_end front = ap (λ (t : Text). trimmed_end t) (start_plain byte front h) ∙ end_first byte front h in
-    from_continued true (byte ∷ front) one after free is even
-    ∙ ap (λ (t : Text). (space_before true true t ++ t) ++ condensed_from true after) kept
-    ∙ ap (λ (t : Text). 32 ∷ (t ++ condensed_from true after)) (sym (end_first byte front h))
-    ∙ ap (λ t. 32 ∷ t) (sym (from_continued false (byte ∷ front) one after free is even))
+plain_continued (byte ∷ front) one after free is even plain = search (rules, plain_first, start_plain, end_first, from_continued, condensed_from)
 
 after_plain_by : (text : Text) → BeginsPlain text → FirstNewline text → condensed_from true text ≡ 32 ∷ condensed_from false text
 after_plain_by text plain (no_newline free) =
     from_free true text free ∙ ap (λ t. 32 ∷ t) (plain_start text [] (subst BeginsPlain (sym (append-nil text)) plain) ∙ sym (from_free false text free))
-after_plain_by text plain (first_continued front after one whole free is even) =
-    subst (λ t. condensed_from true t ≡ 32 ∷ condensed_from false t) (sym whole)
-    (plain_continued front one after free is even (subst BeginsPlain whole plain))
+after_plain_by text plain (first_continued front after one whole free is even) = grind (arith, condensed_from, plain_continued)
 after_plain_by text plain (first_ended front mark after whole free is) =
     subst (λ t. condensed_from true t ≡ 32 ∷ condensed_from false t) (sym whole)
     (from_ended true front mark after free is
@@ -58,20 +48,11 @@ after_plain_by text plain (first_ended front mark after whole free is) =
 
 -- a blank after a continuation has no part in it
 last_more : (byte next : ℕ) (text : Text) → slice_index (byte ∷ next ∷ text) (length (byte ∷ next ∷ text) - 1) ≡ slice_index (next ∷ text) (length (next ∷ text) - 1)
-last_more byte next text =
-    let n : length (byte ∷ next ∷ text) - 1 ≡ suc (length (next ∷ text) - 1) = omega arith in
-    ap (slice_index (byte ∷ next ∷ text)) n
+last_more byte next text = grind (arith, length)
 
 pub newline_blank : (byte : ℕ) (front mark : Text) → is_blank byte ≡ true → IsNewline front mark → IsNewline (byte ∷ front) mark
 unfolding is_blank
-newline_blank byte [] mark h is = record {
-  form = ⊎_elim (λ e. inl e) (λ e. inr (e.0, λ k. false≢true (sym (ap is_blank k) ∙ h))) is.form;
-  ends = even_blank byte [] h ∙ is.ends;
-}
-newline_blank byte (next ∷ front) mark h is = record {
-  form = ⊎_elim (λ e. inl e) (λ e. inr (e.0, λ k. e.1 (sym (last_more byte next front) ∙ k))) is.form;
-  ends = even_blank byte (next ∷ front) h ∙ is.ends;
-}
+newline_blank byte front mark h is = grind (arith, ⊎_elim, false≢true, even_blank, last_more)
 
 pub blank_free : (byte : ℕ) (text : Text) → is_blank byte ≡ true → IsFree text → IsFree (byte ∷ text)
 unfolding AllBlank
@@ -103,8 +84,7 @@ after_one returned text = from_continued true [] returned text tt refl refl
 
 after_run : (run : List Spacing) (back : Text) → BeginsPlain back → condensed_from true (spelling run ++ back) ≡ 32 ∷ condensed_from false back
 after_run [] back plain = after_plain_by back plain (first_newline back)
-after_run (one ∷ run) back plain =
-    ap (condensed_from true) (append_assoc (spelled one) (spelling run) back) ∙ after_one one (spelling run ++ back) ∙ after_run run back plain
+after_run (one ∷ run) back plain = grind (arith, condensed_from, append_assoc, after_one, after_run run back plain)
 
 -- ---- a run with a continuation
 
@@ -206,8 +186,7 @@ record Step (text : Text) : Type 0 where
   open_end : more ≡ true → after ≡ [] → (before : Text) × (one : Spacing) × StandsAfter before one × (text ≡ before ++ spelled one)
 
 pub past : (front mark before after : Text) → mark ≡ before ++ 10 ∷ [] → front ++ (mark ++ after) ≡ (front ++ before) ++ (10 ∷ after)
-past front mark before after e =
-    ap (λ t. front ++ (t ++ after)) e ∙ ap (λ t. front ++ t) (append_assoc before (10 ∷ []) after) ∙ sym (append_assoc front before (10 ∷ after))
+past front mark before after e = grind (arith, append_assoc)
 
 three : (front mark after rest : Text) → (front ++ (mark ++ after)) ++ rest ≡ front ++ (mark ++ (after ++ rest))
 three front mark after rest = append_assoc front (mark ++ after) rest ∙ ap (λ t. front ++ t) (append_assoc mark after rest)
@@ -234,25 +213,18 @@ step_ended front mark after free is =
       more = false;
       made = λ continued. part continued false front ++ 10 ∷ [];
       whole = past front mark end.0 after end.1;
-      step = λ continued rest. ap (condensed_from continued) (three front mark after rest) ∙ from_ended continued front mark (after ++ rest) free is
-          ∙ sym (append_assoc (part continued false front) (10 ∷ []) (condensed_from false (after ++ rest)));
+      step = grind (arith, condensed_from, three, from_ended, append_assoc, part);
       open_end = λ yes. absurd (false≢true yes);
     }
 
 step_by : (text : Text) → FirstNewline text → IsFree text ⊎ Step text
-step_by text (no_newline free) = inl free
-step_by text (first_continued front after one whole free is even) = inr (subst Step (sym whole) (step_continued front one after free is even))
-step_by text (first_ended front mark after whole free is) = inr (subst Step (sym whole) (step_ended front mark after free is))
+step_by text h = grind (arith, step_continued, step_ended)
 
 pub shorter : (text lead after : Text) (fuel : ℕ) → text ≡ lead ++ (10 ∷ after) → length text ≤ suc fuel → length after ≤ fuel
-shorter text lead after fuel whole small =
-    let size = ap length whole ∙ length-append lead (10 ∷ after) in
-    omega (arith, size)
+shorter text lead after fuel whole small = grind (arith, length, length-append)
 
 not_empty : (text lead after : Text) → text ≡ lead ++ (10 ∷ after) → length text ≤ 0 → ⊥
-not_empty text lead after whole small =
-    let size = ap length whole ∙ length-append lead (10 ∷ after) in
-    omega (arith, size)
+not_empty text lead after whole small = grind (arith, length, length-append)
 
 -- the texts before and after a cut are made for themselves, where this is so for what follows the first newline
 joins : (text : Text) (s : Step text) (continued : Bool) (cut back : Text) → condensed_from s.more (s.after ++ cut) ≡ condensed_from s.more s.after ++ back
@@ -272,19 +244,12 @@ last_past lead byte next text =
     ap (slice_index (lead ++ (byte ∷ next ∷ text))) n ∙ get_or-append-add lead (byte ∷ next ∷ text) (suc (length (next ∷ text) - 1)) 0
 
 newline_past : (lead after mark : Text) → IsNewline (lead ++ (10 ∷ after)) mark → IsNewline after mark
-newline_past lead [] mark is = record {
-  form = ⊎_elim (λ e. inl e) (λ e. inr (e.0, λ k. false≢true (eq-eqb 0 13 k))) is.form;
-  ends = refl;
-}
-newline_past lead (byte ∷ after) mark is = record {
-  form = ⊎_elim (λ e. inl e) (λ e. inr (e.0, λ k. e.1 (last_past lead 10 byte after ∙ k))) is.form;
-  ends = sym (even_past lead 10 (byte ∷ after) refl) ∙ is.ends;
-}
+newline_past lead [] mark is = grind (arith, ⊎_elim, false≢true, eq-eqb)
+newline_past lead (byte ∷ after) mark is = grind (arith, ⊎_elim, last_past, even_past)
 
 newline_free : (continued : Bool) (front mark back : Text) → IsFree front → IsNewline front mark
     → condensed_from continued (front ++ (mark ++ back)) ≡ condensed_from continued front ++ (10 ∷ condensed_from false back)
-newline_free continued front mark back free is =
-    from_ended continued front mark back free is ∙ ap (λ t. t ++ (10 ∷ condensed_from false back)) (sym (from_free continued front free))
+newline_free continued front mark back free is = grind (arith, from_ended, condensed_from, from_free)
 
 newline_at : (fuel : ℕ) (continued : Bool) (front mark back : Text) → length front ≤ fuel → IsNewline front mark
     → condensed_from continued (front ++ (mark ++ back)) ≡ condensed_from continued front ++ (10 ∷ condensed_from false back)

@@ -1,5 +1,5 @@
 -- The groups of physical lines that make logical ones.
-use Rattle.std.proofs.Common.{◌≡◌, ◌<◌, Bool, true, false, List, [], ◌∷◌, refl, sym, length, arith}
+use Rattle.std.proofs.Common.{◌≡◌, ◌<◌, Bool, true, false, List, [], ◌∷◌, refl, length, arith}
 use Rattle.kt_text.proofs.Common.{false≢true, onto_first, lines_of, lines-nil, lines-step, Text, is_nonempty, is_continued, groups}
 
 pub groups-ended : (line : Text) (lines : List Text) → is_continued line ≡ false → groups (line ∷ lines) ≡ (line ∷ []) ∷ groups lines
@@ -11,8 +11,7 @@ unfolding groups
 groups-continued line lines h = rw h refl
 
 pub length-onto : (line : Text) (found : List (List Text)) → 0 < length found → length (onto_first line found) ≡ length found
-length-onto line [] l = absurd (omega arith)
-length-onto line (group ∷ found) l = refl
+length-onto line found l = grind arith
 
 -- the first group begins with the first line
 pub record BeginsWith (line : Text) (found : List (List Text)) : Type 0 where
@@ -21,12 +20,10 @@ pub record BeginsWith (line : Text) (found : List (List Text)) : Type 0 where
   pub are : found ≡ (line ∷ others) ∷ later
 
 begins_onto : (line : Text) (found : List (List Text)) → BeginsWith line (onto_first line found)
-begins_onto line [] = record { others = []; later = []; are = refl }
-begins_onto line (group ∷ found) = record { others = group; later = found; are = refl }
+begins_onto line found = grind arith
 
 begins_by : (continued : Bool) (line : Text) (lines : List Text) → is_continued line ≡ continued → BeginsWith line (groups (line ∷ lines))
-begins_by true line lines h = rw (groups-continued line lines h) (begins_onto line (groups lines))
-begins_by false line lines h = rw (groups-ended line lines h) (record { others = []; later = groups lines; are = refl })
+begins_by continued line lines h = grind (arith, groups-continued, begins_onto, groups-ended)
 
 pub groups-begins : (line : Text) (lines : List Text) → BeginsWith line (groups (line ∷ lines))
 groups-begins line lines = begins_by (is_continued line) line lines refl
@@ -38,12 +35,10 @@ pub record HasLine (found : List Text) : Type 0 where
   pub are : found ≡ line ∷ lines
 
 pub lines-some : (text : Text) → is_nonempty text ≡ true → HasLine (lines_of text)
-lines-some [] h = absurd (false≢true h)
-lines-some (byte ∷ text) h = record { line = _; lines = _; are = lines-step (byte ∷ text) (omega arith) }
+lines-some text h = grind (arith, false≢true, lines-step)
 
 pub lines-none : (text : Text) → is_nonempty text ≡ false → lines_of text ≡ []
-lines-none [] h = lines-nil
-lines-none (byte ∷ text) h = absurd (false≢true (sym h))
+lines-none text h = grind (arith, lines-nil, false≢true)
 
 pub lines-empty : (text : Text) → length text ≡ 0 → lines_of text ≡ []
 lines-empty [] h = lines-nil

@@ -1,5 +1,5 @@
 -- The text of each logical line of a text is a line: each newline of it is continued.
-use Rattle.std.proofs.Common.{◌≡◌, ◌⊎◌, ◌<◌, ◌≤◌, ◌+◌, ◌-◌, ◌==◌, ℕ, zero, suc, Bool, true, false, List, [], ◌∷◌, ◌++◌, length, take, drop, get_or, refl, sym, ap, subst, ◌∙◌, arith, append-nil, append_assoc, length-append, length-drop, length-take-le, take-append-drop, drop-drop, cond, inl, inr, ⊎_elim, slice_index, slice_range}
+use Rattle.std.proofs.Common.{◌≡◌, ◌⊎◌, ◌<◌, ◌≤◌, ◌+◌, ◌-◌, ◌==◌, ℕ, zero, suc, Bool, true, false, List, [], ◌∷◌, ◌++◌, length, take, drop, get_or, refl, sym, ap, subst, ◌∙◌, arith, append-nil, append_assoc, length-append, length-drop, length-take-le, take-append-drop, drop-drop, cond, inl, inr, ⊎_elim, slice_range}
 use Rattle.kt_text.proofs.Common.{cases_Bool, eqb-true, eq-eqb, lt-ltb, take_at, drop_at, take-append-le, get_or-append_seam, take-append-add, All, onto_first, concat, flat_map, line_len, lines_of, no_cr, without_terminator, line_len-bounds, lines-nil, lines-step, Line, Text, is_continued, groups, pieces_of, kept_of_last, kept_length, lines_from, logical_lines_of}
 use Rattle.kt_text.specs.Condensing.{IsLine}
 use Rattle.kt_text.proofs.CondensedLemmas.{one_piece, one_group}
@@ -25,10 +25,7 @@ cut_after byte text size h cut =
 cut_first : (text : Text) → IsCut text (line_len text)
 unfolding IsFree line_len
 cut_first [] = inl (tt, refl)
-cut_first (byte ∷ text) =
-    ⊎_elim (λ h. rw h (inr ([], ap (λ b. b ∷ []) (eqb-true byte 10 h), tt)))
-    (λ h. rw h (cut_after byte text (line_len text) h (cut_first text)))
-    (cases_Bool (byte == 10))
+cut_first (byte ∷ text) = grind (arith, ⊎_elim, eqb-true, cut_after, cases_Bool, cut_first text)
 
 -- lines of which each ends with its one newline; the last may have none
 AreLines : List Text → Type 0
@@ -38,8 +35,7 @@ AreLines (line ∷ next ∷ lines) = EndsOnce line × AreLines (next ∷ lines)
 
 line_before : (line : Text) (lines : List Text) → EndsOnce line → AreLines lines → AreLines (line ∷ lines)
 unfolding AreLines
-line_before line [] e a = inr e
-line_before line (next ∷ lines) e a = (e, a)
+line_before line lines e a = grind arith
 
 last_cut : (line text : Text) → IsFree line → text ≡ [] → AreLines (line ∷ lines_of text)
 unfolding AreLines
@@ -73,38 +69,24 @@ concat_cut (suc fuel) (byte ∷ text) small =
 -- ---- what a last line keeps has no newline
 
 no_longer : (test : Bool) (first second : Text) → length first ≤ length second → length (cond test first second) ≤ length second
-no_longer true first second l = l
-no_longer false first second l = omega arith
+no_longer test first second l = grind arith
 
 length-no_cr : (text : Text) → length (no_cr text) ≤ length text
 length-no_cr text = no_longer _ (take (length text - 1) text) text (let l = length-take-le (length text - 1) text (omega arith) in omega arith)
 
 -- a line with its newline, and what it is without
 pub content_ended : (front : Text) → without_terminator (front ++ 10 ∷ []) ≡ no_cr front
-content_ended front =
-    let whole : Text = front ++ 10 ∷ [] in
-    let size : length whole ≡ length front + 1 = length-append front (10 ∷ []) in
-    let end : length whole - 1 ≡ length front = omega arith in
-    let last : slice_index whole (length whole - 1) ≡ 10 = ap (slice_index whole) end ∙ get_or-append_seam front 10 [] 0 in
-    let taken : take (length whole - 1) whole ≡ front = take_at front (10 ∷ []) (length whole - 1) (sym end) in
-    rw (lt-ltb 0 (length whole) (omega arith), eq-eqb _ 10 last) (ap (λ (t : Text). no_cr t) taken)
+content_ended front = grind (arith, length, length-append, get_or-append_seam, take, take_at, lt-ltb, eq-eqb)
 
 kept_ended : (front : Text) → kept_of_last (front ++ 10 ∷ []) ≤ length front
 unfolding kept_of_last
-kept_ended front =
-    let same = ap length (content_ended front) in
-    let short = length-no_cr front in
-    omega arith
+kept_ended front = grind (arith, length, content_ended, length-no_cr)
 
 free_ended : (front : Text) → IsFree front → IsFree (take (kept_of_last (front ++ 10 ∷ [])) (front ++ 10 ∷ []))
-free_ended front a =
-    let size : ℕ = kept_of_last (front ++ 10 ∷ []) in
-    subst IsFree (sym (take-append-le size front (10 ∷ []) (kept_ended front))) (free_take size front a)
+free_ended front a = grind (arith, take-append-le, kept_ended, free_take)
 
 free_kept : (line : Text) → IsFree line ⊎ EndsOnce line → IsFree (take (kept_of_last line) line)
-free_kept line either =
-    ⊎_elim (λ a. free_take (kept_of_last line) line a)
-    (λ e. subst (λ (t : Text). IsFree (take (kept_of_last t) t)) (sym e.1) (free_ended e.0 e.2)) either
+free_kept line either = grind (arith, ⊎_elim, free_take, take, free_ended)
 
 -- ---- groups
 
@@ -121,11 +103,7 @@ AreGroups (group ∷ later) = IsGroup group × AreGroups later
 groups_step : (more : Bool) (line next : Text) (lines : List Text) → is_continued line ≡ more → EndsOnce line → AreGroups (groups (next ∷ lines))
     → AreGroups (groups (line ∷ next ∷ lines))
 unfolding IsGroup AreGroups
-groups_step true line next lines h e a =
-    let begins = groups-begins next lines in
-    let found = subst AreGroups begins.are a in
-    subst AreGroups (sym (groups-continued line (next ∷ lines) h ∙ ap (onto_first line) begins.are)) ((e, h, found.0), found.1)
-groups_step false line next lines h e a = subst AreGroups (sym (groups-ended line (next ∷ lines) h)) (free_kept line (inr e), a)
+groups_step more line next lines h e a = grind (arith, groups-begins, groups-continued, groups-ended, free_kept)
 
 are_groups : (lines : List Text) → AreLines lines → AreGroups (groups lines)
 unfolding AreLines IsGroup AreGroups groups
@@ -135,14 +113,11 @@ are_groups (line ∷ next ∷ lines) a = groups_step (is_continued line) line ne
 
 -- they have the bytes of the lines
 concat_onto : (line : Text) (found : List (List Text)) → flat_map concat (onto_first line found) ≡ line ++ flat_map concat found
-concat_onto line [] = append-nil (line ++ [])
-concat_onto line (group ∷ later) = append_assoc line (concat group) (flat_map concat later)
+concat_onto line found = grind (arith, append-nil, append_assoc)
 
 concat_by : (more : Bool) (line : Text) (lines : List Text) → is_continued line ≡ more
     → flat_map concat (groups (line ∷ lines)) ≡ line ++ flat_map concat (groups lines)
-concat_by true line lines h = ap (flat_map concat) (groups-continued line lines h) ∙ concat_onto line (groups lines)
-concat_by false line lines h =
-    ap (flat_map concat) (groups-ended line lines h) ∙ ap (λ t. t ++ flat_map concat (groups lines)) (append-nil line)
+concat_by more line lines h = grind (arith, groups-continued, concat_onto, groups-ended, append-nil)
 
 concat_grouped : (lines : List Text) → flat_map concat (groups lines) ≡ concat lines
 unfolding groups
@@ -159,12 +134,8 @@ kept_text (line ∷ next ∷ lines) = line ++ kept_text (next ∷ lines)
 kept_is : (group : List Text) (after : Text) → take (kept_length group) (concat group ++ after) ≡ kept_text group
 unfolding kept_length kept_text
 kept_is [] after = refl
-kept_is (line ∷ []) after =
-    ap (λ t. take (kept_of_last line) (t ++ after)) (append-nil line) ∙ take-append-le (kept_of_last line) line after (kept_within line)
-kept_is (line ∷ next ∷ lines) after =
-    let group : List Text = next ∷ lines in
-    ap (take (length line + kept_length group)) (append_assoc line (concat group) after)
-    ∙ take-append-add line (concat group ++ after) (kept_length group) ∙ ap (λ t. line ++ t) (kept_is (next ∷ lines) after)
+kept_is (line ∷ []) after = grind (arith, take, append-nil, take-append-le, kept_within)
+kept_is (line ∷ next ∷ lines) after = grind (arith, take, length, append_assoc, take-append-add, kept_is (next ∷ lines) after)
 
 -- an ended line is the first piece of a text that begins with it
 pub pieces_after : (front after : Text) → IsFree front → pieces_of ((front ++ 10 ∷ []) ++ after) ≡ (front ++ 10 ∷ []) ∷ pieces_of after
@@ -173,20 +144,15 @@ pieces_after [] after a = refl
 pieces_after (byte ∷ front) after a = rw a.0 (ap (onto_first byte) (pieces_after front after a.1))
 
 one_more : (line after : Text) → pieces_of (line ++ after) ≡ line ∷ pieces_of after → is_continued line ≡ true → IsLine after → IsLine (line ++ after)
-one_more line after cut h one =
-    ap (λ found. length (groups found)) cut ∙ ap length (groups-continued line (pieces_of after) h)
-    ∙ length-onto line (groups (pieces_of after)) (omega (arith, one)) ∙ one
+one_more line after cut h one = grind (arith, length, groups-continued, length-onto)
 
 one_more_ended : (line after : Text) → EndsOnce line → is_continued line ≡ true → IsLine after → IsLine (line ++ after)
-one_more_ended line after e h one =
-    one_more line after (subst (λ (t : Text). pieces_of (t ++ after) ≡ t ∷ pieces_of after) (sym e.1) (pieces_after e.0 after e.2)) h one
+one_more_ended line after e h one = grind (arith, one_more, pieces_after)
 
 group_is_line : (group : List Text) → IsGroup group → IsLine (kept_text group)
 unfolding IsGroup kept_text
 group_is_line [] a = absurd a
-group_is_line (line ∷ []) a =
-    let text : Text = take (kept_of_last line) line in
-    ap (λ found. length (groups found)) (one_piece text (free_at text a)) ∙ ap length (one_group (is_continued text) text refl)
+group_is_line (line ∷ []) a = grind (arith, take, length, one_piece, free_at, one_group)
 group_is_line (line ∷ next ∷ lines) a = one_more_ended line (kept_text (next ∷ lines)) a.0 a.1 (group_is_line (next ∷ lines) a.2)
 
 -- ---- logical lines
@@ -207,13 +173,10 @@ each_line : (text : Text) (start number : ℕ) (found : List (List Text)) → dr
     → IsLine (slice_range text (get_or (lines_from start number found) k d).span.start (get_or (lines_from start number found) k d).span.end)
 unfolding AreGroups lines_from
 each_line text start number [] on a k d l = absurd (omega arith)
-each_line text start number (group ∷ later) on a zero d l =
-    subst IsLine (sym (text_of_group text start group (flat_map concat later) on)) (group_is_line group a.0)
+each_line text start number (group ∷ later) on a zero d l = grind (arith, text_of_group, group_is_line)
 each_line text start number (group ∷ later) on a (suc k) d l =
     each_line text (start + length (concat group)) (number + length group) later (text_after text start group (flat_map concat later) on) a.1 k d (omega arith)
 
 pub lines_are : (text : Text) → All (λ line. IsLine (slice_range text line.span.start line.span.end)) (logical_lines_of text)
 unfolding logical_lines_of
-lines_are text =
-    let on : flat_map concat (groups (lines_of text)) ≡ text = concat_grouped (lines_of text) ∙ concat_cut (length text) text (omega arith) in
-    each_line text 0 1 (groups (lines_of text)) (sym on) (are_groups (lines_of text) (are_lines (length text) text (omega arith)))
+lines_are text = grind (arith, concat_grouped, concat_cut, length, each_line, are_groups, are_lines)

@@ -8,8 +8,7 @@ put_words list [] = list
 put_words list (word ∷ later) = put_words (put_word list word) later
 
 join_twice : (front word : Text) (later : List Text) → join_with_byte 32 ((front ++ (32 ∷ word)) ∷ later) ≡ join_with_byte 32 (front ∷ word ∷ later)
-join_twice front word [] = refl
-join_twice front word (next ∷ later) = append_assoc front (32 ∷ word) (32 ∷ join_with_byte 32 (next ∷ later))
+join_twice front word later = grind (arith, append_assoc)
 
 put_after : (first : ℕ) (list : Text) (later : List Text) → put_words (first ∷ list) later ≡ join_with_byte 32 ((first ∷ list) ∷ filter is_nonempty later)
 put_after first list [] = refl
@@ -46,16 +45,10 @@ pub range_none : (words : List Text) (start : ℕ) → slice_range words start 0
 range_none words start = ap (λ n. take n (drop start words)) (no_less start)
 
 pub range_past : (word : Text) (later : List Text) (start end : ℕ) → 0 < start → 0 < end → slice_range (word ∷ later) start end ≡ slice_range later (start - 1) (end - 1)
-range_past word later zero end some more = absurd (omega arith)
-range_past word later (suc start) zero some more = absurd (omega arith)
-range_past word later (suc start) (suc end) some more = grind arith
+range_past word later start end some more = grind arith
 
 pub range_taken : (word : Text) (later : List Text) (end : ℕ) → 0 < end → slice_range (word ∷ later) 0 end ≡ word ∷ slice_range later 0 (end - 1)
-range_taken word later zero more = absurd (omega arith)
-range_taken word later (suc end) more =
-    let all : suc end - 0 ≡ suc end = omega arith in
-    let rest : suc end - 1 - 0 ≡ end = omega arith in
-    ap (λ n. take n (word ∷ later)) all ∙ ap (λ n. word ∷ take n later) (sym rest)
+range_taken word later end more = grind (arith, take)
 
 pub range_empty : (start end : ℕ) → slice_range {X = Text} [] start end ≡ []
 range_empty start end = ap (take (end - start)) (drop_all start [] (omega arith)) ∙ take_all (end - start) [] (omega arith)

@@ -1,5 +1,5 @@
 -- Logical lines, physical line by physical line.
-use Rattle.std.proofs.Common.{◌≡◌, ℕ, ◌+◌, Bool, true, false, List, [], ◌∷◌, ◌++◌, ◌&&◌, refl, sym, ◌∙◌, ap, append_assoc, append-nil, length, length-append, arith, cond, ◌==◌, slice_index}
+use Rattle.std.proofs.Common.{rules, ◌≡◌, ℕ, ◌+◌, Bool, true, false, List, [], ◌∷◌, ◌++◌, ◌&&◌, refl, sym, ◌∙◌, ap, append_assoc, append-nil, length, length-append, arith, cond, ◌==◌, slice_index}
 use Rattle.kt_text.proofs.Common.{onto_first, concat, lines_of, Line, Text, is_nonempty, is_continued, groups, kept_of_last, kept_length, lines_from, logical_lines_of}
 use Rattle.kt_text.specs.declared.logical.Begin.{Begin}
 use Rattle.kt_text.proofs.GroupLemmas.{groups-ended, groups-continued, groups-begins, lines-some, lines-none, lines-empty}
@@ -42,32 +42,22 @@ line_ended false begin at line = line_to begin (at + kept_of_last line) ∷ []
 lines_with-alone : (begin : Begin) (at number : ℕ) (line : Text) (later : List (List Text))
     → lines_with begin at number ((line ∷ []) ∷ later) ≡ line_to begin (at + kept_of_last line) ∷ lines_from (at + length line) (number + 1) later
 unfolding kept_length
-lines_with-alone begin at number line later =
-    ap (λ text. line_to begin (at + kept_of_last line) ∷ lines_from (at + length text) (number + 1) later) (append-nil line)
+lines_with-alone begin at number line later = grind (arith, length, append-nil)
 
 lines_with-followed : (begin : Begin) (at number : ℕ) (line next : Text) (others : List Text) (later : List (List Text))
     → lines_with begin at number ((line ∷ next ∷ others) ∷ later) ≡ lines_with begin (at + length line) (number + 1) ((next ∷ others) ∷ later)
 unfolding kept_length
-lines_with-followed begin at number line next others later =
-    let group = next ∷ others in
-    let end : at + (length line + kept_length group) ≡ at + length line + kept_length group = omega arith in
-    let place : at + length (line ++ concat group) ≡ at + length line + length (concat group) = ap (λ n. at + n) (length-append line (concat group)) ∙ omega arith in
-    let count : number + length (line ∷ group) ≡ number + 1 + length group = omega arith in
-    ap (λ n. line_to begin n ∷ lines_from (at + length (line ++ concat group)) (number + length (line ∷ group)) later) end
-    ∙ ap (λ n. line_to begin (at + length line + kept_length group) ∷ lines_from n (number + length (line ∷ group)) later) place
-    ∙ ap (λ n. line_to begin (at + length line + kept_length group) ∷ lines_from (at + length line + length (concat group)) n later) count
+lines_with-followed begin at number line next others later = grind (arith, length, length-append)
 
 -- groups from their first line on, begun before or not
 lines_left-group : (continued : Bool) (begin : Begin) (at number : ℕ) (line : Text) (others : List Text) (later : List (List Text))
     → lines_left continued begin at number ((line ∷ others) ∷ later) ≡ lines_with (begin_of continued begin at number line) at number ((line ∷ others) ∷ later)
 unfolding lines_from
-lines_left-group true begin at number line others later = refl
-lines_left-group false begin at number line others later = refl
+lines_left-group continued begin at number line others later = grind arith
 
 lines_left-nil : (continued : Bool) (begin : Begin) (at number : ℕ) → lines_left continued begin at number [] ≡ []
 unfolding lines_from
-lines_left-nil true begin at number = refl
-lines_left-nil false begin at number = refl
+lines_left-nil continued begin at number = grind arith
 
 alone_left : (continued : Bool) (begin new : Begin) (at number : ℕ) (line : Text) (later : List (List Text)) → new ≡ begin_of continued begin at number line
     → lines_left continued begin at number ((line ∷ []) ∷ later) ≡ line_ended false new at line ++ lines_left false new (at + length line) (number + 1) later
@@ -78,10 +68,8 @@ by_cases : (more some continued : Bool) (begin new : Begin) (at number : ℕ) (l
     → new ≡ begin_of continued begin at number line
     → lines_left continued begin at number (groups (line ∷ lines_of after))
     ≡ line_ended (more && some) new at line ++ lines_left (more && some) new (at + length line) (number + 1) (groups (lines_of after))
-by_cases false some continued begin new at number line after h n is =
-    ap (lines_left continued begin at number) (groups-ended line (lines_of after) h) ∙ alone_left continued begin new at number line (groups (lines_of after)) is
-by_cases true false continued begin new at number line after h n is =
-    rw (lines-none after n) (ap (lines_left continued begin at number) (groups-continued line [] h ∙ onto_nil line) ∙ alone_left continued begin new at number line [] is ∙ ap (λ found. line_ended false new at line ++ lines_left false new (at + length line) (number + 1) found) (sym groups-nil))
+by_cases false some continued begin new at number line after h n is = search (rules, groups-ended, alone_left)
+by_cases true false continued begin new at number line after h n is = search (rules, lines-none, groups-continued, onto_nil, alone_left, length, groups-nil)
 by_cases true true continued begin new at number line after h n is =
     let first = lines-some after n in
     let begins = groups-begins first.line first.lines in
@@ -97,17 +85,11 @@ pub lines_more : (continued continues : Bool) (begin new : Begin) (at number : �
     → new ≡ begin_of continued begin at number line → continues ≡ is_continued line && is_nonempty after → left ≡ line ∷ lines_of after
     → lines ++ lines_left continued begin at number (groups left) ≡ whole
     → (lines ++ line_ended continues new at line) ++ lines_left continues new (at + length line) (number + 1) (groups (lines_of after)) ≡ whole
-lines_more continued continues begin new at number line after left lines whole is on cut before =
-    append_assoc lines (line_ended continues new at line) (lines_left continues new (at + length line) (number + 1) (groups (lines_of after)))
-    ∙ ap (λ t. lines ++ t) (rw on (sym (by_cases (is_continued line) (is_nonempty after) continued begin new at number line after refl refl is))
-    ∙ ap (λ found. lines_left continued begin at number (groups found)) (sym cut)) ∙ before
+lines_more continued continues begin new at number line after left lines whole is on cut before = grind (arith, append_assoc, length, by_cases)
 
 pub lines_end : (continued : Bool) (begin : Begin) (at number : ℕ) (rest : Text) (lines whole : List Line) → length rest ≡ 0
     → lines ++ lines_left continued begin at number (groups (lines_of rest)) ≡ whole → lines ≡ whole
-lines_end continued begin at number rest lines whole none before =
-    sym (append-nil lines)
-    ∙ ap (λ t. lines ++ t) (sym (ap (λ found. lines_left continued begin at number (groups found)) (lines-empty rest none) ∙ ap (lines_left continued begin at number) groups-nil ∙ lines_left-nil continued begin at number))
-    ∙ before
+lines_end continued begin at number rest lines whole none before = grind (arith, append-nil, lines-empty, groups-nil, lines_left-nil)
 
 pub lines_start : (begin : Begin) (text : Text) → lines_left false begin 0 1 (groups (lines_of text)) ≡ logical_lines_of text
 unfolding logical_lines_of

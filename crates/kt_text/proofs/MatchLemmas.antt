@@ -8,8 +8,7 @@ use Rattle.kt_text.proofs.PlaceLemmas.{first_byte_place}
 -- a test that some byte passes, by the place of the first that does
 pub list_any-place : (test : ℕ → Bool) (text : List ℕ) → list_any test text ≡ ltb (position_or_len test text) (length text)
 list_any-place test [] = refl
-list_any-place test (byte ∷ text) =
-    ⊎_elim (λ h. rw h (sym (lt-ltb 0 (length (byte ∷ text)) (omega arith)))) (λ h. rw h (list_any-place test text ∙ grind (arith, nat_tests))) (cases_Bool (test byte))
+list_any-place test (byte ∷ text) = grind (arith, ⊎_elim, lt-ltb, length, nat_tests, cases_Bool, list_any-place test text)
 
 -- the byte of a percent sign
 pub percent_byte : (byte : ℕ) → is_percent byte ≡ true → byte ≡ 37

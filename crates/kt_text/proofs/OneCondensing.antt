@@ -1,5 +1,5 @@
 -- A text is condensed in one way alone: what is done at each cut of it leaves no choice.
-use Rattle.std.proofs.Common.{◌≡◌, ◌⊎◌, ◌<◌, ◌≤◌, ◌==◌, ◌||◌, ℕ, zero, suc, Bool, true, false, List, [], ◌∷◌, ◌++◌, length, drop, refl, sym, ap, subst, ◌∙◌, arith, append_assoc, append-nil, length-append, inl, inr, ⊎_elim, nat_eq}
+use Rattle.std.proofs.Common.{◌≡◌, ◌⊎◌, ◌<◌, ◌≤◌, ◌==◌, ◌||◌, ℕ, zero, suc, Bool, true, false, List, [], ◌∷◌, ◌++◌, length, refl, sym, ap, subst, ◌∙◌, arith, append_assoc, append-nil, length-append, inl, inr, ⊎_elim, nat_eq}
 use Rattle.kt_text.proofs.Common.{cases_Bool, eqb-true, false≢true, Decides-eqb, starts_is, list_any, starts_with, Text, is_blank, condensed_of, is_continued_text}
 use Rattle.std.proofs.lemmas.Grind.{flat_map-append}
 use Rattle.std.proofs.Math.Bool.{or-true}
@@ -21,11 +21,7 @@ pub record Begins (text : Text) : Type 0 where
   pub whole : text ≡ spelled one ++ rest
 
 pub begins_so : (one : Spacing) (text : Text) → starts_with nat_eq text (spelled one) ≡ true → Begins text
-begins_so one text h = record {
-  one = one;
-  rest = drop (length (spelled one)) text;
-  whole = (starts_is Decides-eqb text (spelled one) true (sym h)).0 refl;
-}
+begins_so one text h = grind (arith, length, starts_is, Decides-eqb)
 
 pub begins_not : (one : Spacing) (text rest : Text) → starts_with nat_eq text (spelled one) ≡ false → text ≡ spelled one ++ rest → ⊥
 begins_not one text rest h e = false≢true ((starts_is Decides-eqb text (spelled one) false (sym h)).1 rest e)
@@ -71,16 +67,10 @@ one_before one rest b = record {
 }
 
 pub less_left : (text rest : Text) (one : Spacing) (fuel : ℕ) → text ≡ spelled one ++ rest → length text ≤ suc fuel → length rest ≤ fuel
-less_left text rest one fuel whole small =
-    let size = ap length whole ∙ length-append (spelled one) rest in
-    let long = spelled_long one in
-    omega (arith, size, long)
+less_left text rest one fuel whole small = grind (arith, length, length-append, spelled_long)
 
 pub some_left : (text rest : Text) (one : Spacing) → text ≡ spelled one ++ rest → length text ≤ 0 → ⊥
-some_left text rest one whole small =
-    let size = ap length whole ∙ length-append (spelled one) rest in
-    let long = spelled_long one in
-    omega (arith, size, long)
+some_left text rest one whole small = grind (arith, length, length-append, spelled_long)
 
 begun : (fuel : ℕ) (text : Text) → length text ≤ fuel → Begun text
 begun zero text small =
@@ -162,8 +152,7 @@ any_last [] one others h = ap (λ b. b || list_any is_continuation others) h
 any_last (blank ∷ blanks) one others h = ap (λ b. is_continuation blank || b) (any_last blanks one others h) ∙ or-true (is_continuation blank)
 
 no_first : (a b : Bool) → (a || b) ≡ false → a ≡ true → ⊥
-no_first true b h e = false≢true (sym h)
-no_first false b h e = false≢true e
+no_first a b h e = grind (arith, false≢true)
 
 pub first_of_run : (kept : Text) (blanks : List Spacing) (one : Spacing) (others : List Spacing) → list_any is_continuation blanks ≡ false → is_continued_text (kept ++ spelling blanks) ≡ false
     → FirstStands kept (blanks ++ one ∷ others)
@@ -187,38 +176,20 @@ around front one after free is even =
       kept = t.kept;
       run = t.blanks ++ one ∷ b.run;
       back = b.back;
-      whole = ap (λ x. x ++ (spelled one ++ after)) t.whole ∙ append_assoc t.kept (spelling t.blanks) (spelled one ++ after)
-          ∙ ap (λ x. t.kept ++ (spelling t.blanks ++ (spelled one ++ x))) b.whole
-          ∙ ap (λ x. t.kept ++ (spelling t.blanks ++ x)) (sym (append_assoc (spelled one) (spelling b.run) b.back))
-          ∙ ap (λ x. t.kept ++ x) (sym (append_assoc (spelling t.blanks) (spelled one ++ spelling b.run) b.back))
-          ∙ ap (λ x. t.kept ++ (x ++ b.back)) (sym (flat_map-append spelled t.blanks (one ∷ b.run)));
+      whole = grind (arith, append_assoc, spelling, flat_map-append);
       free = kept;
-      gap = record {
-        holds = any_last t.blanks one b.run is;
-        stands = first_of_run t.kept t.blanks one b.run t.none (sym (ap (λ x. is_continued_text x) t.whole) ∙ even);
-        before = λ text two st e. nothing_ends t.kept text two kept t.plain e;
-        after = b.plain;
-      };
+      gap = grind (arith, any_last, first_of_run, nothing_ends);
     }
 
 -- ---- one answer
 
 pub left_of_gap : (text kept : Text) (run : List Spacing) (back : Text) (fuel : ℕ) → text ≡ kept ++ (spelling run ++ back) → list_any is_continuation run ≡ true → length text ≤ suc fuel → length back ≤ fuel
 left_of_gap text kept [] back fuel whole some small = absurd (false≢true some)
-left_of_gap text kept (one ∷ run) back fuel whole some small =
-    let size = ap length whole ∙ length-append kept (spelling (one ∷ run) ++ back) in
-    let rest = length-append (spelling (one ∷ run)) back in
-    let spelt = length-append (spelled one) (spelling run) in
-    let long = spelled_long one in
-    omega (arith, size, rest, spelt, long)
+left_of_gap text kept (one ∷ run) back fuel whole some small = grind (arith, length, length-append, spelling, spelled_long)
 
 module _ (one other : Text → Text) (a : Condenses one) (b : Condenses other) where
   at_gap : (text : Text) (r : Around text) → one r.back ≡ other r.back → one text ≡ other text
-  at_gap text r later =
-      let none : HasNoNewline r.kept = free_at r.kept r.free in
-      ap one r.whole ∙ a.gap r.kept r.run r.back r.gap ∙ ap (λ t. t ++ (32 ∷ one r.back)) (a.stays r.kept none)
-      ∙ ap (λ t. r.kept ++ (32 ∷ t)) later
-      ∙ sym (ap other r.whole ∙ b.gap r.kept r.run r.back r.gap ∙ ap (λ t. t ++ (32 ∷ other r.back)) (b.stays r.kept none))
+  at_gap text r later = grind (arith, free_at)
 
   at_end : (text front mark after : Text) → text ≡ front ++ (mark ++ after) → IsFree front → IsNewline front mark → one after ≡ other after → one text ≡ other text
   at_end text front mark after whole free is later =

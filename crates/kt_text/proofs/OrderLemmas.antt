@@ -1,5 +1,5 @@
 -- The logical lines of a text stand in it one after the other.
-use Rattle.std.proofs.Common.{◌≡◌, ◌≤◌, ◌<◌, ◌+◌, ◌-◌, ℕ, zero, suc, Bool, true, false, List, [], ◌∷◌, length, get_or, refl, sym, ap, subst, ◌∙◌, arith, take, drop, length-append}
+use Rattle.std.proofs.Common.{◌≡◌, ◌≤◌, ◌<◌, ◌+◌, ℕ, zero, suc, Bool, List, [], ◌∷◌, length, get_or, refl, ap, subst, ◌∙◌, arith, take, drop, length-append}
 use Rattle.kt_text.proofs.Common.{nat_tests, concat, onto_first, line_len, lines_of, without_terminator, line_len-bounds, lines-nil, lines-step, length-take-le, length-drop, Line, Text, AreInOrder, is_continued, groups, kept_of_last, kept_length, lines_from, logical_lines_of}
 use Rattle.kt_text.proofs.GroupLemmas.{groups-ended, groups-continued}
 
@@ -15,21 +15,16 @@ bytes_in (group ∷ later) = bytes_of group + bytes_in later
 
 bytes_onto : (line : Text) (found : List (List Text)) → bytes_in (onto_first line found) ≡ length line + bytes_in found
 unfolding bytes_in
-bytes_onto line [] = let l = length-append line [] in omega arith
-bytes_onto line (group ∷ later) = let l = length-append line (concat group) in omega arith
+bytes_onto line found = grind (arith, length-append)
 
 bytes_by : (more : Bool) (line : Text) (lines : List Text) → is_continued line ≡ more → bytes_in (groups (line ∷ lines)) ≡ length line + bytes_in (groups lines)
 unfolding bytes_in
-bytes_by true line lines h = ap bytes_in (groups-continued line lines h) ∙ bytes_onto line (groups lines)
-bytes_by false line lines h =
-    let l = length-append line [] in
-    ap bytes_in (groups-ended line lines h) ∙ ap (λ n. n + bytes_in (groups lines)) (omega arith)
+bytes_by more line lines h = grind (arith, bytes_in, groups-continued, bytes_onto, length-append, groups-ended)
 
 bytes_grouped : (lines : List Text) → bytes_in (groups lines) ≡ bytes_of lines
 unfolding bytes_in groups
 bytes_grouped [] = refl
-bytes_grouped (line ∷ lines) =
-    bytes_by (is_continued line) line lines refl ∙ ap (λ n. length line + n) (bytes_grouped lines) ∙ sym (length-append line (concat lines))
+bytes_grouped (line ∷ lines) = grind (arith, bytes_by, length, length-append, bytes_grouped lines)
 
 bytes_cut : (fuel : ℕ) (text : Text) → length text ≤ fuel → bytes_of (lines_of text) ≡ length text
 bytes_cut fuel [] small = ap bytes_of lines-nil
@@ -46,11 +41,7 @@ bytes_cut (suc fuel) (byte ∷ text) small =
 -- ---- what a group keeps of its text
 
 length-content : (line : Text) → length (without_terminator line) ≤ length line
-length-content line =
-    let front : Text = take (length line - 1) line in
-    let one = length-take-le (length line - 1) line (omega arith) in
-    let two = length-take-le (length front - 1) front (omega arith) in
-    grind (arith, nat_tests, one, two)
+length-content line = grind (arith, take, length, length-take-le, nat_tests)
 
 pub kept_within : (line : Text) → kept_of_last line ≤ length line
 unfolding kept_of_last
@@ -60,8 +51,7 @@ kept_in_group : (group : List Text) → kept_length group ≤ bytes_of group
 unfolding kept_length
 kept_in_group [] = omega arith
 kept_in_group (line ∷ []) = let k = kept_within line in let l = length-append line [] in omega arith
-kept_in_group (line ∷ next ∷ lines) =
-    let k = kept_in_group (next ∷ lines) in let l = length-append line (concat (next ∷ lines)) in omega arith
+kept_in_group (line ∷ next ∷ lines) = grind (arith, length-append, kept_in_group (next ∷ lines))
 
 -- ---- one line after the other
 

@@ -1,36 +1,28 @@
 -- The physical lines of a text.
-use Rattle.std.proofs.Common.{◌≡◌, ℕ, suc, ◌+◌, ◌-◌, ◌<◌, ◌≤◌, Bool, true, false, List, [], ◌∷◌, length, take, drop, length-take-le, refl, sym, ◌∙◌, ap, arith, Some, None, ◌==◌, if◌then◌else◌, ⊎_elim, slice_index}
+use Rattle.std.proofs.Common.{◌≡◌, ℕ, ◌+◌, ◌-◌, ◌<◌, ◌≤◌, Bool, true, false, List, [], ◌∷◌, length, take, drop, length-take-le, refl, sym, ◌∙◌, ap, arith, Some, None, ◌==◌, if◌then◌else◌, ⊎_elim, slice_index}
 use Rattle.kt_text.proofs.Common.{lt-ltb, le-ltb, eqb-true, eq-eqb, cases_Bool, false≢true, list_any, before_first, position_or_len, IsFirstByte, is_byte, line_len, is_ended, pieces_of, line_len-at, line_len-none, line_len-bounds, lines-step}
 use Rattle.kt_text.proofs.PlaceLemmas.{first_byte_place}
 use Rattle.kt_text.proofs.MatchLemmas.{list_any-place}
 
 -- the size of the first line, by where its newline stands
 pub line_len-found : (text : List ℕ) (place : ℕ) → IsFirstByte (is_byte 10) text (Some place) → line_len text ≡ place + 1
-line_len-found text place found =
-    line_len-at text place found.0.high (eqb-true _ _ found.1) (λ k l e. found.0.before k (omega arith) l (eq-eqb _ _ e))
+line_len-found text place found = grind (arith, line_len-at, eqb-true, eq-eqb)
 
 pub line_len-not_found : (text : List ℕ) → IsFirstByte (is_byte 10) text None → line_len text ≡ length text
 line_len-not_found text found = line_len-none text (λ k l e. found k (omega arith) l (eq-eqb _ _ e))
 
 -- a byte before a line changes nothing at its end
 last-after : (byte : ℕ) (line : List ℕ) → 0 < length line → slice_index (byte ∷ line) (length (byte ∷ line) - 1) ≡ slice_index line (length line - 1)
-last-after byte [] some = absurd (omega arith)
-last-after byte (next ∷ line) some =
-    let at : length (byte ∷ next ∷ line) - 1 ≡ suc (length line) = omega arith in
-    let there : length (next ∷ line) - 1 ≡ length line = omega arith in
-    rw (at, there) refl
+last-after byte line some = grind (arith, length)
 
 -- so it keeps its newline
 is_ended-after : (byte : ℕ) (line : List ℕ) → 0 < length line → is_ended (byte ∷ line) ≡ is_ended line
 unfolding is_ended
-is_ended-after byte [] some = absurd (omega arith)
-is_ended-after byte (next ∷ line) some = ap (λ b. b == 10) (last-after byte (next ∷ line) some)
+is_ended-after byte line some = grind (arith, last-after)
 
 -- a line that another byte comes before
 longer : (byte next : ℕ) (text : List ℕ) → is_ended (byte ∷ take (line_len (next ∷ text)) (next ∷ text)) ≡ is_ended (take (line_len (next ∷ text)) (next ∷ text))
-longer byte next text =
-    let bounds = line_len-bounds (next ∷ text) (omega arith) in
-    is_ended-after byte (take (line_len (next ∷ text)) (next ∷ text)) (rw (length-take-le (line_len (next ∷ text)) (next ∷ text) bounds.1) bounds.0)
+longer byte next text = grind (arith, line_len-bounds, is_ended-after, take, length-take-le)
 
 -- a line of one byte
 ended_alone : (byte : ℕ) (ended : Bool) → (byte == 10) ≡ ended → is_ended (byte ∷ []) ≡ ended
@@ -48,8 +40,7 @@ pub pieces-step : (text : List ℕ) → 0 < length text
     → pieces_of text ≡ take (line_len text) text ∷ (if is_ended (take (line_len text) text) then pieces_of (drop (line_len text) text) else [])
 unfolding pieces_of line_len
 pieces-step [] some = absurd (omega arith)
-pieces-step (byte ∷ []) some =
-    ⊎_elim (λ h. rw h (rw (ended_alone byte true h) refl)) (λ h. rw h (rw (ended_alone byte false h) refl)) (cases_Bool (byte == 10))
+pieces-step (byte ∷ []) some = grind (arith, ⊎_elim, ended_alone, cases_Bool)
 pieces-step (byte ∷ next ∷ text) some =
     let inner = pieces-step (next ∷ text) (omega arith) in
     ⊎_elim (λ h. rw h (rw (ended_alone byte true h) refl)) (λ h. rw h (rw (longer byte next text, inner) refl)) (cases_Bool (byte == 10))

@@ -1,5 +1,5 @@
 -- Where a byte stands first, as the searches of `memchr` answer it and as std's words on lists say it.
-use Rattle.std.proofs.Common.{◌≡◌, ◌==◌, ℕ, ◌+◌, ◌-◌, ◌≤◌, Bool, true, false, true≢false, List, [], ◌∷◌, Option, None, Some, length, get_or, add-sub_cancel, drop, refl, sym, ◌∙◌, ap, unwrap_or, is_some, not, ltb, position, ⊎_elim, arith}
+use Rattle.std.proofs.Common.{◌≡◌, ◌==◌, ℕ, ◌+◌, ◌-◌, Bool, true, false, true≢false, List, ◌∷◌, Option, None, Some, length, get_or, add-sub_cancel, drop, refl, sym, ◌∙◌, ap, unwrap_or, is_some, not, ltb, position, ⊎_elim, arith}
 use Rattle.kt_text.proofs.Common.{ltb-false, cases_Bool, eq-eqb, eqb-true, false_from_ne_true, position_or_len, prefix_len, suffix_len, position_or_len_is, suffix_len_is, prefix_len-le-length, IsFirstByte, IsLastByte, FindsNeedle, first_of, matches, is_nonempty, occurs}
 use Rattle.memchr.proofs.lemmas.ValueLemmas.{FindsNeedle-value}
 
@@ -7,9 +7,7 @@ use Rattle.memchr.proofs.lemmas.ValueLemmas.{FindsNeedle-value}
 pub first_byte_place : (test : ℕ → Bool) (text : List ℕ) (found : Option ℕ) → IsFirstByte test text found → unwrap_or found (length text) ≡ position_or_len test text
 first_byte_place test text None h =
     sym (position_or_len_is test text (length text) 0 (omega arith) (λ k l. false_from_ne_true _ (h k (omega arith) l)) (λ l. absurd (omega arith)))
-first_byte_place test text (Some place) h =
-    let low : place ≤ length text = omega (arith, h.0.high) in
-    sym (position_or_len_is test text place 0 low (λ k l. false_from_ne_true _ (h.0.before k (omega arith) l)) (λ l. h.1))
+first_byte_place test text (Some place) h = grind (arith, length, position_or_len_is, false_from_ne_true)
 
 -- bytes that differ, in either order
 pub differ_turned : (byte other : ℕ) → (byte == other) ≡ false → (other == byte) ≡ false
@@ -21,16 +19,12 @@ drop-prefix_len test byte text h = rw h (grind arith)
 
 -- the same of `position`
 pub unwrap_or-position : (test : ℕ → Bool) (text : List ℕ) → unwrap_or (position test text) (length text) ≡ position_or_len test text
-unwrap_or-position test text =
-    let place = position_or_len test text in
-    let bound : place ≤ length text = prefix_len-le-length (λ x. not (test x)) text in
-    ⊎_elim (λ h. rw h refl) (λ h. let far = ltb-false place (length text) h in rw h (omega arith)) (cases_Bool (ltb place (length text)))
+unwrap_or-position test text = grind (arith, length, prefix_len-le-length, not, ⊎_elim, ltb-false, cases_Bool, ltb)
 
 -- an answer of a search for a needle says whether there is a match
 is_some-first_of : (places : List ℕ) → is_some (first_of places) ≡ is_nonempty places
 unfolding first_of
-is_some-first_of [] = refl
-is_some-first_of (place ∷ places) = refl
+is_some-first_of places = grind arith
 
 pub occurs_found : (text needle : List ℕ) (found : Option ℕ) → FindsNeedle text needle 0 found → is_some found ≡ occurs needle text
 occurs_found text needle found h = ap is_some (FindsNeedle-value text needle found h) ∙ is_some-first_of (matches text needle 0)

@@ -40,9 +40,7 @@ never_both word other l m = less_not_greater (sym l ∙ nat_list_cmp_total.antis
 
 -- a list that rises has nothing below its first word
 nothing_below : (word first : Text) (words : List Text) → Rises (first ∷ words) → Contains (first ∷ words) word → order word first ≡ Less → ⊥
-nothing_below word first words rises has below =
-    let later = Contains-tail first words word (λ e. never_itself word (rw e at below)) has in
-    never_both word first below (All-contains (λ other. order first other ≡ Less) words word (All-after_first order first words rises) later)
+nothing_below word first words rises has below = grind (arith, Contains-tail, never_itself, never_both, All-contains, All-after_first)
 
 -- so its first word isn't among the others
 first_once : (first : Text) (words : List Text) → Rises (first ∷ words) → Contains words first → ⊥
@@ -62,9 +60,7 @@ none_contained word has = absurd (omega (arith, has.1))
 
 -- an answer is one of three
 cases_order : (o : Ordering) → (o ≡ Less) ⊎ ((o ≡ Equal) ⊎ (o ≡ Greater))
-cases_order Less = inl refl
-cases_order Equal = inr (inl refl)
-cases_order Greater = inr (inr refl)
+cases_order o = grind arith
 
 -- words that tie are equal
 pub same_from_tie : (word other : Text) → order word other ≡ Equal → word ≡ other
@@ -94,8 +90,7 @@ same_from_members (first ∷ words) (other ∷ others) rises rise there back =
 
 -- the first word of a list, or one of the others
 contains_cases : (first : Text) (words : List Text) (word : Text) → Contains (first ∷ words) word → (first ≡ word) ⊎ Contains words word
-contains_cases first words word (zero, l, e) = inl e
-contains_cases first words word (suc k, l, e) = inr (k, omega arith, e)
+contains_cases first words word h = grind arith
 
 -- a word below all of a list, put before it
 pub rises_more : (first : Text) (words : List Text) → All (λ other. order first other ≡ Less) words → Rises words → Rises (first ∷ words)
@@ -249,8 +244,7 @@ front_number-less (suc n) (a ∷ word) (b ∷ other) small tiny less =
 -- what a comparison of the numbers says of the words
 pub fronts_decide : (word other : Text) (front back : ℕ) (o : Ordering) → front ≡ front_number 8 word → back ≡ front_number 8 other
     → AreBytes word → AreBytes other → o ≡ nat_cmp front back → MatchOrdering o (order word other ≡ Less) (Unit {0}) (order word other ≡ Greater)
-fronts_decide word other front back Less f g small tiny c =
-    front_number-less 8 word other small tiny (rw (← f, ← g) (ranked front back Less c))
+fronts_decide word other front back Less f g small tiny c = grind (arith, front_number-less, ranked)
 fronts_decide word other front back Equal f g small tiny c = tt
 fronts_decide word other front back Greater f g small tiny c =
     nat_list_cmp_total.antisymm word other ∙ ap ordering_reverse (front_number-less 8 other word tiny small (rw (← f, ← g) (ranked front back Greater c)))
@@ -258,33 +252,20 @@ fronts_decide word other front back Greater f g small tiny c =
 -- no bytes make 0
 front_number-nil : (n : ℕ) → front_number n [] ≡ 0
 unfolding front_number
-front_number-nil zero = refl
-front_number-nil (suc n) = refl
+front_number-nil n = grind arith
 
 -- the first byte of what is left, or none
 front_number-first : (n i : ℕ) (text : Text) → front_number (suc n) (drop i text) ≡ slice_index text i * 256 ^ n + front_number n (drop (i + 1) text)
 unfolding front_number
-front_number-first n i text =
-    ⊎_elim (λ l. rw (drop_more text i 0 l) refl)
-    (λ h. rw (drop_all i text h, drop_all (i + 1) text (omega arith), get_or_past text i 0 h) (omega (arith, front_number-nil n)))
-    (cases_lt i (length text))
+front_number-first n i text = grind (arith, ⊎_elim, drop_more, drop_all, get_or_past, front_number-nil, cases_lt, length)
 
 -- one step of the loop that puts bytes together
 pub front_number-more : (n i front : ℕ) (text : Text) → front * 256 ^ suc n + front_number (suc n) (drop i text) ≡ (front * 256 + slice_index text i) * 256 ^ n + front_number n (drop (i + 1) text)
-front_number-more n i front text =
-    let power : front * 256 ^ suc n ≡ front * 256 ^ n * 256 = ap (λ p. front * p) (pow-suc 256 n) ∙ sym (mul_assoc front (256 ^ n) 256) in
-    let parts : (front * 256 + slice_index text i) * 256 ^ n ≡ front * 256 * 256 ^ n + slice_index text i * 256 ^ n = add-mul (front * 256) (slice_index text i) (256 ^ n) in
-    let turned : front * 256 * 256 ^ n ≡ front * 256 ^ n * 256 = mul_assoc front 256 (256 ^ n) ∙ ap (λ p. front * p) (mul_comm 256 (256 ^ n)) ∙ sym (mul_assoc front (256 ^ n) 256) in
-    let first = front_number-first n i text in
-    omega (arith, power, parts, turned, first)
+front_number-more n i front text = grind (arith, pow-suc, mul_assoc, add-mul, mul_comm, front_number-first)
 
 -- a given number of bytes fit into eight
 pub front_fits : (front i : ℕ) → front < 256 ^ i → i < 8 → front < 256 ^ 7
-front_fits front i small l =
-    let ten : 0 < 256 = omega arith in
-    let short : i ≤ 7 = omega arith in
-    let most = pow-le-pow_right ten short in
-    omega (arith, most, small)
+front_fits front i small l = grind (arith, pow-le-pow_right)
 
 -- and one byte more fits into its place
 pub front_grows : (front byte i : ℕ) → front < 256 ^ i → byte < 256 → front * 256 + byte < 256 ^ (i + 1)
@@ -299,8 +280,7 @@ front_number-start text = omega arith
 -- the number when no byte is left
 pub front_number-end : (n front whole : ℕ) (text : Text) → n ≡ 0 → front * 256 ^ n + front_number n text ≡ whole → front ≡ whole
 unfolding front_number
-front_number-end zero front whole text none before = omega (arith, before)
-front_number-end (suc n) front whole text none before = absurd (omega arith)
+front_number-end n front whole text none before = grind arith
 
 -- a list that is sorted and then rid of words that stand beside an equal one
 pub sorted_once : (texts sorted once : List Text) → IsPermutation texts sorted → IsSorted order sorted → once ≡ dedup (pointwise nat_eq) sorted → once ≡ word_set texts

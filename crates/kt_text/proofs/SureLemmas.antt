@@ -1,5 +1,5 @@
 -- Bytes that a look at sixteen at once passes over.
-use Rattle.std.proofs.Common.{◌≡◌, ℕ, zero, suc, ◌+◌, ◌≤◌, ◌<◌, Bool, true, false, not, cond, List, [], ◌∷◌, take, drop, refl, ap, ◌∙◌, arith, nat_le}
+use Rattle.std.proofs.Common.{◌≡◌, ℕ, zero, suc, ◌+◌, ◌≤◌, Bool, true, false, not, cond, List, [], ◌∷◌, take, drop, refl, ap, ◌∙◌, arith, nat_le}
 use Rattle.kt_text.proofs.Common.{position_or_len, prefix_len, leb-false, ne_eqb, not-true, is_separator}
 use Rattle.kt_text.specs.inner.Sure.{is_sure}
 
@@ -8,12 +8,7 @@ module _ {A : Type 0} (sure : A → Bool) where
   part_run : (count : ℕ) (xs : List A) → prefix_len sure (take count xs) ≤ prefix_len sure xs
   part_run zero xs = omega arith
   part_run (suc count) [] = omega arith
-  part_run (suc count) (x ∷ xs) = by (sure x) (part_run count xs)
-    where
-      by : (b : Bool) → prefix_len sure (take count xs) ≤ prefix_len sure xs
-          → cond b (1 + prefix_len sure (take count xs)) 0 ≤ cond b (1 + prefix_len sure xs) 0
-      by true part = omega (arith, part)
-      by false part = omega arith
+  part_run (suc count) (x ∷ xs) = grind (arith, take, cond, part_run count xs)
 
   pub run_on : (passed count : ℕ) (xs : List A) → passed ≤ prefix_len sure xs
       → passed + prefix_len sure (take count (drop passed xs)) ≤ prefix_len sure xs
@@ -45,6 +40,4 @@ module _ {A : Type 0} (sure : A → Bool) where
 -- no separator is beyond a space
 pub sure_is_none : (byte : ℕ) → is_sure byte ≡ true → is_separator byte ≡ false
 unfolding is_separator
-sure_is_none byte sure =
-    let beyond : 32 < byte = leb-false byte 32 (not-true (nat_le byte 32) sure) in
-    rw (ne_eqb byte 32 (λ e. omega (arith, beyond, e)), ne_eqb byte 9 (λ e. omega (arith, beyond, e)), ne_eqb byte 10 (λ e. omega (arith, beyond, e))) refl
+sure_is_none byte sure = grind (arith, leb-false, not-true, nat_le, ne_eqb)

@@ -9,8 +9,7 @@ pub suffix-none : (p : ℕ → Bool) (front : Text) (byte : ℕ) → p byte ≡ 
 suffix-none p front byte h = ap (prefix_len p) (reverse-append front (byte ∷ [])) ∙ rw h refl
 
 either_way : (b : Bool) (n k : ℕ) → k ≡ 0 → (b ≡ true → n ≡ n) → cond b (n + k) n ≡ n
-either_way true n k none h = omega arith
-either_way false n k none h = refl
+either_way b n k none h = grind arith
 
 -- what stands before a byte that fails has no part in it
 pub suffix-past : (p : ℕ → Bool) (front : Text) (byte : ℕ) (text : Text) → p byte ≡ false → suffix_len p (front ++ (byte ∷ text)) ≡ suffix_len p text
@@ -48,9 +47,7 @@ EndsPlain (byte ∷ []) = is_blank byte ≡ false
 EndsPlain (byte ∷ next ∷ text) = EndsPlain (next ∷ text)
 
 pub start_blank : (byte : ℕ) (text : Text) → is_blank byte ≡ true → trimmed_start (byte ∷ text) ≡ trimmed_start text
-start_blank byte text h =
-    let more : prefix_len is_blank (byte ∷ text) ≡ suc (prefix_len is_blank text) = rw h (omega arith) in
-    ap (λ n. drop n (byte ∷ text)) more
+start_blank byte text h = grind arith
 
 pub start_plain : (byte : ℕ) (text : Text) → is_blank byte ≡ false → trimmed_start (byte ∷ text) ≡ byte ∷ text
 start_plain byte text h = let none : prefix_len is_blank (byte ∷ text) ≡ 0 = rw h refl in ap (λ n. drop n (byte ∷ text)) none
@@ -76,10 +73,7 @@ suffix_blanks (byte ∷ next ∷ text) blanks e a =
     suffix-more is_blank byte ((next ∷ text) ++ blanks) (omega (arith, rest, size)) ∙ rest
 
 pub end_blanks : (front blanks : Text) → EndsPlain front → AllBlank blanks → trimmed_end (front ++ blanks) ≡ front
-end_blanks front blanks e a =
-    let some = suffix_blanks front blanks e a in
-    let size = length-append front blanks in
-    take_at front blanks (length (front ++ blanks) - suffix_len is_blank (front ++ blanks)) (omega (arith, some, size))
+end_blanks front blanks e a = grind (arith, suffix_blanks, length-append, take_at, length)
 
 blank_other : (byte : ℕ) → is_blank byte ≡ true → (byte == 92) ≡ false
 unfolding is_blank
