@@ -1,32 +1,20 @@
 -- Assignments from the places of their parts.
-use Rattle.std.proofs.Common.{◌≡◌, ◌≤◌, ◌<◌, ◌-◌, ◌+◌, ◌==◌, ◌&&◌, ℕ, zero, suc, Bool, true, false, not, if◌then◌else◌, List, [], ◌∷◌, length, drop, refl, sym, ap, subst, ◌∙◌, arith, Option, Some, None, ⊎_elim, slice_index, MatchOption}
+use Rattle.std.proofs.Common.{◌≡◌, ◌≤◌, ◌-◌, ◌+◌, ◌==◌, ℕ, zero, suc, Bool, true, false, not, if◌then◌else◌, List, [], ◌∷◌, length, drop, refl, sym, ap, subst, ◌∙◌, arith, Option, Some, None, ⊎_elim, slice_index, MatchOption}
 use Rattle.kt_syntax.proofs.Common.{prefix_len, cases_Bool, cases_order, false≢true, drop-drop, get_or-drop, length-drop, prefix_len_passes, prefix_len_stops, none-some, same_Some, Text, is_blank, Operator, mask_of, Parts, assignment_parts, ends_name, name_end, operator_of, parts_after, parts_at, past_blanks}
 use Rattle.kt_syntax.specs.Assignments.{is_of_name, AreBlanks, IsAssignment, IsName, IsOnlyAssignment}
 
 -- tests of a name's symbols
 goes_on : (symbol : ℕ) (text : Text) → is_of_name symbol text ≡ true → (ends_name symbol text ≡ false) × ((symbol == 58) ≡ false)
-goes_on symbol text h = parts_of (ends_name symbol text) (symbol == 58) h
-  where
-    parts_of : (ends colon : Bool) → (not ends && not colon) ≡ true → (ends ≡ false) × (colon ≡ false)
-    parts_of false false h = (refl, refl)
-    parts_of false true h = absurd (false≢true h)
-    parts_of true colon h = absurd (false≢true h)
+goes_on symbol text h = grind (arith, not, false≢true)
 
 goes_on-from : (symbol : ℕ) (text : Text) → ends_name symbol text ≡ false → (symbol == 58) ≡ false → is_of_name symbol text ≡ true
-goes_on-from symbol text e c = whole (ends_name symbol text) (symbol == 58) e c
-  where
-    whole : (ends colon : Bool) → ends ≡ false → colon ≡ false → (not ends && not colon) ≡ true
-    whole false false e c = refl
-    whole false true e c = absurd (false≢true (sym c))
-    whole true colon e c = absurd (false≢true (sym e))
+goes_on-from symbol text e c = grind (arith, not, false≢true)
 
 chosen : {A : Type 0} (b : Bool) (x y : A) → b ≡ true → (if b then x else y) ≡ x
-chosen true x y h = refl
-chosen false x y h = absurd (false≢true h)
+chosen b x y h = grind (arith, false≢true)
 
 other : {A : Type 0} (b : Bool) (x y : A) → b ≡ false → (if b then x else y) ≡ y
-other false x y h = refl
-other true x y h = absurd (false≢true (sym h))
+other b x y h = grind (arith, false≢true)
 
 -- one step of the scan for the end of a name
 end-here : (place symbol : ℕ) (mask text : List ℕ) → ends_name symbol text ≡ true → name_end place (symbol ∷ mask) text ≡ Some place
@@ -46,10 +34,7 @@ unfolding name_end
 end-last place text = refl
 
 drop_one : (k : ℕ) (text : Text) → drop k (drop 1 text) ≡ drop (suc k) text
-drop_one k text = drop-drop k 1 text ∙ ap (λ n. drop n text) more
-  where
-    more : 1 + k ≡ suc k
-    more = omega arith
+drop_one k text = grind (arith, drop-drop)
 
 -- a name from the front, with its first symbol and without it
 name_rest : (symbol size : ℕ) (mask text : List ℕ) → IsName text (symbol ∷ mask) 0 (suc size) → IsName (drop 1 text) mask 0 size
@@ -63,18 +48,7 @@ name_rest symbol size mask text is =
     }
 
 name_more : (symbol size : ℕ) (mask text : List ℕ) → is_of_name symbol text ≡ true → IsName (drop 1 text) mask 0 size → IsName text (symbol ∷ mask) 0 (suc size)
-name_more symbol size mask text h is =
-    let within = is.within in
-    record {
-      order = omega arith;
-      within = omega arith;
-      goes_on = at;
-      ends = λ room. ap (ends_name (slice_index mask size)) (sym (drop_one size text)) ∙ is.ends (omega arith);
-    }
-  where
-    at : (k : ℕ) → 0 ≤ k → k < suc size → is_of_name (slice_index (symbol ∷ mask) k) (drop k text) ≡ true
-    at zero low high = h
-    at (suc k) low high = ap (is_of_name (slice_index mask k)) (sym (drop_one k text)) ∙ is.goes_on k (omega arith) (omega arith)
+name_more symbol size mask text h is = grind (arith, goes_on, drop_one)
 
 -- where a name ends the scan finds it
 name_complete : (place size : ℕ) (mask text : List ℕ) → IsName text mask 0 size → name_end place mask text ≡ Some (place + size)
@@ -140,21 +114,7 @@ front text mask begin size low is =
     there h = sym (ap (λ s. ends_name s (drop size (drop begin text))) (get_or-drop begin mask size 0) ∙ ap (ends_name (slice_index mask (begin + size))) (drop-drop size begin text)) ∙ h
 
 past : (text mask : List ℕ) (begin size : ℕ) → IsName text mask begin (begin + size) → IsName (drop begin text) (drop begin mask) 0 size
-past text mask begin size is =
-    let within = is.within in
-    let all = length-drop begin mask in
-    record {
-      order = omega arith;
-      within = omega arith;
-      goes_on = λ k above below. here k (is.goes_on (begin + k) (omega arith) (omega arith));
-      ends = λ room. there (is.ends (omega arith));
-    }
-  where
-    here : (n : ℕ) → is_of_name (slice_index mask (begin + n)) (drop (begin + n) text) ≡ true → is_of_name (slice_index (drop begin mask) n) (drop n (drop begin text)) ≡ true
-    here n h = ap (λ s. is_of_name s (drop n (drop begin text))) (get_or-drop begin mask n 0) ∙ ap (is_of_name (slice_index mask (begin + n))) (drop-drop n begin text) ∙ h
-
-    there : ends_name (slice_index mask (begin + size)) (drop (begin + size) text) ≡ true → ends_name (slice_index (drop begin mask) size) (drop size (drop begin text)) ≡ true
-    there h = ap (λ s. ends_name s (drop size (drop begin text))) (get_or-drop begin mask size 0) ∙ ap (ends_name (slice_index mask (begin + size))) (drop-drop size begin text) ∙ h
+past text mask begin size is = grind (arith, length-drop, goes_on, get_or-drop, drop-drop)
 
 -- blanks from a place on reach up to the first place without one, and there alone
 blank_end : is_blank 0 ≡ false
@@ -185,15 +145,7 @@ blanks_are mask begin =
     rest n h = ap is_blank (past_end (drop begin mask) n h) ∙ blank_end
 
 pub blanks_only : (mask : List ℕ) (begin end : ℕ) → AreBlanks mask begin end → end ≡ past_blanks begin mask
-blanks_only mask begin end are =
-    ⊎_elim (λ same. same)
-    (λ h. ⊎_elim
-    (λ below. absurd (false≢true (sym are.ends ∙ known.blank end are.order below)))
-    (λ above. absurd (false≢true (sym known.ends ∙ are.blank (past_blanks begin mask) known.order above))) h)
-    (cases_order end (past_blanks begin mask))
-  where
-    known : AreBlanks mask begin (past_blanks begin mask)
-    known = blanks_are mask begin
+blanks_only mask begin end are = grind (arith, ⊎_elim, false≢true, cases_order, blanks_are)
 
 -- where the parts that are computed come from
 at_none : (text : Text) (name place : ℕ) (found : Option (Operator × ℕ)) → found ≡ None → parts_at text name place found ≡ None

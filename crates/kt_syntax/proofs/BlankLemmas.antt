@@ -1,5 +1,5 @@
 -- Lines that begin with their comment, or hold nothing.
-use Rattle.std.proofs.Common.{◌≡◌, ◌∙◌, Bool, false, true, [], ◌∷◌, refl, sym, ap}
+use Rattle.std.proofs.Common.{arith, ◌≡◌, ◌∙◌, Bool, false, true, [], ◌∷◌, refl, sym, ap}
 use Rattle.kt_syntax.proofs.Common.{eqb-true, Text, is_blank, without_newline, begins_comment, before_comment, blank, kind_of, kind_within, line_kind, mask_from, mask_of, more_masked}
 use Rattle.kt_syntax.proofs.CondensedBegins.{begins_alike}
 
@@ -9,8 +9,7 @@ comment_kind text tab = refl
 
 pub comment_is_blank : (text : Text) (tab : Bool) → begins_comment text ≡ true → blank ≡ kind_of text tab
 unfolding kind_of kind_within before_comment mask_of mask_from
-comment_is_blank [] tab h = refl
-comment_is_blank (byte ∷ text) tab h = rw (eqb-true byte 35 h) (comment_kind text tab)
+comment_is_blank text tab h = grind (arith, eqb-true, comment_kind)
 
 -- condensing leaves such a begin as it is
 pub comment_line : (line : Text) → begins_comment line ≡ true → line_kind line false ≡ blank

@@ -1,5 +1,5 @@
 -- Where a reference is closed.
-use Rattle.std.proofs.Common.{◌≡◌, ◌≢◌, ◌==◌, ◌≤◌, ◌<◌, ◌-◌, ◌+◌, ℕ, zero, suc, Bool, true, false, [], ◌∷◌, ◌++◌, Option, Some, None, length, take, drop, refl, sym, ap, subst, ◌∙◌, arith, filter, ⊎_elim, add-zero, zero-add}
+use Rattle.std.proofs.Common.{rules, ◌≡◌, ◌≢◌, ◌==◌, ◌≤◌, ◌<◌, ◌-◌, ◌+◌, ℕ, suc, Bool, true, false, [], ◌∷◌, ◌++◌, Option, Some, None, length, take, drop, refl, sym, ap, ◌∙◌, arith, filter, ⊎_elim, add-zero, zero-add}
 use Rattle.kt_syntax.proofs.Common.{cases_Bool, false_from_ne_true, eqb-true, eq-eqb, length-filter, same_Some, take_nil, above_zero, sum_suc, Text, count_of, IsBalanced, IsUnclosed, closing}
 
 -- no front of the text closes more than is open before it, and the whole closes all that
@@ -45,9 +45,7 @@ count_yes mark byte text h =
 
 pub count_no : (mark byte : ℕ) (text : Text) → (byte == mark) ≡ false → count_of mark (byte ∷ text) ≡ count_of mark text
 unfolding count_of
-count_no mark byte text h =
-    let p : ℕ → Bool = λ b. b == mark in
-    sym (length-filter p (byte ∷ text)) ∙ ap length (no_filter p byte text h) ∙ length-filter p text
+count_no mark byte text h = grind (arith, length-filter, length, no_filter)
 
 pub count_nil : (mark : ℕ) → count_of mark [] ≡ 0
 unfolding count_of
@@ -63,13 +61,7 @@ other_eqb : (opener closer : ℕ) → opener ≢ closer → (closer == opener) �
 other_eqb opener closer ne = false_from_ne_true (closer == opener) (λ h. ne (sym (eqb-true closer opener h)))
 
 differ : (opener closer byte : ℕ) → opener ≢ closer → (byte == opener) ≡ true → (byte == closer) ≡ false
-differ opener closer byte ne h =
-    let step : (b : Bool) → (byte == closer) ≡ b → (byte == closer) ≡ false
-    = λ b. elim b as (λ v. (byte == closer) ≡ v → (byte == closer) ≡ false) [
-      | true ↦ λ k. absurd (ne (sym (eqb-true byte opener h) ∙ eqb-true byte closer k))
-      | false ↦ λ k. k
-    ] in
-    step (byte == closer) refl
+differ opener closer byte ne h = grind (arith, eqb-true)
 
 -- what a byte does to the count of what is open: that before it and after it
 abbrev Moves : ℕ → ℕ → ℕ → ℕ → ℕ → Type 0
@@ -88,14 +80,7 @@ moves_other opener closer depth byte h k text = let a = count_no opener byte tex
 -- a byte before a text that closes, and back
 closes_before : (opener closer depth deeper byte : ℕ) (text : Text) → Moves opener closer depth deeper byte → Closes opener closer deeper text
     → Closes opener closer depth (byte ∷ text)
-closes_before opener closer depth deeper byte text moves c = record {
-  fronts = λ n. front n;
-  even = let m = moves text in let e = c.even in omega arith;
-}
-  where
-    front : (n : ℕ) → count_of closer (take n (byte ∷ text)) ≤ depth + count_of opener (take n (byte ∷ text))
-    front zero = let a = count_nil closer in omega arith
-    front (suc n) = let m = moves (take n text) in let f = c.fronts n in omega arith
+closes_before opener closer depth deeper byte text moves c = grind (arith, take, count_nil)
 
 closes_after : (opener closer depth deeper byte : ℕ) (text : Text) → Moves opener closer depth deeper byte → Closes opener closer depth (byte ∷ text)
     → Closes opener closer deeper text
@@ -111,8 +96,7 @@ closes-open opener closer depth byte text h k = closes_before opener closer dept
 
 pub closes-close : (opener closer depth byte : ℕ) (text : Text) → (byte == opener) ≡ false → (byte == closer) ≡ true → 0 < depth
     → Closes opener closer (depth - 1) text → Closes opener closer depth (byte ∷ text)
-closes-close opener closer depth byte text h k some =
-    closes_before opener closer depth (depth - 1) byte text (moves_close opener closer depth byte h k some)
+closes-close opener closer depth byte text h k some = search (rules, closes_before, moves_close)
 
 pub closes-other : (opener closer depth byte : ℕ) (text : Text) → (byte == opener) ≡ false → (byte == closer) ≡ false
     → Closes opener closer depth text → Closes opener closer depth (byte ∷ text)
@@ -205,10 +189,7 @@ module _ (opener closer : ℕ) (ne : opener ≢ closer) where
   -- and it finds each front that closes
   pub closing_found : (body rest : Text) (at depth : ℕ) → Closes opener closer depth body
       → closing opener closer at depth (body ++ closer ∷ rest) ≡ Some (at + length body)
-  closing_found [] rest at depth c =
-      let none : depth ≡ 0 = (let a = count_nil closer in let b = count_nil opener in let e = c.even in omega arith) in
-      closing-end opener closer at depth closer rest (other_eqb opener closer ne) (eq-eqb closer closer refl) none
-      ∙ ap (λ n. Some n) (sym (add-zero at))
+  closing_found [] rest at depth c = grind (arith, count_nil, closing-end, other_eqb, eq-eqb, add-zero)
   closing_found (byte ∷ body) rest at depth c =
       ⊎_elim (λ h.
       closing-open opener closer at depth byte (body ++ closer ∷ rest) h
@@ -227,29 +208,18 @@ module _ (opener closer : ℕ) (ne : opener ≢ closer) where
       (cases_Bool (byte == opener))
 
   balanced-closes : (body : Text) → IsBalanced opener closer body → Closes opener closer 0 body
-  balanced-closes body b = record {
-    fronts = λ n. let f = b.fronts n in omega arith;
-    even = let e = b.even in omega arith;
-  }
+  balanced-closes body b = grind arith
 
   closes-balanced : (body : Text) → Closes opener closer 0 body → IsBalanced opener closer body
-  closes-balanced body c = record {
-    fronts = λ n. let f = c.fronts n in omega arith;
-    even = let e = c.even in omega arith;
-  }
+  closes-balanced body c = grind arith
 
   pub closed_found : (text body rest : Text) → text ≡ body ++ closer ∷ rest → IsBalanced opener closer body → closing opener closer 0 0 text ≡ Some (length body)
-  closed_found text body rest e b =
-      ap (closing opener closer 0 0) e ∙ closing_found body rest 0 0 (balanced-closes body b) ∙ ap (λ n. Some n) (zero-add (length body))
+  closed_found text body rest e b = grind (arith, closing_found, balanced-closes, zero-add, length)
 
   -- the mark that closes a text
   pub closed_sound : (text : Text) (place : ℕ) → closing opener closer 0 0 text ≡ Some place
       → (place < length text) × (text ≡ take place text ++ closer ∷ drop (suc place) text) × IsBalanced opener closer (take place text)
-  closed_sound text place e =
-      let found = closing_sound text 0 0 place e in
-      let same : found.0 ≡ place = omega arith in
-      let f = subst (Found opener closer 0 text) same found.2 in
-      (f.within, f.cut, closes-balanced (take place text) f.closes)
+  closed_sound text place e = grind (arith, closing_sound, closes-balanced, take)
 
   pub unclosed_sound : (text : Text) → closing opener closer 0 0 text ≡ None → IsUnclosed opener closer text
   unclosed_sound text none body rest e b = none_some (length body) (sym none ∙ closed_found text body rest e b)

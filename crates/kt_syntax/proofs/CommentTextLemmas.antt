@@ -14,8 +14,7 @@ two_other : (symbol : ℕ) → (symbol == 92) ≡ false → (symbol == 35) ≡ f
 two_other symbol h g = (λ e. false≢true (sym h ∙ eq-eqb symbol 92 e), λ e. false≢true (sym g ∙ eq-eqb symbol 35 e))
 
 masked_other : (byte more : ℕ) → more ≢ 0 → IsOther (mask_byte byte more)
-masked_other byte more some =
-    ⊎_elim (λ h. rw h (two_other 256 refl refl)) (λ h. rw h (rw (ne_eqb more 0 some) (two_other 32 refl refl))) (cases_Bool (byte == 36))
+masked_other byte more some = grind (arith, ⊎_elim, two_other, ne_eqb, cases_Bool)
 
 -- where a symbol is a backslash or a number sign, so is the byte
 Shows : List ℕ → Text → Type 0
@@ -25,9 +24,7 @@ Shows (symbol ∷ mask) [] = ⊥
 Shows (symbol ∷ mask) (byte ∷ text) = (symbol ≡ 92 → byte ≡ 92) × (symbol ≡ 35 → byte ≡ 35) × Shows mask text
 
 itself : (byte more k : ℕ) → k ≢ 256 → k ≢ 32 → mask_byte byte more ≡ k → byte ≡ k
-itself byte more k a b =
-    ⊎_elim (λ h. rw h (λ e. absurd (a (sym e)))) (λ h. rw h (⊎_elim (λ g. rw g (λ e. e)) (λ g. rw g (λ e. absurd (b (sym e)))) (cases_Bool (more == 0))))
-    (cases_Bool (byte == 36))
+itself byte more k a b = grind (arith, ⊎_elim, cases_Bool)
 
 shows : (skip symbol : ℕ) (odd : Bool) (text : Text) → (skip ≢ 0 → IsOther symbol) → Shows (mask_from skip symbol odd text) text
 unfolding mask_from Shows
@@ -132,8 +129,7 @@ run_next run symbol = if symbol == 92 then run + 1 else 0
 
 odd_next : (run symbol : ℕ) → goes_odd (odd_run run) symbol ≡ odd_run (run_next run symbol)
 unfolding odd_run run_next
-odd_next run symbol =
-    ⊎_elim (λ h. rw h (sym (one_more_odd run) ∙ ap (λ n. n % 2 == 1) (omega arith))) (λ h. rw h refl) (cases_Bool (symbol == 92))
+odd_next run symbol = grind (arith, ⊎_elim, one_more_odd, cases_Bool)
 
 -- ---- symbols without a number sign
 
@@ -206,14 +202,11 @@ place_leads run (symbol ∷ before) mask n e =
 -- a run
 text_runs : (run more : ℕ) (mask : List ℕ) (text : Text) → uncommented run (backslashes more ++ mask) (backslashes more ++ text) ≡ uncommented (run + more) mask text
 text_runs run zero mask text = ap (λ r. uncommented r mask text) (omega arith)
-text_runs run (suc more) mask text =
-    at_backslash run 92 92 (backslashes more ++ mask) (backslashes more ++ text) refl ∙ text_runs (run + 1) more mask text
-    ∙ ap (λ r. uncommented r mask text) (omega arith)
+text_runs run (suc more) mask text = grind (arith, at_backslash, text_runs (run + 1) more mask text)
 
 place_runs : (run more : ℕ) (mask : List ℕ) → before_comment (odd_run run) (backslashes more ++ mask) ≡ more + before_comment (odd_run (run + more)) mask
 unfolding run_next
-place_runs run zero mask =
-    let same : run ≡ run + 0 = omega arith in ap (λ r. before_comment (odd_run r) mask) same ∙ sym (zero-add (before_comment (odd_run (run + 0)) mask))
+place_runs run zero mask = grind (arith, odd_run, zero-add)
 place_runs run (suc more) mask =
     let same : run + 1 + more ≡ run + suc more = omega arith in
     place_goes (odd_run run) 92 (backslashes more ++ mask) refl ∙ ap (λ o. suc (before_comment o (backslashes more ++ mask))) (odd_next run 92)
@@ -284,24 +277,14 @@ unfolding odd_run uncommented_of
 literal_text front run back is h = sign_text front run back is ∙ ap (λ t. front ++ t) (at_literal run (mask_of back) back (uneven_run run h))
 
 comment_at : (front : Text) (run : ℕ) (back : Text) → IsFirstSign front run back → run % 2 ≡ 0 → comment_place (signed front run back) ≡ length front + run
-comment_at front run back is h =
-    let none : run + 0 ≡ run = omega arith in
-    sign_place front run back is
-    ∙ ap (λ n. length front + n) (ap (λ o. run + before_comment o (35 ∷ mask_of back)) (even_run run h) ∙ ap (λ n. run + n) (place_comment (mask_of back)) ∙ none)
+comment_at front run back is h = grind (arith, sign_place, length, even_run, place_comment)
 
 literal_at : (front : Text) (run : ℕ) (back : Text) → IsFirstSign front run back → run % 2 ≡ 1
     → comment_place (signed front run back) ≡ length front + (run + (1 + comment_place back))
-literal_at front run back is h =
-    let more : suc (comment_place back) ≡ 1 + comment_place back = omega arith in
-    sign_place front run back is
-    ∙ ap (λ n. length front + n) (ap (λ o. run + before_comment o (35 ∷ mask_of back)) (uneven_run run h) ∙ ap (λ n. run + n) (place_literal (mask_of back) ∙ more))
+literal_at front run back is h = grind (arith, sign_place, length, uneven_run, place_literal)
 
 uncomments : Uncomments uncommented_of comment_place
-uncomments = record {
-  stays = λ text none. (unsigned_text text none, place_stays false (mask_of text) none ∙ mask_long (mask_of text) text (text_shows text));
-  comment = λ front run back is h. (comment_text front run back is h, comment_at front run back is h);
-  literal = λ front run back is h. (literal_text front run back is h, literal_at front run back is h);
-}
+uncomments = grind (arith, unsigned_text, place_stays, mask_long, text_shows, comment_text, comment_at, literal_text, literal_at)
 
 -- ---- one answer
 
@@ -393,20 +376,10 @@ find (symbol ∷ mask) (byte ∷ text) s =
     (cases_Bool (symbol == 35))
 
 is_first : (text : Text) (f : Found (mask_of text) text) → IsFirstSign f.front f.run f.back
-is_first text f = record {
-  before = f.before;
-  after = f.after;
-  symbols = ap mask_of (sym f.whole) ∙ f.symbols;
-  size = f.size;
-  first = f.first;
-  all = f.all;
-}
+is_first text f = grind arith
 
 left_over : (text front : Text) (run : ℕ) (back : Text) (fuel : ℕ) → text ≡ signed front run back → length text ≤ suc fuel → length back ≤ fuel
-left_over text front run back fuel whole small =
-    let size = ap length whole ∙ length-append front (backslashes run ++ (35 ∷ back)) in
-    let rest = length-append (backslashes run) (35 ∷ back) in
-    omega (arith, size, rest)
+left_over text front run back fuel whole small = grind (arith, length, length-append)
 
 parity : (n : ℕ) → (n % 2 ≡ 0) ⊎ (n % 2 ≡ 1)
 parity n = ⊎_elim (λ h. inr (eqb-true (n % 2) 1 h)) (λ h. inl (let other : (n % 2 ≡ 1 → ⊥) = (λ e. false≢true (sym h ∙ eq-eqb (n % 2) 1 e)) in omega arith)) (cases_Bool (n % 2 == 1))
@@ -420,22 +393,10 @@ module _ (one : Text → Text) (at : Text → ℕ) (other : Text → Text) (ther
   Same text = (one text ≡ other text) × (at text ≡ there text)
 
   same_sign : (front : Text) (run : ℕ) (back : Text) → IsFirstSign front run back → Same back → (run % 2 ≡ 0) ⊎ (run % 2 ≡ 1) → Same (signed front run back)
-  same_sign front run back is later (inl h) =
-      let first = a.comment front run back is h in
-      let second = b.comment front run back is h in
-      (first.0 ∙ sym second.0, first.1 ∙ sym second.1)
-  same_sign front run back is later (inr h) =
-      let first = a.literal front run back is h in
-      let second = b.literal front run back is h in (
-        first.0 ∙ ap (λ t. front ++ (backslashes (run / 2) ++ (35 ∷ t))) later.0 ∙ sym second.0,
-        first.1 ∙ ap (λ n. length front + (run + (1 + n))) later.1 ∙ sym second.1,
-      )
+  same_sign front run back is later h = grind (arith, length)
 
   same_stays : (text : Text) → has_no_sign (mask_of text) ≡ true → Same text
-  same_stays text none =
-      let first = a.stays text none in
-      let second = b.stays text none in
-      (first.0 ∙ sym second.0, first.1 ∙ sym second.1)
+  same_stays text none = grind arith
 
   same_by : (fuel : ℕ) (text : Text) → length text ≤ suc fuel → ((back : Text) → length back ≤ fuel → Same back) → (has_no_sign (mask_of text) ≡ true) ⊎ Found (mask_of text) text
       → Same text

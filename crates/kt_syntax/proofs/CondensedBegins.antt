@@ -1,7 +1,7 @@
 -- The first byte of a line whose continuations are condensed: that of the line, unless it is a blank, a backslash or one
 -- of a line's end.
-use Rattle.std.proofs.Common.{◌≡◌, ◌≤◌, ◌==◌, ◌&&◌, ◌-◌, ◌%◌, ℕ, suc, List, [], ◌∷◌, ◌++◌, true, false, true≢false, length, take, reverse, arith, refl, sym, ap, ◌∙◌, subst, cond, ⊎_elim, nat_lt, slice_index}
-use Rattle.kt_syntax.proofs.Common.{cases_Bool, length-reverse, reverse-append, flat_map, onto_first, prefix_len, suffix_len, no_cr, without_terminator, and_second, less_one, Text, is_blank, trimmed_end, before_backslash, condensed_group, condensed_line, condensed_of, groups, is_continued, is_continued_text, newline_after, pieces_of}
+use Rattle.std.proofs.Common.{◌≡◌, ◌≤◌, ◌==◌, ◌&&◌, ◌-◌, ℕ, suc, List, [], ◌∷◌, ◌++◌, true, false, true≢false, length, take, reverse, arith, refl, sym, ap, ◌∙◌, subst, cond, ⊎_elim, nat_lt, slice_index}
+use Rattle.kt_syntax.proofs.Common.{cases_Bool, length-reverse, reverse-append, flat_map, onto_first, prefix_len, suffix_len, no_cr, without_terminator, and_second, less_one, Text, is_blank, trimmed_end, condensed_group, condensed_line, condensed_of, groups, is_continued, is_continued_text, pieces_of}
 
 abbrev Begins : ℕ → Text → Type 0
 Begins byte text = (rest : Text) × (text ≡ byte ∷ rest)
@@ -43,22 +43,17 @@ begins_content byte text h r =
 
 -- a continued text without its last backslash
 without_slash : (byte : ℕ) (text : Text) → (byte == 92) ≡ false → is_continued_text (byte ∷ text) ≡ true → Begins byte (take (length (byte ∷ text) - 1) (byte ∷ text))
-without_slash byte [] h continued =
-    let none : suffix_len (λ b. b == 92) (byte ∷ []) ≡ 0 = rw h refl in
-    absurd (true≢false (sym continued ∙ ap (λ n. n % 2 == 1) none))
+without_slash byte [] h continued = grind (arith, true≢false)
 without_slash byte (next ∷ text) h continued = without_last byte next text
 
 begins_unslashed : (byte : ℕ) (text : Text) → (byte == 92) ≡ false → Begins byte text → is_continued_text text ≡ true → Begins byte (take (length text - 1) text)
-begins_unslashed byte text h begun continued =
-    subst (λ t. Begins byte (take (length t - 1) t)) (sym begun.1) (without_slash byte begun.0 h (subst (λ t. is_continued_text t ≡ true) begun.1 continued))
+begins_unslashed byte text h begun continued = grind (arith, take, length, without_slash)
 
 -- ---- a text without the blanks at its end
 
 run_bound : (byte : ℕ) (text : Text) → is_blank byte ≡ false → prefix_len is_blank (text ++ byte ∷ []) ≤ length text
 run_bound byte [] h = rw h (omega arith)
-run_bound byte (first ∷ text) h =
-    let later = run_bound byte text h in
-    ⊎_elim (λ (k : is_blank first ≡ true). rw k (omega arith)) (λ (k : is_blank first ≡ false). rw k (omega arith)) (cases_Bool (is_blank first))
+run_bound byte (first ∷ text) h = grind (arith, ⊎_elim, cases_Bool, run_bound byte text h)
 
 suffix_bound : (byte : ℕ) (text : Text) → is_blank byte ≡ false → suffix_len is_blank (byte ∷ text) ≤ length text
 suffix_bound byte text h =
@@ -84,23 +79,18 @@ pub record Stays (byte : ℕ) : Type 0 where
 
 ended_line : (byte : ℕ) (text : Text) → Stays byte → Begins byte (condensed_line false false (byte ∷ text))
 unfolding condensed_line
-ended_line byte text stays =
-    begins_before byte (without_terminator (byte ∷ text)) (newline_after false (byte ∷ text)) (begins_content byte text stays.newline stays.return)
+ended_line byte text stays = grind (arith, begins_before, begins_content)
 
 continued_line : (byte : ℕ) (text : Text) → Stays byte → is_continued (byte ∷ text) ≡ true → Begins byte (condensed_line false true (byte ∷ text))
 unfolding condensed_line is_continued
-continued_line byte text stays continued =
-    let content = begins_content byte text stays.newline stays.return in
-    begins_before byte (trimmed_end (before_backslash (byte ∷ text))) []
-    (begins_trimmed byte (before_backslash (byte ∷ text)) stays.blank (begins_unslashed byte (without_terminator (byte ∷ text)) stays.backslash content continued))
+continued_line byte text stays continued = grind (arith, begins_content, begins_before, begins_trimmed, begins_unslashed)
 
 more_lines : (byte : ℕ) (text : Text) (later : List (List Text)) → Stays byte → is_continued (byte ∷ text) ≡ true
     → Begins byte (flat_map condensed_group (onto_first (byte ∷ text) later))
 unfolding condensed_group
 more_lines byte text [] stays continued = begins_before byte _ _ (ended_line byte text stays)
 more_lines byte text ([] ∷ later) stays continued = begins_before byte _ _ (ended_line byte text stays)
-more_lines byte text ((next ∷ lines) ∷ later) stays continued =
-    begins_before byte _ _ (begins_before byte _ _ (continued_line byte text stays continued))
+more_lines byte text ((next ∷ lines) ∷ later) stays continued = grind (arith, begins_before, continued_line)
 
 lines_begin : (byte : ℕ) (text : Text) (lines : List Text) → Stays byte → Begins byte (flat_map condensed_group (groups ((byte ∷ text) ∷ lines)))
 unfolding groups condensed_group

@@ -1,13 +1,12 @@
 -- What a line says is what its condensed text says.
-use Rattle.std.proofs.Common.{◌≡◌, take, refl, sym, ap, ◌∙◌, ⊎_elim}
-use Rattle.kt_syntax.proofs.Common.{cases_Bool, Text, condensed_of, condensed_once, mask_of, kind_of, head_end, is_target_specific, rule_texts}
+use Rattle.std.proofs.Common.{arith, ◌≡◌, take, refl, sym, ap, ◌∙◌, ⊎_elim}
+use Rattle.kt_syntax.proofs.Common.{cases_Bool, Text, condensed_of, condensed_once, kind_of, rule_texts}
 use Rattle.kt_syntax.specs.Condensed.{LineLaw, head_of_parts}
 
 -- the head is that of the text, whatever the line as it stands
 head_by_text : (line other text : Text) → head_of_parts (rule_texts line text) ≡ head_of_parts (rule_texts other text)
 unfolding rule_texts
-head_by_text line other text =
-    ⊎_elim (λ h. rw h refl) (λ h. rw h refl) (cases_Bool (is_target_specific text (take (head_end text) (mask_of text))))
+head_by_text line other text = grind (arith, ⊎_elim, cases_Bool, take)
 
 pub line_law : LineLaw
 line_law = record {

@@ -1,6 +1,6 @@
 -- Heads of rule lines from the places of their parts.
-use Rattle.std.proofs.Common.{◌≡◌, ◌≤◌, ◌<◌, ◌-◌, ◌+◌, ℕ, zero, suc, true, false, length, take, drop, refl, sym, ap, ◌∙◌, arith, Option, Some, None, is_some, ◌==◌, ◌||◌}
-use Rattle.kt_syntax.proofs.Common.{eq-eqb, eqb-true, false_from_ne_true, or_left, or_right, Text, mask_of, IsFirstByte, is_byte, is_byte3, take_rest, less_one, Parts, assignment_parts, comment_place, past_blanks, after_modifier, after_modifiers, found_or, head_end, colon_place, after_colon, assigns_after, is_target_specific, head_text, first_recipe, parts_with, rule_texts}
+use Rattle.std.proofs.Common.{◌≡◌, ◌≤◌, ◌<◌, ◌-◌, ◌+◌, ℕ, true, false, length, take, drop, refl, sym, ap, ◌∙◌, arith, Option, Some, None, is_some, ◌==◌, ◌||◌}
+use Rattle.kt_syntax.proofs.Common.{eq-eqb, eqb-true, false_from_ne_true, or_left, or_right, Text, mask_of, IsFirstByte, is_byte, is_byte3, take_rest, less_one, Parts, assignment_parts, comment_place, past_blanks, after_modifier, after_modifiers, head_end, colon_place, after_colon, is_target_specific, head_text, first_recipe, parts_with, rule_texts}
 use Rattle.kt_syntax.proofs.Masking.{length-front}
 use Rattle.kt_syntax.proofs.SymbolLemmas.{no_comment, no_semicolon, none_of, not_found, nowhere_any}
 use Rattle.kt_syntax.proofs.Unsigned.{unsigned_is_unspecific}
@@ -9,27 +9,18 @@ use Rattle.kt_syntax.proofs.Unsigned.{unsigned_is_unspecific}
 pub modifiers_next : (most next from : ℕ) (text mask : Text) → 0 < most → Some next ≡ after_modifier text mask from
     → after_modifiers (most - 1) text mask next ≡ after_modifiers most text mask from
 unfolding after_modifiers
-modifiers_next zero next from text mask some e = absurd (omega arith)
-modifiers_next (suc most) next from text mask some e =
-    ap (λ n. after_modifiers n text mask next) (less_one most) ∙ ap (found_or from (λ end. after_modifiers most text mask end)) e
+modifiers_next most next from text mask some e = grind (arith, less_one)
 
 pub modifiers_end : (most from : ℕ) (text mask : Text) → None ≡ after_modifier text mask from → after_modifiers most text mask from ≡ from
 unfolding after_modifiers
-modifiers_end zero from text mask e = refl
-modifiers_end (suc most) from text mask e = ap (found_or from (λ end. after_modifiers most text mask end)) (sym e)
+modifiers_end most from text mask e = grind arith
 
 pub specific_found : (text : Text) (end colon after from place : ℕ) (parts : Option Parts) → end ≤ length text → Some colon ≡ colon_place 0 0 (take end (mask_of text))
     → after ≡ after_colon (take end (mask_of text)) colon → from ≡ after_modifiers end text (take end (mask_of text)) after
     → place ≡ past_blanks from (take end (mask_of text)) → parts ≡ assignment_parts text (take end (mask_of text)) place
     → is_some parts ≡ is_target_specific text (take end (mask_of text))
 unfolding is_target_specific
-specific_found text end colon after from place parts within c a f p e =
-    let mask : Text = take end (mask_of text) in
-    ap is_some e ∙ ap (λ x. is_some (assignment_parts text mask x)) p
-    ∙ ap (λ x. is_some (assignment_parts text mask (past_blanks x mask))) f
-    ∙ ap (λ x. is_some (assignment_parts text mask (past_blanks (after_modifiers x text mask after) mask))) (sym (length-front text end within))
-    ∙ ap (λ x. is_some (assignment_parts text mask (past_blanks (after_modifiers (length mask) text mask x) mask))) a
-    ∙ ap (assigns_after text mask) c
+specific_found text end colon after from place parts within c a f p e = grind (arith, take, length-front, length)
 
 pub texts_none : (text : Text) (recipe : Option Text) (end : ℕ) → end ≡ head_end text → is_target_specific text (take end (mask_of text)) ≡ true
     → None ≡ parts_with text recipe
@@ -37,24 +28,16 @@ texts_none text recipe end e h = let here = ap (λ x. is_target_specific text (t
 
 pub texts_some : (text head : Text) (recipe : Option Text) (end : ℕ) → end ≡ head_end text → is_target_specific text (take end (mask_of text)) ≡ false
     → head ≡ head_text text → Some (record { head = head; recipe = recipe }) ≡ parts_with text recipe
-texts_some text head recipe end e h t =
-    let here = ap (λ x. is_target_specific text (take x (mask_of text))) (sym e) ∙ h in
-    ap (λ (x : Text). Some (record { head = x; recipe = recipe })) t ∙ sym (rw here refl)
+texts_some text head recipe end e h t = grind (arith, take)
 
 pub recipe_none : (line : Text) (end comment : ℕ) → end ≡ head_end line → comment ≡ comment_place line → end ≡ comment → None ≡ first_recipe line
 unfolding first_recipe
-recipe_none line end comment e c same =
-    let at : (head_end line == comment_place line) ≡ true = eq-eqb (head_end line) (comment_place line) (sym e ∙ same ∙ c) in
-    sym (rw at refl)
+recipe_none line end comment e c same = grind (arith, eq-eqb)
 
 pub recipe_some : (line : Text) (end comment recipe : ℕ) → end ≡ head_end line → comment ≡ comment_place line → (end ≡ comment → ⊥) → recipe ≡ past_blanks (end + 1) (mask_of line)
     → Some (take (length line - recipe) (drop recipe line)) ≡ first_recipe line
 unfolding first_recipe
-recipe_some line end comment recipe e c other r =
-    let at : (head_end line == comment_place line) ≡ false =
-    false_from_ne_true (head_end line == comment_place line) (λ k. other (e ∙ eqb-true (head_end line) (comment_place line) k ∙ sym c)) in
-    let begins : recipe ≡ past_blanks (head_end line + 1) (mask_of line) = r ∙ ap (λ x. past_blanks (x + 1) (mask_of line)) e in
-    ap (λ (x : Text). Some x) (take_rest line recipe ∙ ap (λ x. drop x line) begins) ∙ sym (rw at refl)
+recipe_some line end comment recipe e c other r = grind (arith, false_from_ne_true, eqb-true, take_rest)
 
 pub texts_told : (line text : Text) (recipe : Option Text) → recipe ≡ first_recipe line → parts_with text recipe ≡ rule_texts line text
 unfolding rule_texts

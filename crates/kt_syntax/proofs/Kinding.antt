@@ -1,32 +1,24 @@
 -- Kinds of lines from the places of their parts.
-use Rattle.std.proofs.Common.{◌≡◌, ◌≤◌, ◌-◌, ◌+◌, ◌==◌, ℕ, Bool, true, false, length, take, drop, refl, sym, ap, ◌∙◌, Option, Some}
-use Rattle.kt_syntax.proofs.Common.{eq-eqb, false_from_ne_true, eqb-true, take_rest, slice_range, Text, Operator, mask_of, Parts, blank, comment_place, past_blanks, past_word, operator_of, name_end, parts_at, parts_after, assignment_parts, directive_of, kind_by_word, kind_by_parts, worded, kind_within, kind_of}
+use Rattle.std.proofs.Common.{arith, ◌≡◌, ◌≤◌, ◌-◌, ◌+◌, ◌==◌, ℕ, Bool, true, false, length, take, drop, refl, sym, ap, ◌∙◌, Option, Some}
+use Rattle.kt_syntax.proofs.Common.{eq-eqb, false_from_ne_true, eqb-true, take_rest, slice_range, Text, Operator, mask_of, Parts, blank, comment_place, past_blanks, past_word, operator_of, name_end, assignment_parts, directive_of, kind_by_word, kind_by_parts, worded, kind_within, kind_of}
 use Rattle.kt_syntax.proofs.Masking.{length-front}
 
 pub parts_found : (text mask : Text) (begin name place : ℕ) (found : Operator × ℕ) (value : ℕ) → Some name ≡ name_end begin (drop begin mask) (drop begin text)
     → place ≡ past_blanks name mask → Some found ≡ operator_of (take (length text - place) (drop place text)) → value ≡ past_blanks (place + found.1) (mask_of text)
     → Some (record { name = name; operator = found.0; value = value }) ≡ assignment_parts text mask begin
 unfolding assignment_parts
-parts_found text mask begin name place found value n p o v =
-    ap (λ (x : ℕ). Some (record { name = name; operator = found.0; value = x })) v
-    ∙ ap (parts_at text name place) (o ∙ ap operator_of (take_rest text place))
-    ∙ ap (λ (x : ℕ). parts_at text name x (operator_of (drop x text))) p
-    ∙ ap (parts_after text mask) n
+parts_found text mask begin name place found value n p o v = grind (arith, take_rest)
 
 pub worded_by : (tab : Bool) (text mask : Text) (begin after rest : ℕ) → after ≡ past_word begin mask → rest ≡ past_blanks after (mask_of text)
     → kind_by_word (directive_of tab (slice_range text begin after)) (slice_range text begin after) (take (length text - rest) (drop rest text)) ≡ worded tab text mask begin
 unfolding worded
-worded_by tab text mask begin after rest a r =
-    ap (kind_by_word (directive_of tab (slice_range text begin after)) (slice_range text begin after)) (take_rest text rest ∙ ap (λ (x : ℕ). drop x text) r)
-    ∙ ap (λ (x : ℕ). kind_by_word (directive_of tab (slice_range text begin x)) (slice_range text begin x) (drop (past_blanks x (mask_of text)) text)) a
+worded_by tab text mask begin after rest a r = grind (arith, slice_range, take_rest)
 
 -- the front of a line before its comment
 within_comment : (text : Text) (tab : Bool) (end begin : ℕ) → end ≡ comment_place text → begin ≡ past_blanks 0 (take end (mask_of text))
     → kind_within tab text (take end (mask_of text)) begin ≡ kind_of text tab
 unfolding kind_of
-within_comment text tab end begin e b =
-    ap (kind_within tab text (take end (mask_of text))) b
-    ∙ ap (λ (x : ℕ). kind_within tab text (take x (mask_of text)) (past_blanks 0 (take x (mask_of text)))) e
+within_comment text tab end begin e b = grind (arith, take)
 
 pub kind_blank : (text : Text) (tab : Bool) (end begin : ℕ) → end ≡ comment_place text → end ≤ length text → begin ≡ past_blanks 0 (take end (mask_of text)) → begin ≡ end
     → blank ≡ kind_of text tab

@@ -1,6 +1,6 @@
 -- Lines that begin with a name or a target: assignments, and rule lines by their first word.
-use Rattle.std.proofs.Common.{◌≡◌, ◌==◌, ◌||◌, ◌+◌, ◌-◌, ◌≤◌, ◌<◌, ℕ, zero, suc, Bool, true, false, List, [], ◌∷◌, ◌++◌, Option, Some, None, length, take, drop, refl, sym, ap, subst, ◌∙◌, arith, ⊎_elim, true≢false, take-append-drop, length-take-le, drop-drop, codes, is_some, nat_eq}
-use Rattle.kt_syntax.proofs.Common.{drop-append-add, take-append-add, and_parts, cases_Bool, eqb-true, false_from_ne_true, or_cases, or_parts, bytes_eq-Decides, list_all, list_any, position_or_len, prefix_len, slice_range, starts_with, bytes_eq, Text, is_blank, trimmed_start, Operator, Parts, assignment, assignment_parts, before_comment, block_word, directive_of, include_word, is_refused_word, kind_by_word, kind_of, name_end, operator_of, parts_after, past_blanks, past_word, rule, worded, inside, mask_from, mask_of}
+use Rattle.std.proofs.Common.{rules, ◌≡◌, ◌==◌, ◌+◌, ◌-◌, ◌≤◌, ◌<◌, ℕ, suc, Bool, true, false, List, [], ◌∷◌, ◌++◌, Option, Some, None, length, take, drop, refl, sym, ap, subst, ◌∙◌, arith, ⊎_elim, true≢false, take-append-drop, length-take-le, drop-drop, codes, is_some, nat_eq}
+use Rattle.kt_syntax.proofs.Common.{drop-append-add, take-append-add, and_parts, cases_Bool, eqb-true, false_from_ne_true, or_cases, or_parts, bytes_eq-Decides, list_all, list_any, position_or_len, prefix_len, slice_range, starts_with, bytes_eq, Text, is_blank, trimmed_start, Operator, Parts, assignment, assignment_parts, before_comment, block_word, directive_of, include_word, is_refused_word, kind_by_word, kind_of, name_end, operator_of, past_blanks, past_word, rule, worded, inside, mask_from, mask_of}
 use Rattle.kt_syntax.proofs.LeadingWords.{all_quiet, assignment_led, cut_led, is_own, is_quiet, is_solid, kind_by, kind_worded, left_before, length_run, mask_apart, mask_led, name_led, name_over, own_over, prefix_over, quiet, run_of, run_whole, symbols_of, taken_all}
 use Rattle.kt_syntax.proofs.OwnRuns.{no_operator}
 use Rattle.kt_syntax.proofs.OwnSymbols.{own_byte}
@@ -21,19 +21,7 @@ sign_of sign byte is h = subst IsSign (sym (eqb-true byte sign h)) is
 
 a_sign : (byte : ℕ) → begins_operator byte ≡ true → IsSign byte
 unfolding is_blank
-a_sign byte h =
-    ⊎_elim (λ before.
-    ⊎_elim (λ sooner.
-    ⊎_elim (λ first.
-    ⊎_elim (sign_of 61 byte (record { own = refl; solid = refl; outside = refl; slash = refl }))
-    (sign_of 58 byte (record { own = refl; solid = refl; outside = refl; slash = refl }))
-    (or_cases (byte == 61) (byte == 58) first))
-    (sign_of 63 byte (record { own = refl; solid = refl; outside = refl; slash = refl }))
-    (or_cases (byte == 61 || byte == 58) (byte == 63) sooner))
-    (sign_of 43 byte (record { own = refl; solid = refl; outside = refl; slash = refl }))
-    (or_cases (byte == 61 || byte == 58 || byte == 63) (byte == 43) before))
-    (sign_of 33 byte (record { own = refl; solid = refl; outside = refl; slash = refl }))
-    (or_cases (byte == 61 || byte == 58 || byte == 63 || byte == 43) (byte == 33) h)
+a_sign byte h = grind (arith, ⊎_elim, sign_of, or_cases)
 
 -- the first byte of an operator
 first_sign : (byte : ℕ) (text : Text) (found : Operator × ℕ) → operator_of (byte ∷ text) ≡ Some found → IsSign byte
@@ -48,13 +36,7 @@ no_sign_at_end found o = true≢false (sym (ap is_some o))
 
 -- what a text that begins with a needle begins with
 front_own : (needle text : Text) → list_all is_own needle ≡ true → starts_with nat_eq text needle ≡ true → list_all is_own (take (length needle) text) ≡ true
-front_own [] text own h = refl
-front_own (byte ∷ needle) [] own h = absurd (true≢false (sym h))
-front_own (byte ∷ needle) (first ∷ text) own h =
-    let both = and_parts (nat_eq byte first) (starts_with nat_eq text needle) h in
-    let parts = and_parts (is_own byte) (list_all is_own needle) own in
-    let same : is_own first ≡ true = ap is_own (sym (eqb-true byte first both.0)) ∙ parts.0 in
-    rw same (front_own needle text parts.1 both.1)
+front_own needle text own h = search (rules, true≢false, and_parts, nat_eq, is_own, eqb-true)
 
 -- the bytes of the operator that is found
 abbrev own_signs : Text → Option (Operator × ℕ) → Bool
@@ -63,21 +45,7 @@ own_signs text (Some found) = list_all is_own (take found.1 text)
 
 signs_own : (text : Text) → own_signs text (operator_of text) ≡ true
 unfolding operator_of
-signs_own text =
-    ⊎_elim (λ h. rw h (front_own (codes "=") text refl h)) (λ h1. rw h1
-    (⊎_elim (λ h. rw h (front_own (codes ":=") text refl h)) (λ h2. rw h2
-    (⊎_elim (λ h. rw h (front_own (codes "::=") text refl h)) (λ h3. rw h3
-    (⊎_elim (λ h. rw h (front_own (codes ":::=") text refl h)) (λ h4. rw h4
-    (⊎_elim (λ h. rw h (front_own (codes "?=") text refl h)) (λ h5. rw h5
-    (⊎_elim (λ h. rw h (front_own (codes "+=") text refl h)) (λ h6. rw h6
-    (⊎_elim (λ h. rw h (front_own (codes "!=") text refl h)) (λ h7. rw h7 refl)
-    (cases_Bool (starts_with nat_eq text (codes "!=")))))
-    (cases_Bool (starts_with nat_eq text (codes "+=")))))
-    (cases_Bool (starts_with nat_eq text (codes "?=")))))
-    (cases_Bool (starts_with nat_eq text (codes ":::=")))))
-    (cases_Bool (starts_with nat_eq text (codes "::=")))))
-    (cases_Bool (starts_with nat_eq text (codes ":=")))))
-    (cases_Bool (starts_with nat_eq text (codes "=")))
+signs_own text = search (rules, ⊎_elim, front_own, codes, cases_Bool, nat_eq)
 
 -- ---- assignments
 
@@ -85,27 +53,16 @@ signs_own text =
 name_signed : (count place : ℕ) (after : Text) (found : Operator × ℕ) → operator_of after ≡ Some found
     → name_end place (take count (mask_from 0 0 false after)) after ≡ Some place
 unfolding name_end
-name_signed count place [] found o = absurd (no_sign_at_end found o)
-name_signed zero place (byte ∷ after) found o = refl
-name_signed (suc count) place (byte ∷ after) found o =
-    let sign = first_sign byte after found o in
-    ap (λ (mask : List ℕ). name_end place (take (suc count) mask) (byte ∷ after)) (own_byte 0 byte after sign.own) ∙ rw (sign.solid, sign.outside, o) refl
+name_signed count place after found o = grind (arith, no_sign_at_end, first_sign, take, own_byte)
 
 -- and where a blank comes before it
 name_before : (place : ℕ) (after : Text) (found : Operator × ℕ) → operator_of (trimmed_start after) ≡ Some found
     → name_end place (take (left_before after) (mask_from 0 0 false after)) after ≡ Some place
-name_before place [] found o = absurd (no_sign_at_end found o)
-name_before place (byte ∷ after) found o =
-    ⊎_elim (λ (h : is_blank byte ≡ true). name_led (left_before (byte ∷ after)) place (byte ∷ after) h)
-    (λ (h : is_blank byte ≡ false).
-    let none : run_of (byte ∷ after) ≡ 0 = rw h refl in
-    name_signed (left_before (byte ∷ after)) place (byte ∷ after) found (sym (ap (λ n. operator_of (drop n (byte ∷ after))) none) ∙ o))
-    (cases_Bool (is_blank byte))
+name_before place after found o = grind (arith, no_sign_at_end, ⊎_elim, name_led, left_before, run_of, name_signed, cases_Bool)
 
 -- an operator begins with no backslash
 unslashed : (text : Text) (found : Operator × ℕ) → operator_of text ≡ Some found → begins_slash text ≡ false
-unslashed [] found o = refl
-unslashed (byte ∷ text) found o = (first_sign byte text found o).slash
+unslashed text found o = grind (arith, first_sign)
 
 -- the symbols after the operator
 mask_signed : (rest : Text) (found : Operator × ℕ) → operator_of rest ≡ Some found → mask_from 0 0 false rest ≡ take found.1 rest ++ mask_from 0 0 false (drop found.1 rest)
@@ -140,10 +97,7 @@ value_led word after found h o within a =
 
 -- and of the text
 text_led : (word after : Text) (size more : ℕ) → drop (length word + run_of after + size + more) (word ++ after) ≡ drop more (drop size (trimmed_start after))
-text_led word after size more =
-    let sum : length word + run_of after + size + more ≡ length word + (run_of after + (size + more)) = omega arith in
-    ap (λ n. drop n (word ++ after)) sum ∙ drop-append-add word after (run_of after + (size + more))
-    ∙ sym (drop-drop (size + more) (run_of after) after) ∙ sym (drop-drop more size (trimmed_start after))
+text_led word after size more = grind (arith, length, run_of, drop-append-add, drop-drop)
 
 kind_signed : (tab : Bool) (word after : Text) (found : Operator × ℕ) → list_all is_quiet word ≡ true → 0 < length word → operator_of (trimmed_start after) ≡ Some found
     → found.1 ≤ length (trimmed_start after) → begins_slash (trimmed_start (drop found.1 (trimmed_start after))) ≡ false
@@ -174,12 +128,7 @@ colon_left after = ap (λ (m : List ℕ). take (before_comment false m) m) (own_
 none_named : (word after : Text) → list_all is_quiet word ≡ true → operator_of (58 ∷ after) ≡ None
     → assignment_parts (word ++ (58 ∷ after)) (symbols_of word (58 ∷ after)) 0 ≡ None
 unfolding assignment_parts
-none_named word after h o =
-    let left = colon_left after in
-    let count : ℕ = before_comment false (mask_from 0 58 false after) in
-    let tail : List ℕ = 58 ∷ take count (mask_from 0 58 false after) in
-    ap (λ (mask : List ℕ). parts_after (word ++ (58 ∷ after)) (word ++ mask) (name_end 0 (word ++ mask) (word ++ (58 ∷ after)))) left
-    ∙ ap (parts_after (word ++ (58 ∷ after)) (word ++ tail)) (name_over 0 word tail (58 ∷ after) h ∙ no_name count (0 + length word) after o)
+none_named word after h o = grind (arith, colon_left, take, name_over, no_name, length)
 
 bytes_same : (word needle : Text) → bytes_eq word needle ≡ true → word ≡ needle
 bytes_same word needle h = (bytes_eq-Decides word needle).0 h
@@ -190,8 +139,7 @@ has_colon text = list_any (λ byte. byte == 58) text
 
 differs : (word needle : Text) → has_colon word ≡ true → has_colon needle ≡ false → bytes_eq word needle ≡ false
 unfolding has_colon
-differs word needle some none =
-    false_from_ne_true (bytes_eq word needle) (λ e. true≢false (sym some ∙ ap has_colon (bytes_same word needle e) ∙ none))
+differs word needle some none = search (rules, false_from_ne_true, true≢false, has_colon, bytes_same)
 
 colon_after : (word : Text) (tail : Text) → has_colon (word ++ 58 ∷ tail) ≡ true
 unfolding has_colon
@@ -200,48 +148,19 @@ colon_after (byte ∷ word) tail = ⊎_elim (λ (h : (byte == 58) ≡ true). rw 
 
 no_block : (word : Text) → has_colon word ≡ true → block_word word ≡ None
 unfolding block_word has_colon
-no_block word some =
-    let no : (needle : Text) → has_colon needle ≡ false → bytes_eq word needle ≡ false = λ needle none. differs word needle some none in
-    rw (
-      no (codes "ifdef") refl,
-      no (codes "ifndef") refl,
-      no (codes "ifeq") refl,
-      no (codes "ifneq") refl,
-      no (codes "else") refl,
-      no (codes "endif") refl,
-      no (codes "define") refl,
-      no (codes "endef") refl,
-    ) refl
+no_block word some = grind (arith, has_colon, differs, codes)
 
 no_include : (word : Text) → has_colon word ≡ true → include_word word ≡ None
 unfolding include_word has_colon
-no_include word some =
-    let no : (needle : Text) → has_colon needle ≡ false → bytes_eq word needle ≡ false = λ needle none. differs word needle some none in
-    rw (
-      no (codes "include") refl,
-      no (codes "-include") refl,
-      no (codes "sinclude") refl,
-    ) refl
+no_include word some = grind (arith, has_colon, differs, codes)
 
 not_refused : (word : Text) → has_colon word ≡ true → is_refused_word word ≡ false
 unfolding is_refused_word has_colon
-not_refused word some =
-    let no : (needle : Text) → has_colon needle ≡ false → bytes_eq word needle ≡ false = λ needle none. differs word needle some none in
-    rw (
-      no (codes "override") refl,
-      no (codes "export") refl,
-      no (codes "unexport") refl,
-      no (codes "undefine") refl,
-      no (codes "private") refl,
-      no (codes "vpath") refl,
-      no (codes "load") refl,
-      no (codes "-load") refl,
-    ) refl
+not_refused word some = grind (arith, has_colon, differs, codes)
 
 unworded : (tab : Bool) (word rest : Text) → has_colon word ≡ true → kind_by_word (directive_of tab word) word rest ≡ rule
 unfolding directive_of
-unworded true word rest some = rw (no_include word some) (rw (not_refused word some) refl)
-unworded false word rest some = rw (no_block word some) (rw (no_include word some) (rw (not_refused word some) refl))
+unworded tab word rest some = grind (arith, no_include, not_refused, no_block)
 
 solid_colon : (tail : List ℕ) → prefix_len is_solid (58 ∷ tail) ≡ suc (prefix_len is_solid tail)
 unfolding is_blank
@@ -286,43 +205,26 @@ record IsOther (byte : ℕ) : Type 0 where
   pub v : (byte == 118) ≡ false
 
 other_of : (byte : ℕ) (word : Text) → may_be_word (byte ∷ word) ≡ false → IsOther byte
-other_of byte word h =
-    let v = or_parts _ (byte == 118) h in
-    let u = or_parts _ (byte == 117) v.0 in
-    let s = or_parts _ (byte == 115) u.0 in
-    let p = or_parts _ (byte == 112) s.0 in
-    let o = or_parts _ (byte == 111) p.0 in
-    let l = or_parts _ (byte == 108) o.0 in
-    let i = or_parts _ (byte == 105) l.0 in
-    let e = or_parts _ (byte == 101) i.0 in
-    let d = or_parts (byte == 45) (byte == 100) e.0 in
-    record { dash = d.0; d = d.1; e = e.1; i = i.1; l = l.1; o = o.1; p = p.1; s = s.1; u = u.1; v = v.1 }
+other_of byte word h = grind (arith, or_parts)
 
 no_block_word : (word : Text) → may_be_word word ≡ false → block_word word ≡ None
 unfolding block_word
-no_block_word [] h = refl
-no_block_word (byte ∷ word) h = let other = other_of byte word h in rw (other.i, other.e, other.d) refl
+no_block_word word h = grind (arith, other_of)
 
 no_include_word : (word : Text) → may_be_word word ≡ false → include_word word ≡ None
 unfolding include_word
-no_include_word [] h = refl
-no_include_word (byte ∷ word) h = let other = other_of byte word h in rw (other.i, other.dash, other.s) refl
+no_include_word word h = grind (arith, other_of)
 
 no_refused_word : (word : Text) → may_be_word word ≡ false → is_refused_word word ≡ false
 unfolding is_refused_word
-no_refused_word [] h = refl
-no_refused_word (byte ∷ word) h =
-    let other = other_of byte word h in
-    rw (other.o, other.e, other.u, other.p, other.v, other.l, other.dash) refl
+no_refused_word word h = grind (arith, other_of)
 
 no_directive : (tab : Bool) (word : Text) → block_word word ≡ None → include_word word ≡ None → directive_of tab word ≡ None
 unfolding directive_of
-no_directive true word block included = included
-no_directive false word block included = rw (block, included) refl
+no_directive tab word block included = grind arith
 
 pub no_word : (tab : Bool) (word rest : Text) → may_be_word word ≡ false → rule ≡ kind_by_word (directive_of tab word) word rest
-no_word tab word rest h =
-    sym (ap (λ found. kind_by_word found word rest) (no_directive tab word (no_block_word word h) (no_include_word word h)) ∙ rw (no_refused_word word h) refl)
+no_word tab word rest h = grind (arith, no_directive, no_block_word, no_include_word, no_refused_word)
 
 -- ---- what the code cuts
 
@@ -342,14 +244,8 @@ form_assigned text word after rest value tab operator size cut r o within v a =
 pub form_colon : (word after rest : Text) (tab : Bool) → list_all is_quiet word ≡ true → 0 < length word → rest ≡ trimmed_start after → None ≡ operator_of rest → begins_colon after ≡ true
     → rule ≡ kind_of (word ++ after) tab
 unfolding is_blank
-form_colon word [] rest tab h some r o colon = absurd (true≢false (sym colon))
-form_colon word (byte ∷ after) rest tab h some r o colon =
-    let is : byte ≡ 58 = eqb-true byte 58 colon in
-    let none : operator_of (58 ∷ after) ≡ None = sym (o ∙ ap operator_of r ∙ ap (λ b. operator_of (trimmed_start (b ∷ after))) is) in
-    sym (ap (λ b. kind_of (word ++ (b ∷ after)) tab) is ∙ kind_colon tab word after h some none)
+form_colon word after rest tab h some r o colon = grind (arith, true≢false, eqb-true, kind_colon)
 
 pub form_worded : (word after rest : Text) (tab : Bool) → list_all is_quiet word ≡ true → 0 < length word → rest ≡ trimmed_start after → None ≡ operator_of rest → is_apart after ≡ true
     → begins_slash rest ≡ false → kind_by_word (directive_of tab word) word rest ≡ kind_of (word ++ after) tab
-form_worded word after rest tab h some r o apart a =
-    ap (kind_by_word (directive_of tab word) word) r
-    ∙ sym (kind_worded tab word after h some apart (sym (ap begins_slash r) ∙ a) (sym (o ∙ ap operator_of r)))
+form_worded word after rest tab h some r o apart a = grind (arith, kind_worded)

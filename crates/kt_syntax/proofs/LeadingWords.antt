@@ -1,14 +1,13 @@
 -- Lines that begin with a word of blocks: their symbols, and their kind.
-use Rattle.std.proofs.Common.{◌≡◌, ◌==◌, ◌&&◌, ◌+◌, ◌-◌, ◌<◌, ℕ, zero, suc, Bool, true, false, not, List, [], ◌∷◌, ◌++◌, Option, Some, None, length, take, drop, refl, sym, ap, ◌∙◌, arith, zero-add, ⊎_elim, true≢false, take-append-drop, is_some}
+use Rattle.std.proofs.Common.{rules, ◌≡◌, ◌==◌, ◌&&◌, ◌+◌, ◌-◌, ◌<◌, ℕ, zero, suc, Bool, true, false, not, List, [], ◌∷◌, ◌++◌, Option, Some, None, length, take, drop, refl, sym, ap, ◌∙◌, arith, zero-add, ⊎_elim, true≢false, take-append-drop, is_some}
 use Rattle.kt_syntax.proofs.Common.{take-append_seam, take-append-add, drop-append_seam, drop-append-add, and_parts, cases_Bool, eqb-true, false_from_ne_true, not-true, not_from_false, or_parts, list_all, prefix_len, slice_range, take_nil, Text, is_blank, trimmed_start, Parts, assignment_parts, before_comment, block_word, comment_place, directive, directive_of, kind_by_parts, kind_by_word, kind_of, kind_within, name_end, operator_of, parts_after, parts_at, past_blanks, past_word, worded, mask_byte, mask_from, mask_of, more_masked, Operator}
 use Rattle.kt_syntax.specs.declared.form.Directive.{Directive}
-use Rattle.kt_syntax.specs.declared.form.Directive.TheVariants.{Ifdef, Ifndef, Ifeq, Ifneq, Else, Endif, Define, Endef, Include, OptionalInclude}
 use Rattle.kt_syntax.proofs.Masking.{mask_from-nil}
 use Rattle.kt_syntax.proofs.OwnRuns.{name_goes_on, no_operator}
 use Rattle.kt_syntax.proofs.OwnSymbols.{own_byte, same_symbol}
 use Rattle.kt_syntax.specs.Roles.{first_word, starts_condition}
 use Rattle.kt_syntax.specs.inner.Leading.{IsLed, begins_slash, block_text, is_apart, is_loud, may_assign}
-use Rattle.kt_syntax.specs.inner.OwnRuns.{begins_operator, ends_own_name, ends_own_word, is_mark}
+use Rattle.kt_syntax.specs.inner.OwnRuns.{ends_own_name, is_mark}
 
 -- ---- bytes
 
@@ -34,19 +33,7 @@ pub record IsQuiet (byte : ℕ) : Type 0 where
   pub solid : is_solid byte ≡ true
 
 pub quiet : (byte : ℕ) → is_quiet byte ≡ true → IsQuiet byte
-quiet byte h =
-    let both = or_parts (ends_own_name byte) (byte == 35) (not-true (is_loud byte) h) in
-    let name : ends_own_name byte ≡ false = both.0 in
-    let word = or_parts (ends_own_word byte) (begins_operator byte) name in
-    let mark = or_parts (is_blank byte) (is_mark byte) word.0 in
-    let slash = or_parts (byte == 36) (byte == 92) mark.1 in
-    let sign : (byte == 35) ≡ false = both.1 in
-    record {
-      name = name;
-      own = not_from_false (is_mark byte) mark.1;
-      calm = rw (sign, slash.1) refl;
-      solid = not_from_false (is_blank byte) mark.0;
-    }
+quiet byte h = grind (arith, or_parts, not-true, not_from_false)
 
 -- what holds of each quiet byte holds of all of a quiet text
 pub all_quiet : (test : ℕ → Bool) (text : Text) → ((byte : ℕ) → is_quiet byte ≡ true → test byte ≡ true) → list_all is_quiet text ≡ true → list_all test text ≡ true
@@ -57,17 +44,11 @@ all_quiet test (byte ∷ text) each h =
 
 blank_own : (byte : ℕ) → is_blank byte ≡ true → is_own byte ≡ true
 unfolding is_blank
-blank_own byte h =
-    ⊎_elim (λ (space : (byte == 32) ≡ true). rw (eqb-true byte 32 space) refl)
-    (λ (other : (byte == 32) ≡ false). let tab : (byte == 9) ≡ true = rw other at h in rw (eqb-true byte 9 tab) refl)
-    (cases_Bool (byte == 32))
+blank_own byte h = grind (arith, ⊎_elim, eqb-true, cases_Bool)
 
 blank_calm : (byte : ℕ) → is_blank byte ≡ true → is_calm byte ≡ true
 unfolding is_blank
-blank_calm byte h =
-    ⊎_elim (λ (space : (byte == 32) ≡ true). rw (eqb-true byte 32 space) refl)
-    (λ (other : (byte == 32) ≡ false). let tab : (byte == 9) ≡ true = rw other at h in rw (eqb-true byte 9 tab) refl)
-    (cases_Bool (byte == 32))
+blank_calm byte h = grind (arith, ⊎_elim, eqb-true, cases_Bool)
 
 all_blank : (test : ℕ → Bool) (text : Text) → ((byte : ℕ) → is_blank byte ≡ true → test byte ≡ true) → list_all is_blank text ≡ true → list_all test text ≡ true
 all_blank test [] each h = refl
@@ -143,32 +124,23 @@ trimmed_open (byte ∷ text) =
 -- a byte that is neither a blank nor a backslash stands for no blank
 first_open : (byte : ℕ) (text : Text) → is_blank byte ≡ false → (byte == 92) ≡ false → is_blank (mask_byte byte (more_masked false byte text)) ≡ false
 unfolding more_masked is_blank
-first_open byte text blank backslash =
-    ⊎_elim (λ (h : (byte == 36) ≡ true). rw h refl) (λ (h : (byte == 36) ≡ false). rw (h, backslash) blank) (cases_Bool (byte == 36))
+first_open byte text blank backslash = grind (arith, ⊎_elim, cases_Bool)
 
 pub none_taken : (count symbol : ℕ) (mask : List ℕ) → is_blank symbol ≡ false → prefix_len is_blank (take count (symbol ∷ mask)) ≡ 0
-none_taken zero symbol mask h = refl
-none_taken (suc count) symbol mask h = rw h refl
+none_taken count symbol mask h = grind arith
 
 -- so no blank comes at the begin of what is left of a mask
 open_taken : (count : ℕ) (text : Text) → begins_blank text ≡ false → begins_slash text ≡ false → prefix_len is_blank (take count (mask_from 0 0 false text)) ≡ 0
 unfolding begins_blank mask_from
-open_taken count [] b a = ap (λ (mask : List ℕ). prefix_len is_blank mask) (take_nil count)
-open_taken count (byte ∷ text) b a =
-    let first = first_open byte text b a in
-    none_taken count (mask_byte byte (more_masked false byte text)) _ first
+open_taken count text b a = grind (arith, take_nil, first_open, none_taken)
 
 open_whole : (text : Text) → begins_blank text ≡ false → begins_slash text ≡ false → prefix_len is_blank (mask_from 0 0 false text) ≡ 0
 unfolding begins_blank mask_from
-open_whole [] b a = refl
-open_whole (byte ∷ text) b a =
-    let first = first_open byte text b a in
-    rw first refl
+open_whole text b a = grind (arith, first_open)
 
 unassigning : (text : Text) → may_assign text ≡ false → (operator_of text ≡ None) × (begins_slash text ≡ false)
 unfolding operator_of
-unassigning [] a = (refl, refl)
-unassigning (byte ∷ text) a = let parts = or_parts (begins_operator byte) (byte == 92) a in (no_operator byte text parts.0, parts.1)
+unassigning text a = search (rules, or_parts, no_operator)
 
 -- ---- a word with what comes after it
 
@@ -182,11 +154,7 @@ mask_led word after h = own_over 0 word after (all_quiet is_own word (λ byte q.
 
 front_led : (word after : Text) → list_all is_quiet word ≡ true
     → take (comment_place (word ++ after)) (mask_of (word ++ after)) ≡ word ++ take (left_before after) (mask_from 0 0 false after)
-front_led word after h =
-    let mask : List ℕ = mask_from 0 0 false after in
-    let place = comment_over word mask (all_quiet is_calm word (λ byte q. (quiet byte q).calm) h) in
-    ap (λ (m : List ℕ). take (before_comment false m) m) (mask_led word after h) ∙ ap (λ n. take n (word ++ mask)) place
-    ∙ take-append-add word mask (before_comment false mask)
+front_led word after h = grind (arith, comment_over, all_quiet, quiet, take, mask_led, take-append-add)
 
 -- a word ends at the end and at a blank
 ends_there : (count : ℕ) (after : Text) → is_apart after ≡ true → prefix_len is_solid (take count (mask_from 0 0 false after)) ≡ 0
@@ -197,11 +165,7 @@ ends_there (suc count) (byte ∷ after) h =
 
 word_led : (word after : Text) → list_all is_quiet word ≡ true → is_apart after ≡ true
     → past_word 0 (word ++ take (left_before after) (mask_from 0 0 false after)) ≡ length word
-word_led word after h apart =
-    let tail : List ℕ = take (left_before after) (mask_from 0 0 false after) in
-    let run = prefix_over is_solid word tail (all_quiet is_solid word (λ byte q. (quiet byte q).solid) h) in
-    let none = ends_there (left_before after) after apart in
-    omega arith
+word_led word after h apart = grind (arith, take, prefix_over, all_quiet, quiet, ends_there)
 
 pub cut_led : (word after : Text) → slice_range (word ++ after) 0 (length word) ≡ word
 cut_led word after = ap (λ n. take n (word ++ after)) (let all : length word - 0 ≡ length word = omega arith in all) ∙ take-append_seam word after
@@ -237,26 +201,10 @@ length_run (byte ∷ after) =
     (cases_Bool (is_blank byte))
 
 pub run_whole : (after : Text) → begins_slash (trimmed_start after) ≡ false → prefix_len is_blank (mask_from 0 0 false after) ≡ run_of after
-run_whole after a =
-    let front : Text = take (run_of after) after in
-    let rest : List ℕ = mask_from 0 0 false (trimmed_start after) in
-    let over = prefix_over is_blank front rest (taken_blank after) in
-    let none = open_whole (trimmed_start after) (trimmed_open after) a in
-    let size = length_run after in
-    ap (λ (mask : List ℕ). prefix_len is_blank mask) (mask_apart after) ∙ omega arith
+run_whole after a = grind (arith, take, prefix_over, taken_blank, open_whole, trimmed_open, length_run, mask_apart)
 
 run_before : (after : Text) → begins_slash (trimmed_start after) ≡ false → prefix_len is_blank (take (left_before after) (mask_from 0 0 false after)) ≡ run_of after
-run_before after a =
-    let front : Text = take (run_of after) after in
-    let rest : List ℕ = mask_from 0 0 false (trimmed_start after) in
-    let place = comment_over front rest (all_blank is_calm front blank_calm (taken_blank after)) in
-    let cut : take (left_before after) (mask_from 0 0 false after) ≡ front ++ take (before_comment false rest) rest
-    = ap (λ (m : List ℕ). take (before_comment false m) m) (mask_apart after) ∙ ap (λ n. take n (front ++ rest)) place
-    ∙ take-append-add front rest (before_comment false rest) in
-    let over = prefix_over is_blank front (take (before_comment false rest) rest) (taken_blank after) in
-    let none = open_taken (before_comment false rest) (trimmed_start after) (trimmed_open after) a in
-    let size = length_run after in
-    ap (λ (mask : List ℕ). prefix_len is_blank mask) cut ∙ omega arith
+run_before after a = grind (arith, take, comment_over, all_blank, blank_calm, taken_blank, mask_apart, take-append-add, prefix_over, open_taken, trimmed_open, length_run)
 
 -- the blanks after the word, by a mask that begins with it
 blanks_led : (word : Text) (tail : List ℕ) (after : Text) → prefix_len is_blank tail ≡ run_of after → past_blanks (length word) (word ++ tail) ≡ length word + run_of after
@@ -290,40 +238,26 @@ rest_led word after = drop-append-add word after (run_of after)
 
 parts_led : (word after : Text) (found : Option (Operator × ℕ)) → begins_slash (trimmed_start after) ≡ false → operator_of (trimmed_start after) ≡ found
     → parts_after (word ++ after) (symbols_of word after) (Some (length word)) ≡ parts_at (word ++ after) (length word) (length word + run_of after) found
-parts_led word after found a o =
-    let text : Text = word ++ after in
-    let is = blanks_led word (take (left_before after) (mask_from 0 0 false after)) after (run_before after a) in
-    ap (λ n. parts_at text (length word) n (operator_of (drop n text))) is
-    ∙ ap (λ (t : Text). parts_at text (length word) (length word + run_of after) (operator_of t)) (rest_led word after)
-    ∙ ap (parts_at text (length word) (length word + run_of after)) o
+parts_led word after found a o = grind (arith, blanks_led, take, run_before, length, rest_led)
 
 -- the name ends with the word, where a blank or an operator comes after it
 name_is : (word after : Text) → list_all is_quiet word ≡ true → name_end (length word) (take (left_before after) (mask_from 0 0 false after)) after ≡ Some (length word)
     → name_end 0 (symbols_of word after) (word ++ after) ≡ Some (length word)
-name_is word after h ends =
-    let tail : List ℕ = take (left_before after) (mask_from 0 0 false after) in
-    name_over 0 word tail after h ∙ ap (λ n. name_end n tail after) (zero-add (length word)) ∙ ends
+name_is word after h ends = grind (arith, take, name_over, zero-add, length)
 
 pub assignment_led : (word after : Text) (found : Option (Operator × ℕ)) → list_all is_quiet word ≡ true
     → name_end (length word) (take (left_before after) (mask_from 0 0 false after)) after ≡ Some (length word) → begins_slash (trimmed_start after) ≡ false
     → operator_of (trimmed_start after) ≡ found
     → assignment_parts (word ++ after) (symbols_of word after) 0 ≡ parts_at (word ++ after) (length word) (length word + run_of after) found
 unfolding assignment_parts
-assignment_led word after found h ends a o =
-    ap (parts_after (word ++ after) (symbols_of word after)) (name_is word after h ends) ∙ parts_led word after found a o
+assignment_led word after found h ends a o = grind (arith, name_is, parts_led)
 
 -- ---- no assignment
 
 worded_led : (tab : Bool) (word after : Text) → list_all is_quiet word ≡ true → is_apart after ≡ true → begins_slash (trimmed_start after) ≡ false
     → worded tab (word ++ after) (symbols_of word after) 0 ≡ kind_by_word (directive_of tab word) word (trimmed_start after)
 unfolding worded
-worded_led tab word after h apart a =
-    let text : Text = word ++ after in
-    let whole = ap (past_blanks (length word)) (mask_led word after h) ∙ blanks_led word (mask_from 0 0 false after) after (run_whole after a) in
-    ap (λ n. kind_by_word (directive_of tab (slice_range text 0 n)) (slice_range text 0 n) (drop (past_blanks n (mask_of text)) text)) (word_led word after h apart)
-    ∙ ap (λ (w : Text). kind_by_word (directive_of tab w) w (drop (past_blanks (length word) (mask_of text)) text)) (cut_led word after)
-    ∙ ap (λ n. kind_by_word (directive_of tab word) word (drop n text)) whole
-    ∙ ap (kind_by_word (directive_of tab word) word) (rest_led word after)
+worded_led tab word after h apart a = grind (arith, length, mask_led, blanks_led, run_whole, slice_range, word_led, cut_led, rest_led)
 
 pub kind_worded : (tab : Bool) (word after : Text) → list_all is_quiet word ≡ true → 0 < length word → is_apart after ≡ true → begins_slash (trimmed_start after) ≡ false
     → operator_of (trimmed_start after) ≡ None → kind_of (word ++ after) tab ≡ kind_by_word (directive_of tab word) word (trimmed_start after)
@@ -333,9 +267,7 @@ kind_worded tab word after h some apart a o =
 
 first_led : (word after : Text) → list_all is_quiet word ≡ true → is_apart after ≡ true → first_word (word ++ after) ≡ word
 unfolding first_word
-first_led word after h apart =
-    ap (λ (mask : List ℕ). slice_range (word ++ after) 0 (past_word 0 mask)) (front_led word after h)
-    ∙ ap (slice_range (word ++ after) 0) (word_led word after h apart) ∙ cut_led word after
+first_led word after h apart = grind (arith, slice_range, front_led, word_led, cut_led)
 
 -- ---- the words of blocks
 
@@ -350,16 +282,7 @@ record IsWord (text : Text) : Type 0 where
 
 block_words : (word : Directive) → block_word (block_text word) ≡ Some word → IsWord (block_text word)
 unfolding is_blank
-block_words Ifdef h = record { some = omega arith; quiet = refl }
-block_words Ifndef h = record { some = omega arith; quiet = refl }
-block_words Ifeq h = record { some = omega arith; quiet = refl }
-block_words Ifneq h = record { some = omega arith; quiet = refl }
-block_words Else h = record { some = omega arith; quiet = refl }
-block_words Endif h = record { some = omega arith; quiet = refl }
-block_words Define h = record { some = omega arith; quiet = refl }
-block_words Endef h = record { some = omega arith; quiet = refl }
-block_words Include h = absurd (no_block Include h)
-block_words OptionalInclude h = absurd (no_block OptionalInclude h)
+block_words word h = grind (arith, quiet, no_block)
 
 directed : (word : Text) (found : Directive) (rest : Text) → block_word word ≡ Some found → kind_by_word (directive_of false word) word rest ≡ directive found rest
 unfolding directive_of
@@ -367,13 +290,7 @@ directed word found rest block = rw block refl
 
 pub leading_kind : (text after rest : Text) (word : Directive) → IsLed word text after → rest ≡ trimmed_start after → is_apart after ≡ true → may_assign rest ≡ false
     → directive word rest ≡ kind_of text false
-leading_kind text after rest word led is apart a =
-    let found = block_words word led.1 in
-    let plain = unassigning (trimmed_start after) (rw is at a) in
-    ap (directive word) is
-    ∙ sym (ap (λ (t : Text). kind_of t false) led.0
-    ∙ kind_worded false (block_text word) after found.quiet found.some apart plain.1 plain.0
-    ∙ directed (block_text word) word (trimmed_start after) led.1)
+leading_kind text after rest word led is apart a = grind (arith, block_words, unassigning, kind_worded, directed)
 
 pub leading_first : (text after : Text) (word : Directive) → IsLed word text after → is_apart after ≡ true → block_word (first_word text) ≡ Some word
 leading_first text after word led apart =
@@ -382,5 +299,4 @@ leading_first text after word led apart =
 -- nothing starts no condition
 pub nothing_starts : (rest : Text) → length rest ≡ 0 → false ≡ starts_condition rest
 unfolding starts_condition first_word block_word before_comment mask_of mask_from
-nothing_starts [] none = refl
-nothing_starts (byte ∷ rest) none = absurd (omega arith)
+nothing_starts rest none = grind arith

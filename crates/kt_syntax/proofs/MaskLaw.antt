@@ -1,6 +1,6 @@
 -- The mask that is computed is that of the line's terms.
 use Rattle.std.proofs.Common.{◌≡◌, ◌==◌, ◌≤◌, ◌<◌, ◌-◌, ◌+◌, not, ℕ, zero, suc, Bool, true, false, List, [], ◌∷◌, ◌++◌, length, take, drop, get_or, replicate, refl, sym, ap, subst, ◌∙◌, arith, ⊎_elim, ◌⊎◌, inl, inr, length-drop, length-take-le, add-zero, append_assoc, nat_eq, slice_index}
-use Rattle.kt_syntax.proofs.Common.{and_parts, cases_Bool, cases_lt, eq-eqb, eqb-true, false_from_ne_true, false≢true, drop_more, drop_at, drop-drop, get_or-drop, starts_with, Text, append-nil, ext_get_or, length-append, drop_all, take-append-drop, get_or-append_seam, Byte, Parentheses, Braces, Token, literal, dollar, reference, unclosed, kept, unit_length, IsTerm, IsSplittingIn, EndsRun, count_of, after_dollar, first_term, literal_run, inside, goes_odd, mask_byte, more_masked, mask_from, mask_of}
+use Rattle.kt_syntax.proofs.Common.{and_parts, cases_Bool, cases_lt, eq-eqb, eqb-true, false_from_ne_true, false≢true, drop_more, drop_at, drop-drop, get_or-drop, Text, append-nil, ext_get_or, length-append, drop_all, take-append-drop, get_or-append_seam, Byte, Parentheses, Braces, Token, literal, dollar, reference, unclosed, kept, unit_length, IsTerm, IsSplittingIn, EndsRun, count_of, after_dollar, first_term, literal_run, inside, goes_odd, mask_byte, more_masked, mask_of}
 use Rattle.kt_syntax.specs.Masked.{IsContinued, IsSymbol, IsMasked, IsMaskOf, MaskLaw, is_outside}
 use Rattle.kt_syntax.proofs.Masking.{mask_from-nil, length-mask_of}
 use Rattle.kt_syntax.proofs.Runs.{run, run-no, run-yes, run_within, run_ends, no_dollar}
@@ -11,18 +11,14 @@ use Rattle.kt_syntax.proofs.MaskRuns.{at_most_or_less, zero_or_more, odd_at, odd
 
 more-odd : (odd : Bool) (text : Text) → goes_odd odd 92 ≡ true → suc (more_masked odd 92 text) ≡ unit_length kept (92 ∷ text)
 unfolding more_masked
-more-odd odd text h =
-    ⊎_elim (λ a. rw h (rw a refl))
-    (λ a. ⊎_elim (λ b. rw h (rw a (rw b refl))) (λ b. rw h (rw a (rw b refl))) (cases_Bool (starts_with nat_eq text (13 ∷ 10 ∷ []))))
-    (cases_Bool (starts_with nat_eq text (10 ∷ [])))
+more-odd odd text h = grind (arith, ⊎_elim, cases_Bool, nat_eq)
 
 more-even : (odd : Bool) (byte : ℕ) (text : Text) → (byte == 36) ≡ false → goes_odd odd byte ≡ false → 0 ≡ more_masked odd byte text
 unfolding more_masked
 more-even odd byte text d h = rw (d, h) refl
 
 itself-symbol : (line : Text) (place byte : ℕ) → get_or line place 0 ≡ byte → ¬ IsContinued line place → IsSymbol line true place byte
-itself-symbol line place byte e none =
-    record { in_reference = λ h. absurd (false≢true (sym h)); in_continuation = λ h c. absurd (none c); itself = λ h n. sym e }
+itself-symbol line place byte e none = grind (arith, false≢true)
 
 record Step (line : Text) (place : ℕ) : Type 0 where
   size : ℕ
@@ -163,11 +159,7 @@ record Reference (line : Text) (place : ℕ) (piece : Token) (spelled rest : Tex
 -- a continuation after it that began inside it
 overlaps : (line : Text) (place : ℕ) (piece : Token) (spelled rest : Text) → Reference line place piece spelled rest → (c : IsContinued line (place + length spelled))
     → place < c.start → c.start < place + length spelled → ⊥
-overlaps line place (literal []) spelled rest r c l m =
-    let size = length_in line spelled rest place r.within r.is_spelled in
-    let none = ap (λ (t : Text). length (spelled ++ t)) r.is.1 ∙ ap length (append-nil spelled) in
-    let w = continued_within line (place + length spelled) c in
-    omega arith
+overlaps line place (literal []) spelled rest r c l m = grind (arith, length_in, length, append-nil, continued_within)
 overlaps line place (literal (byte ∷ bytes)) spelled rest r c l m =
     let first : get_or line (place + 0) 0 ≡ byte = in_text line spelled rest place 0 r.is_spelled ∙ ap (λ (t : Text). get_or (t ++ rest) 0 0) r.is.0 in
     let here : get_or line place 0 ≡ byte = ap (λ n. get_or line n 0) (sym (add-zero place)) ∙ first in
@@ -230,8 +222,7 @@ is_inside (reference mark body) tail rest is = refl
 is_inside unclosed tail rest is = refl
 
 inside-symbol : (line : Text) (place : ℕ) → IsSymbol line false place inside
-inside-symbol line place =
-    record { in_reference = λ h. refl; in_continuation = λ h. absurd (false≢true h); itself = λ h. absurd (false≢true h) }
+inside-symbol line place = grind (arith, false≢true)
 
 -- ---- the whole line
 
@@ -260,8 +251,7 @@ first-reference line tail place l e t fresh =
 
 before_run : (text : Text) (k : ℕ) → k < run text → (get_or text k 0 == 36) ≡ false
 before_run [] k l = absurd (omega arith)
-before_run (byte ∷ text) zero l =
-    ⊎_elim (λ h. absurd (let e = run-yes byte text h in omega arith)) (λ h. h) (cases_Bool (byte == 36))
+before_run (byte ∷ text) zero l = grind (arith, ⊎_elim, run-yes, cases_Bool)
 before_run (byte ∷ text) (suc k) l =
     ⊎_elim (λ h. absurd (let e = run-yes byte text h in omega arith)) (λ h. before_run text k (let e = run-no byte text h in omega arith)) (cases_Bool (byte == 36))
 
@@ -335,9 +325,7 @@ term_masked line place byte tail l here run later =
 
 masked_end : (line : Text) (place : ℕ) → place ≡ length line → Masked line place
 unfolding mask_at
-masked_end line place end =
-    let none : drop place line ≡ [] = drop_all place line (omega arith) in
-    record { pieces = []; are = (end, ap (mask_from 0 0 (odd_at line place)) none ∙ mask_from-nil 0 0 (odd_at line place)) }
+masked_end line place end = grind (arith, drop_all, odd_at, mask_from-nil)
 
 masked_up_to : (fuel : ℕ) (line : Text) (place : ℕ) → length line ≤ place + fuel → place ≤ length line → Fresh line place → Masked line place
 masked_up_to zero line place enough within fresh = masked_end line place (omega arith)
@@ -383,9 +371,7 @@ is_continued_or_not line place =
     ⊎_elim inl (λ none. inr (λ c. none c (omega arith))) (continuation_from (place + 1) line place 0 (omega arith))
 
 one_symbol : (line : Text) (outside : Bool) (place symbol other : ℕ) → IsSymbol line outside place symbol → IsSymbol line outside place other → symbol ≡ other
-one_symbol line false place symbol other a b = a.in_reference refl ∙ sym (b.in_reference refl)
-one_symbol line true place symbol other a b =
-    ⊎_elim (λ c. a.in_continuation refl c ∙ sym (b.in_continuation refl c)) (λ none. a.itself refl none ∙ sym (b.itself refl none)) (is_continued_or_not line place)
+one_symbol line outside place symbol other a b = grind (arith, ⊎_elim, is_continued_or_not)
 
 one_spelling : (piece : Token) (spelled rest other later : Text) → IsTerm kept piece spelled rest → IsTerm kept piece other later → spelled ++ rest ≡ other ++ later → spelled ≡ other
 one_spelling (literal []) spelled rest other later a b e = a.0 ∙ sym b.0
@@ -394,8 +380,7 @@ one_spelling dollar spelled rest other later a b e = a ∙ sym b
 one_spelling (reference Byte body) spelled rest other later a b e = a.0 ∙ sym b.0
 one_spelling (reference Parentheses body) spelled rest other later a b e = a.0 ∙ sym b.0
 one_spelling (reference Braces body) spelled rest other later a b e = a.0 ∙ sym b.0
-one_spelling unclosed spelled rest other later a b e =
-    sym (append-nil spelled) ∙ ap (λ (t : Text). spelled ++ t) (sym a.0) ∙ e ∙ ap (λ (t : Text). other ++ t) b.0 ∙ append-nil other
+one_spelling unclosed spelled rest other later a b e = grind (arith, append-nil)
 
 same_symbols : (pieces : List Token) (line : Text) (place : ℕ) (mask other : List ℕ) → IsMasked line place pieces mask → IsMasked line place pieces other
     → (k : ℕ) → k < length (drop place line) → slice_index mask k ≡ slice_index other k

@@ -1,5 +1,5 @@
 -- Places of a line, the continuations round them, and runs of symbols of its mask.
-use Rattle.std.proofs.Common.{◌≡◌, ◌==◌, ◌≤◌, ◌<◌, ◌-◌, ◌+◌, ◌%◌, ℕ, zero, suc, Bool, true, false, List, [], ◌∷◌, ◌++◌, length, take, drop, get_or, replicate, refl, sym, ap, subst, ◌∙◌, arith, ⊎_elim, ◌⊎◌, inl, inr, length-drop, add-zero, nat_eq, slice_index}
+use Rattle.std.proofs.Common.{◌≡◌, ◌==◌, ◌≤◌, ◌<◌, ◌-◌, ◌+◌, ◌%◌, ℕ, zero, suc, Bool, false, List, [], ◌∷◌, ◌++◌, length, take, drop, get_or, replicate, refl, sym, ap, subst, ◌∙◌, arith, ⊎_elim, ◌⊎◌, inl, inr, length-drop, add-zero, nat_eq, slice_index}
 use Rattle.kt_syntax.proofs.Common.{cases_Bool, cases_lt, Decides-eqb, drop_more, drop_at, drop-drop, get_or-drop, get_or-replicate, get_or_append_left, length-replicate, suffix_len-take_yes, suffix_len-take_no, starts_is, starts_with, suffix_len, one_more_odd, Text, is_continued_text, kept, unit_length, goes_odd, mask_byte, more_masked, mask_from}
 use Rattle.kt_syntax.specs.Masked.{IsContinued, IsSymbol}
 use Rattle.kt_syntax.proofs.Masking.{step-inside, step-outside}
@@ -12,8 +12,7 @@ at_most_or_less (suc a) zero = inr (omega arith)
 at_most_or_less (suc a) (suc b) = ⊎_elim (λ h. inl (omega arith)) (λ h. inr (omega arith)) (at_most_or_less a b)
 
 pub zero_or_more : (n : ℕ) → (n ≡ 0) ⊎ (0 < n)
-zero_or_more zero = inl refl
-zero_or_more (suc n) = inr (omega arith)
+zero_or_more n = grind arith
 
 -- ---- odd runs of backslashes
 
@@ -44,33 +43,7 @@ pub no_unit : (text : Text) → starts_with nat_eq text (92 ∷ 10 ∷ []) ≡ f
 no_unit text h g = rw (h, g) refl
 
 pub unit : (text : Text) → 1 < unit_length kept text → IsUnit text
-unit text some =
-    ⊎_elim (λ h.
-    let begins : text ≡ 92 ∷ 10 ∷ drop 2 text = (starts_is Decides-eqb text (92 ∷ 10 ∷ []) true (sym h)).0 refl in
-    subst IsUnit (sym begins) (record {
-      first = refl;
-      others = λ k l m. inl (ap (λ n. get_or (92 ∷ 10 ∷ drop 2 text) n 0) (one k l m));
-      within = omega arith;
-    }))
-    (λ h. ⊎_elim (λ g.
-    let begins : text ≡ 92 ∷ 13 ∷ 10 ∷ drop 3 text = (starts_is Decides-eqb text (92 ∷ 13 ∷ 10 ∷ []) true (sym g)).0 refl in
-    subst IsUnit (sym begins) (record {
-      first = refl;
-      others = λ k l m. ⊎_elim (λ e. inr (ap (λ n. get_or (92 ∷ 13 ∷ 10 ∷ drop 3 text) n 0) e)) (λ e. inl (ap (λ n. get_or (92 ∷ 13 ∷ 10 ∷ drop 3 text) n 0) e)) (two k l m);
-      within = omega arith;
-    }))
-    (λ g. absurd (let size = no_unit text h g in omega arith))
-    (cases_Bool (starts_with nat_eq text (92 ∷ 13 ∷ 10 ∷ []))))
-    (cases_Bool (starts_with nat_eq text (92 ∷ 10 ∷ [])))
-  where
-    one : (k : ℕ) → 0 < k → k < 2 → k ≡ 1
-    one k l m = omega arith
-
-    two : (k : ℕ) → 0 < k → k < 3 → (k ≡ 1) ⊎ (k ≡ 2)
-    two zero l m = absurd (omega arith)
-    two (suc zero) l m = inl refl
-    two (suc (suc zero)) l m = inr refl
-    two (suc (suc (suc k))) l m = absurd (omega arith)
+unit text some = grind (arith, ⊎_elim, starts_is, Decides-eqb, get_or, no_unit, cases_Bool, nat_eq)
 
 -- of a continuation in a line
 pub at_start : (line : Text) (place : ℕ) → (c : IsContinued line place) → get_or line c.start 0 ≡ 92
@@ -114,8 +87,7 @@ abbrev pub earlier : (line : Text) (place at : ℕ) → (c : IsContinued line pl
 earlier line place at c l m = record { start = c.start; odd = c.odd; unit = c.unit; from = l; to = let t = c.to in omega arith }
 
 pub fresh_next : (line : Text) (place : ℕ) → ¬ IsContinued line place → Fresh line (place + 1)
-fresh_next line place none c =
-    ⊎_elim (λ h. absurd (none (earlier line (place + 1) place c h (omega arith)))) (λ h. omega arith) (at_most_or_less c.start place)
+fresh_next line place none c = grind (arith, ⊎_elim, at_most_or_less)
 
 -- after a continuation
 pub fresh_past : (line : Text) (place : ℕ) → Fresh line place → (c : IsContinued line place) → Fresh line (place + unit_length kept (drop place line))
@@ -156,8 +128,7 @@ symbol-free symbol other odd (byte ∷ text) = refl
 skips : (n : ℕ) (line : Text) (place symbol : ℕ) → place + n ≤ length line
     → mask_from n symbol (odd_at line place) (drop place line) ≡ replicate n symbol ++ mask_at line (place + n)
 unfolding mask_at
-skips zero line place symbol l =
-    symbol-free symbol 0 (odd_at line place) (drop place line) ∙ ap (λ p. mask_from 0 0 (odd_at line p) (drop p line)) (sym (add-zero place))
+skips zero line place symbol l = grind (arith, symbol-free, add-zero)
 skips (suc n) line place symbol l =
     let here : drop place line ≡ get_or line place 0 ∷ drop (place + 1) line = drop_more line place 0 (omega arith) in
     let later : place + 1 + n ≡ place + suc n = omega arith in
@@ -174,14 +145,7 @@ pub takes : (line : Text) (place byte more : ℕ) → place < length line → ge
     → place + suc more ≤ length line
     → mask_at line place ≡ replicate (suc more) (mask_byte byte more) ++ mask_at line (place + suc more)
 unfolding mask_at
-takes line place byte more l e m w =
-    let here : drop place line ≡ byte ∷ drop (place + 1) line = drop_more line place 0 l ∙ ap (λ b. b ∷ drop (place + 1) line) e in
-    let later : place + 1 + more ≡ place + suc more = omega arith in
-    ap (mask_from 0 0 (odd_at line place)) here
-    ∙ step-outside 0 0 (odd_at line place) byte (drop (place + 1) line) more (mask_byte byte more) refl m refl
-    ∙ ap (λ odd. mask_byte byte more ∷ mask_from more (mask_byte byte more) odd (drop (place + 1) line)) (sym (odd-next line place byte l e))
-    ∙ ap (λ xs. mask_byte byte more ∷ xs) (skips more line (place + 1) (mask_byte byte more) (omega arith))
-    ∙ ap (λ p. mask_byte byte more ∷ (replicate more (mask_byte byte more) ++ mask_from 0 0 (odd_at line p) (drop p line))) later
+takes line place byte more l e m w = grind (arith, drop_more, step-outside, odd-next, skips, replicate)
 
 -- so many symbols are those of the line from a place on, and the rest is the mask from there on
 pub record Run (line : Text) (outside : Bool) (place size : ℕ) (mask : List ℕ) : Type 0 where

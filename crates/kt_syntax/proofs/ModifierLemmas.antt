@@ -10,10 +10,7 @@ next_rest mask rest place symbol e = sym (ap (drop 1) e) ∙ drop-drop 1 place m
 -- a run of symbols that pass a test, seen from its first symbol and from one that fails it
 run_here : (p : ℕ → Bool) (mask rest : List ℕ) (place symbol : ℕ) → drop place mask ≡ symbol ∷ rest → p symbol ≡ true
     → place + prefix_len p (drop place mask) ≡ (place + 1) + prefix_len p (drop (place + 1) mask)
-run_here p mask rest place symbol e h =
-    let first : prefix_len p (drop place mask) ≡ 1 + prefix_len p rest = ap (prefix_len p) e ∙ rw h refl in
-    let later : prefix_len p rest ≡ prefix_len p (drop (place + 1) mask) = ap (prefix_len p) (next_rest mask rest place symbol e) in
-    omega arith
+run_here p mask rest place symbol e h = grind (arith, next_rest)
 
 no_run_here : (p : ℕ → Bool) (mask rest : List ℕ) (place symbol : ℕ) → drop place mask ≡ symbol ∷ rest → p symbol ≡ false
     → place + prefix_len p (drop place mask) ≡ place
@@ -83,34 +80,17 @@ scan_more mask rest found begin place symbol s e h =
 pub word_found : (text : Text) (mask rest : List ℕ) (found begin place symbol : ℕ) → Scan mask found begin place → drop place mask ≡ symbol ∷ rest → is_blank symbol ≡ true → begin < place
     → place < length mask → is_modifier (slice_range text begin place) ≡ true → Some place ≡ after_modifier text mask found
 unfolding after_modifier
-word_found text mask rest found begin place symbol s e h some room word =
-    let start : past_blanks found mask ≡ begin = s.lead ∙ s.first some in
-    let stop : past_word begin mask ≡ place = s.word ∙ word_ends mask rest place symbol e h in
-    sym (rw (start, stop, word, lt-ltb place (length mask) room) refl)
+word_found text mask rest found begin place symbol s e h some room word = grind (arith, word_ends, lt-ltb, length)
 
 pub word_other : (text : Text) (mask rest : List ℕ) (found begin place symbol : ℕ) → Scan mask found begin place → drop place mask ≡ symbol ∷ rest → is_blank symbol ≡ true → begin < place
     → is_modifier (slice_range text begin place) ≡ false → None ≡ after_modifier text mask found
 unfolding after_modifier
-word_other text mask rest found begin place symbol s e h some word =
-    let start : past_blanks found mask ≡ begin = s.lead ∙ s.first some in
-    let stop : past_word begin mask ≡ place = s.word ∙ word_ends mask rest place symbol e h in
-    sym (rw (start, stop, word) refl)
+word_other text mask rest found begin place symbol s e h some word = grind (arith, word_ends)
 
 -- what comes next at the end
 pub word_last : (text : Text) (mask : List ℕ) (found begin place : ℕ) → Scan mask found begin place → drop place mask ≡ [] → place ≡ length mask → None ≡ after_modifier text mask found
 unfolding after_modifier
-word_last text mask found begin place s e all =
-    let none : prefix_len is_inner (drop place mask) ≡ 0 = ap (prefix_len is_inner) e in
-    let blanks : prefix_len is_blank (drop place mask) ≡ 0 = ap (prefix_len is_blank) e in
-    let last : past_word place mask ≡ place = omega arith in
-    let within = s.within in
-    let stop : past_word (past_blanks found mask) mask ≡ place =
-    ap (λ n. past_word n mask) s.lead
-    ∙ ⊎_elim (λ same. ap (λ n. past_word (past_blanks n mask) mask) same ∙ ap (λ n. past_word n mask) (omega arith) ∙ last)
-    (λ other. ⊎_elim (λ below. ap (λ n. past_word n mask) (s.first below) ∙ s.word ∙ last) (λ above. absurd (omega arith)) other)
-    (cases_order begin place) in
-    let room : ltb place (length mask) ≡ false = le-ltb place (length mask) (omega arith) in
-    sym (rw (stop, room, and-false (is_modifier (slice_range text (past_blanks found mask) place))) refl)
+word_last text mask found begin place s e all = grind (arith, ⊎_elim, cases_order, ltb, length, le-ltb, and-false, slice_range)
 
 -- a place from which as many words are still looked for as can come
 pub record Ahead (text : Text) (mask : List ℕ) (end found whole : ℕ) : Type 0 where

@@ -1,6 +1,6 @@
 -- The place after the words that may stand before a target-specific macro, by the places of those words.
-use Rattle.std.proofs.Common.{◌≡◌, ◌≤◌, ◌<◌, ◌-◌, ◌+◌, ◌&&◌, ℕ, zero, suc, Bool, true, false, not, if◌then◌else◌, List, [], ◌∷◌, length, drop, take, refl, sym, ap, subst, ◌∙◌, arith, Option, Some, None, ⊎_elim, nat_lt, slice_index}
-use Rattle.kt_syntax.proofs.Common.{and_parts, cases_Bool, cases_order, false≢true, lt-ltb, ltb-true, not-false, not-true, get_or-drop, length-drop, prefix_len_passes, prefix_len_stops, prefix_len, slice_range, same_Some, Text, is_blank, past_blanks, past_word, after_modifier, after_modifiers, found_or, is_modifier, modifier_at}
+use Rattle.std.proofs.Common.{◌≡◌, ◌≤◌, ◌<◌, ◌-◌, ◌+◌, ℕ, zero, suc, Bool, true, false, not, List, [], ◌∷◌, length, drop, take, refl, sym, ap, subst, ◌∙◌, arith, Option, Some, None, ⊎_elim, nat_lt, slice_index}
+use Rattle.kt_syntax.proofs.Common.{and_parts, cases_Bool, cases_order, false≢true, lt-ltb, ltb-true, not-false, not-true, get_or-drop, length-drop, prefix_len_passes, prefix_len_stops, slice_range, Text, is_blank, past_word, after_modifier, after_modifiers, found_or, is_modifier}
 use Rattle.kt_syntax.specs.Modifiers.{AreModifiers, IsAfterModifiers, IsModifier, ModifierLaw}
 use Rattle.kt_syntax.proofs.AssignmentLemmas.{blanks_are, blanks_only}
 
@@ -17,11 +17,7 @@ word_inner mask begin k low high =
     (subst (λ m. is_inner (slice_index mask m) ≡ true) at (sym (ap is_inner (get_or-drop begin mask (k - begin) 0)) ∙ passes))
 
 word_stops : (mask : List ℕ) (begin : ℕ) → past_word begin mask < length mask → is_blank (slice_index mask (past_word begin mask)) ≡ true
-word_stops mask begin room =
-    let size = length-drop begin mask in
-    let n : ℕ = prefix_len is_inner (drop begin mask) in
-    not-false (is_blank (slice_index mask (past_word begin mask)))
-    (sym (ap is_inner (get_or-drop begin mask n 0)) ∙ prefix_len_stops is_inner (drop begin mask) 0 (omega (arith, size, room)))
+word_stops mask begin room = grind (arith, length-drop, not-false, get_or-drop, prefix_len_stops)
 
 word_only : (mask : List ℕ) (begin end : ℕ) → begin ≤ end → ((k : ℕ) → begin ≤ k → k < end → is_blank (slice_index mask k) ≡ false) → end < length mask
     → is_blank (slice_index mask end) ≡ true → end ≡ past_word begin mask
@@ -39,35 +35,11 @@ none_some x e = cc
 
 pub modifier_is : (text : Text) (mask : List ℕ) (from end : ℕ) → after_modifier text mask from ≡ Some end → IsModifier text mask from end
 unfolding after_modifier
-modifier_is text mask from end e =
-    let begin : ℕ = past_blanks from mask in
-    let stop : ℕ = past_word begin mask in
-    let gap = blanks_are mask from in
-    ⊎_elim
-    (λ h.
-    let same : stop ≡ end = same_Some stop end (sym (ap (λ b. if b then Some stop else None) h) ∙ e) in
-    let parts = and_parts (is_modifier (slice_range text begin stop)) (nat_lt stop (length mask)) h in
-    let room : stop < length mask = ltb-true stop (length mask) parts.1 in
-    subst (IsModifier text mask from) same
-    (record {
-      begin = begin;
-      gap = gap;
-      order = omega arith;
-      word = parts.0;
-      inner = word_inner mask begin;
-      within = room;
-      ends = word_stops mask begin room;
-    }))
-    (λ h. absurd (none_some end (sym (ap (λ b. if b then Some stop else None) h) ∙ e)))
-    (cases_Bool (is_modifier (slice_range text begin stop) && nat_lt stop (length mask)))
+modifier_is text mask from end e = grind (arith, blanks_are, ⊎_elim, and_parts, slice_range, nat_lt, length, ltb-true, word_inner, word_stops, none_some, cases_Bool)
 
 pub modifier_found : (text : Text) (mask : List ℕ) (from end : ℕ) → IsModifier text mask from end → after_modifier text mask from ≡ Some end
 unfolding after_modifier
-modifier_found text mask from end is =
-    let begins = blanks_only mask from is.begin is.gap in
-    let stops = word_only mask is.begin end is.order is.inner is.within is.ends in
-    ap (λ b. modifier_at text mask b (past_word b mask)) (sym begins) ∙ ap (modifier_at text mask is.begin) (sym stops)
-    ∙ rw (is.word, lt-ltb end (length mask) is.within) refl
+modifier_found text mask from end is = grind (arith, blanks_only, word_only, lt-ltb, length)
 
 -- it has bytes
 no_word : is_modifier [] ≡ false
@@ -75,23 +47,13 @@ unfolding is_modifier
 no_word = refl
 
 modifier_long : (text : Text) (mask : List ℕ) (from end : ℕ) → IsModifier text mask from end → from < end
-modifier_long text mask from end is =
-    let low = is.gap.order in
-    let order = is.order in
-    ⊎_elim
-    (λ same. absurd (false≢true (sym no_word ∙ sym (ap is_modifier (empty is.begin end same)) ∙ is.word)))
-    (λ h. ⊎_elim (λ below. omega (arith, low, below)) (λ above. absurd (omega (arith, order, above))) h)
-    (cases_order is.begin end)
-  where
-    empty : (a b : ℕ) → a ≡ b → slice_range text a b ≡ []
-    empty a b e = let none : b - a ≡ 0 = omega arith in ap (λ n. take n (drop a text)) none
+modifier_long text mask from end is = grind (arith, ⊎_elim, false≢true, no_word, cases_order, slice_range, take)
 
 -- ---- all of them
 
 after_none : (most : ℕ) (text : Text) (mask : List ℕ) (from : ℕ) → after_modifier text mask from ≡ None → after_modifiers most text mask from ≡ from
 unfolding after_modifiers
-after_none zero text mask from e = refl
-after_none (suc most) text mask from e = ap (found_or from (λ end. after_modifiers most text mask end)) e
+after_none most text mask from e = grind arith
 
 after_some : (most : ℕ) (text : Text) (mask : List ℕ) (from end : ℕ) → after_modifier text mask from ≡ Some end
     → after_modifiers (suc most) text mask from ≡ after_modifiers most text mask end
@@ -99,10 +61,7 @@ unfolding after_modifiers
 after_some most text mask from end e = ap (found_or from (λ stop. after_modifiers most text mask stop)) e
 
 no_room : (text : Text) (mask : List ℕ) (from end : ℕ) → length mask ≤ 0 + from → ¬ IsModifier text mask from end
-no_room text mask from end room is =
-    let long = modifier_long text mask from end is in
-    let within = is.within in
-    omega (arith, room, long, within)
+no_room text mask from end room is = grind (arith, modifier_long)
 
 -- no word comes next, or one does
 data Next (text : Text) (mask : List ℕ) (from : ℕ) : Type 0 where

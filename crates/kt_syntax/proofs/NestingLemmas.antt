@@ -1,10 +1,9 @@
 -- One line more in the passes over the lines of a text.
-use Rattle.std.proofs.Common.{◌≡◌, ◌≤◌, ◌<◌, ◌+◌, ℕ, zero, suc, arith, List, [], ◌∷◌, ◌++◌, drop, length, replicate, set, Option, Some, None, refl, sym, ap, ◌∙◌, append_assoc, append-nil, get_or, add-one}
+use Rattle.std.proofs.Common.{◌≡◌, ◌≤◌, ◌<◌, ◌+◌, ℕ, suc, arith, List, [], ◌∷◌, ◌++◌, drop, length, replicate, set, Option, refl, ap, ◌∙◌, append_assoc, append-nil, get_or, add-one}
 use Rattle.kt_syntax.proofs.Common.{drop-cons, drop_all, OpenDefine, OpenConditional, BlockPart, Head, Role, Step, Text}
 use Rattle.kt_text.specs.declared.line.Line.{Line}
-use Rattle.kt_syntax.specs.declared.role.Role.TheVariants as role
 use Rattle.kt_syntax.specs.Roles.{head_of, heads_of}
-use Rattle.kt_syntax.specs.Parts.{Open, after, define_after, depth_of, open_at_end, part_of, parts_from}
+use Rattle.kt_syntax.specs.Parts.{Open, after, depth_of, open_at_end, part_of, parts_from}
 use Rattle.kt_syntax.specs.declared.step.Step.TheVariants as step
 use Rattle.kt_syntax.proofs.StepListLemmas.{put_before}
 use Rattle.kt_syntax.specs.Steps.{Ahead, ahead_of, places_after, step_of, steps_from}
@@ -12,77 +11,45 @@ use Rattle.kt_syntax.specs.Steps.{Ahead, ahead_of, places_after, step_of, steps_
 -- the lines from a place on, the first of them apart
 heads-cons : (text : Text) (lines : List Line) (place : ℕ) (other : Line) → place < length lines
     → heads_of text (drop place lines) ≡ head_of text (get_or lines place other) ∷ heads_of text (drop (place + 1) lines)
-heads-cons text lines place other within =
-    let cut : drop place lines ≡ get_or lines place other ∷ drop (place + 1) lines = rw add-one (drop-cons lines place other within) in
-    ap (heads_of text) cut
+heads-cons text lines place other within = grind (arith, get_or, add-one, drop-cons)
 
 -- a line more is scanned
 pub parts_more : (done more : List BlockPart) (scan next : Open) (text : Text) (lines : List Line) (place : ℕ) (other line : Line) (found : BlockPart) (whole : List BlockPart)
     → place < length lines → line ≡ get_or lines place other → found ≡ part_of scan (head_of text line).role → next ≡ after scan (head_of text line) → more ≡ done ++ found ∷ []
     → done ++ parts_from scan (heads_of text (drop place lines)) ≡ whole → more ++ parts_from next (heads_of text (drop (place + 1) lines)) ≡ whole
 unfolding parts_from
-parts_more done more scan next text lines place other line found whole within e p n m h =
-    let rest : List Head = heads_of text (drop (place + 1) lines) in
-    let first : found ∷ parts_from next rest ≡ parts_from scan (heads_of text (drop place lines)) = rw (heads-cons text lines place other within, sym e, p, n) refl in
-    ap (λ (x : List BlockPart). x ++ parts_from next rest) m ∙ append_assoc done (found ∷ []) (parts_from next rest)
-    ∙ ap (λ (x : List BlockPart). done ++ x) first ∙ h
+parts_more done more scan next text lines place other line found whole within e p n m h = grind (arith, heads-cons, append_assoc)
 
 pub scanned_more : (scan next whole : Open) (text : Text) (lines : List Line) (place : ℕ) (other line : Line)
     → place < length lines → line ≡ get_or lines place other → next ≡ after scan (head_of text line)
     → open_at_end scan (heads_of text (drop place lines)) ≡ whole → open_at_end next (heads_of text (drop (place + 1) lines)) ≡ whole
 unfolding open_at_end
-scanned_more scan next whole text lines place other line within e n h =
-    let first : open_at_end next (heads_of text (drop (place + 1) lines)) ≡ open_at_end scan (heads_of text (drop place lines)) =
-    rw (heads-cons text lines place other within, sym e, n) refl in
-    first ∙ h
+scanned_more scan next whole text lines place other line within e n h = grind (arith, heads-cons)
 
 -- after the last line
 pub parts_ended : (done : List BlockPart) (scan : Open) (text : Text) (lines : List Line) (place : ℕ) (whole : List BlockPart)
     → length lines ≤ place → done ++ parts_from scan (heads_of text (drop place lines)) ≡ whole → done ≡ whole
 unfolding parts_from
-parts_ended done scan text lines place whole beyond h =
-    let ended : parts_from scan (heads_of text (drop place lines)) ≡ [] = rw (drop_all place lines beyond) refl in
-    sym (append-nil done) ∙ ap (λ (x : List BlockPart). done ++ x) (sym ended) ∙ h
+parts_ended done scan text lines place whole beyond h = grind (arith, drop_all, append-nil)
 
 pub scanned_ended : (scan whole : Open) (text : Text) (lines : List Line) (place : ℕ)
     → length lines ≤ place → open_at_end scan (heads_of text (drop place lines)) ≡ whole → scan ≡ whole
 unfolding open_at_end
-scanned_ended scan whole text lines place beyond h =
-    let ended : open_at_end scan (heads_of text (drop place lines)) ≡ scan = rw (drop_all place lines beyond) refl in
-    sym ended ∙ h
+scanned_ended scan whole text lines place beyond h = grind (arith, drop_all)
 
 -- a line opens at most one define more
 pub depth-after : (define : Option OpenDefine) (conditionals : List OpenConditional) (line : Role) (number : ℕ)
     → depth_of (after (record { define = define; conditionals = conditionals }) (record { role = line; number = number }))
     ≤ depth_of (record { define = define; conditionals = conditionals }) + 1
 unfolding after
-depth-after (Some define) conditionals line number = in_body define.number define.depth line
-  where
-    in_body : (opened depth : ℕ) (line : Role) → depth_of (record { define = define_after opened depth line; conditionals = [] }) ≤ depth + 1
-    in_body opened depth role.Ordinary = omega arith
-    in_body opened depth role.Conditional = omega arith
-    in_body opened depth (role.Else condition) = omega arith
-    in_body opened depth role.Endif = omega arith
-    in_body opened depth role.Define = omega arith
-    in_body opened zero role.Endef = omega arith
-    in_body opened (suc depth) role.Endef = omega arith
-depth-after None conditionals role.Ordinary number = omega arith
-depth-after None conditionals role.Define number = omega arith
-depth-after None conditionals role.Endef number = omega arith
-depth-after None conditionals role.Conditional number = omega arith
-depth-after None conditionals (role.Else condition) number = omega arith
-depth-after None [] role.Endif number = omega arith
-depth-after None (innermost ∷ outer) role.Endif number = omega arith
+depth-after define conditionals line number = grind arith
 
 -- a line more is placed, from the end
 pub steps_more : (place : ℕ) (found : BlockPart) (lines : List BlockPart) (ahead : Ahead) (found_step : Step) (before after : List Step)
     → ahead ≡ ahead_of (place + 1) lines → found_step ≡ step_of ahead found → before ≡ replicate (place + 1) step.Line ++ steps_from (place + 1) lines
     → after ≡ set before place found_step → after ≡ replicate place step.Line ++ steps_from place (found ∷ lines)
 unfolding steps_from
-steps_more place found lines ahead found_step before after a s b e =
-    let count : place + 1 ≡ suc place = omega arith in
-    let opened : before ≡ replicate (suc place) step.Line ++ steps_from (place + 1) lines = b ∙ ap (λ (n : ℕ). replicate n step.Line ++ steps_from (place + 1) lines) count in
-    e ∙ rw (opened, s, a) (put_before place (step_of (ahead_of (place + 1) lines) found) (steps_from (place + 1) lines))
+steps_more place found lines ahead found_step before after a s b e = grind (arith, replicate, put_before)
 
 pub ahead_more : (place : ℕ) (found : BlockPart) (lines : List BlockPart) (ahead next : Ahead)
     → ahead ≡ ahead_of (place + 1) lines → next ≡ places_after ahead found place → next ≡ ahead_of place (found ∷ lines)

@@ -1,6 +1,6 @@
 -- The text of a recipe line is spliced in one way alone: what is done at its first newline leaves no choice.
 use Rattle.std.proofs.Common.{◌≡◌, ◌⊎◌, ◌≤◌, ◌-◌, ◌==◌, ◌||◌, ◌&&◌, ℕ, zero, suc, Bool, true, false, not, List, [], ◌∷◌, ◌++◌, length, drop, refl, sym, ap, subst, ◌∙◌, arith, append_assoc, append-nil, length-append, inl, inr, ⊎_elim, nat_eq, slice_index}
-use Rattle.kt_syntax.proofs.Common.{and_from, and_parts, cases_Bool, eq-eqb, eqb-true, false≢true, ne_eqb, or_parts, Decides-eqb, starts_is, list_any, starts_with, Text, is_continued_text, FirstStands, HasNoNewline, IsNewline, Spacing, is_continuation, spelled, space, tab, continuation, returned, FirstNewline, first_newline, no_newline, first_continued, first_ended, past, ends_plain, newline_end, shorter, spelling, IsFree, free_at, free_front, any_last, first_of_run, less_left, some_left, nothing_ends, spelled_long, trailing, AllBlank, Joint, Edge, Inside, inside, mask_of}
+use Rattle.kt_syntax.proofs.Common.{and_from, and_parts, cases_Bool, eq-eqb, eqb-true, false≢true, ne_eqb, or_parts, Decides-eqb, starts_is, list_any, starts_with, Text, is_continued_text, FirstStands, HasNoNewline, IsNewline, Spacing, is_continuation, spelled, space, tab, continuation, returned, FirstNewline, first_newline, no_newline, first_continued, first_ended, past, ends_plain, newline_end, shorter, spelling, IsFree, free_at, free_front, any_last, first_of_run, less_left, some_left, nothing_ends, spelled_long, trailing, AllBlank, Edge, Inside, inside, mask_of}
 use Rattle.std.proofs.lemmas.Grind.{flat_map-append}
 use Rattle.kt_syntax.specs.Recipes.{recipe_of}
 use Rattle.kt_syntax.specs.RecipeCuts.{AreInside, IsInnerGap, IsInside, IsOneTab, IsOuter, Splices, SplicingLaw, spliced}
@@ -13,18 +13,11 @@ stays mask text free = from_free Edge mask text free
 
 at_newline : (mask : List ℕ) (front mark back : Text) → IsFree front → IsNewline front mark
     → recipe_from Edge mask (front ++ (mark ++ back)) ≡ front ++ (10 ∷ recipe_from Edge (drop (length (front ++ mark)) mask) back)
-at_newline mask front mark back free is =
-    from_ended Edge mask front mark back free is ∙ ap (λ t. front ++ (10 ∷ t)) (from_newline (drop (length (front ++ mark)) mask) back)
+at_newline mask front mark back free is = grind (arith, from_ended, from_newline, length)
 
 at_outer : (mask : List ℕ) (front : Text) (one : Spacing) (tabs back : Text) → IsFree front → IsOuter mask front one → IsOneTab tabs back
     → recipe_from Edge mask (front ++ (spelled one ++ (tabs ++ back))) ≡ front ++ recipe_from Edge (drop (length (front ++ (spelled one ++ tabs))) mask) back
-at_outer mask front one tabs back free outer is =
-    let line : Text = front ++ spelled one in
-    from_continued Edge mask front one (tabs ++ back) free outer.is outer.stands
-    ∙ ap (λ (j : Joint). part Edge j front ++ recipe_from j (drop (length line) mask) (tabs ++ back)) (joint_outside mask front one outer.outside)
-    ∙ ap (λ t. front ++ t)
-    (from_outside (drop (length line) mask) tabs back is ∙ ap (λ (m : List ℕ). recipe_from Edge m back) (sym (drop_both line tabs mask))
-    ∙ ap (λ (t : Text). recipe_from Edge (drop (length t) mask) back) (append_assoc front (spelled one) tabs))
+at_outer mask front one tabs back free outer is = grind (arith, from_continued, part, recipe_from, length, joint_outside, from_outside, drop_both, append_assoc)
 
 at_inner : (mask : List ℕ) (front : Text) (run : List Spacing) (back : Text) → IsFree front → IsInnerGap mask front run back
     → recipe_from Edge mask (front ++ (spelling run ++ back)) ≡ front ++ (32 ∷ recipe_from Edge (drop (length (front ++ spelling run)) mask) back)
@@ -45,12 +38,7 @@ is_free (byte ∷ text) none = (ne_eqb byte 10 (λ e. none 0 (omega arith) e), i
 
 splices : Splices spliced
 unfolding recipe_from
-splices = record {
-  stays = λ mask text none. stays mask text (is_free text none);
-  newline = λ mask front mark back none is. at_newline mask front mark back (is_free front none) is;
-  outer = λ mask front one tabs back none outer is. at_outer mask front one tabs back (is_free front none) outer is;
-  inner = λ mask front run back none gap. at_inner mask front run back (is_free front none) gap;
-}
+splices = grind (arith, stays, is_free, at_newline, at_outer, at_inner)
 
 -- ---- the run that a text begins with inside references
 
@@ -65,28 +53,16 @@ record BeginsInner (mask : List ℕ) (text : Text) : Type 0 where
   within : is_continuation one ≡ true → IsInside mask one
 
 inside_so : (a b : Bool) → (not a || b) ≡ true → a ≡ true → b ≡ true
-inside_so true b h e = h
-inside_so false b h e = absurd (false≢true e)
+inside_so a b h e = grind (arith, false≢true)
 
 begins_so : (mask : List ℕ) (one : Spacing) (text : Text) → begins_with mask one text ≡ true → BeginsInner mask text
-begins_so mask one text h =
-    let parts = and_parts (starts_with nat_eq text (spelled one)) (not (is_continuation one) || (slice_index mask (length (spelled one) - 1) == inside)) h in
-    record {
-      one = one;
-      rest = drop (length (spelled one)) text;
-      whole = (starts_is Decides-eqb text (spelled one) true (sym parts.0)).0 refl;
-      within = λ e. eqb-true (slice_index mask (length (spelled one) - 1)) inside (inside_so (is_continuation one) (slice_index mask (length (spelled one) - 1) == inside) parts.1 e);
-    }
+begins_so mask one text h = grind (arith, and_parts, nat_eq, not, length, starts_is, Decides-eqb, eqb-true, inside_so)
 
 outside_or : (a b : Bool) → (a ≡ true → b ≡ true) → (not a || b) ≡ true
-outside_or true b h = h refl
-outside_or false b h = refl
+outside_or a b h = grind arith
 
 begins_not : (mask : List ℕ) (one : Spacing) (text rest : Text) → begins_with mask one text ≡ false → (is_continuation one ≡ true → IsInside mask one) → text ≡ spelled one ++ rest → ⊥
-begins_not mask one text rest h within e =
-    false≢true (sym h ∙ and_from (starts_with nat_eq text (spelled one)) (not (is_continuation one) || (slice_index mask (length (spelled one) - 1) == inside))
-    ((starts_is Decides-eqb text (spelled one) (starts_with nat_eq text (spelled one)) refl).1 rest e)
-    (outside_or (is_continuation one) (slice_index mask (length (spelled one) - 1) == inside) (λ c. eq-eqb (slice_index mask (length (spelled one) - 1)) inside (within c))))
+begins_not mask one text rest h within e = grind (arith, false≢true, and_from, nat_eq, not, length, starts_is, Decides-eqb, outside_or, eq-eqb)
 
 begins_outer : (mask : List ℕ) (text : Text) → begins_with mask space text ≡ false → begins_with mask tab text ≡ false → begins_with mask continuation text ≡ false
     → begins_with mask returned text ≡ false → BeginsOuter mask text
@@ -127,8 +103,7 @@ one_begun mask one rest within b = record {
 }
 
 begun_inner : (fuel : ℕ) (mask : List ℕ) (text : Text) → length text ≤ fuel → BegunInner mask text
-begun_inner zero mask text small =
-    ⊎_elim (λ b. absurd (some_left text b.rest b.one b.whole small)) (λ p. nothing_begun mask text p) (begins_inner mask text)
+begun_inner zero mask text small = grind (arith, ⊎_elim, some_left, nothing_begun, begins_inner)
 begun_inner (suc fuel) mask text small =
     ⊎_elim
     (λ b. subst (BegunInner mask) (sym b.whole)
@@ -209,20 +184,10 @@ tabs_of (byte ∷ text) =
 left_of_run : (text kept : Text) (run : List Spacing) (back : Text) (fuel : ℕ) → text ≡ kept ++ (spelling run ++ back) → list_any is_continuation run ≡ true → length text ≤ suc fuel
     → length back ≤ fuel
 left_of_run text kept [] back fuel whole some small = absurd (false≢true some)
-left_of_run text kept (one ∷ run) back fuel whole some small =
-    let size = ap length whole ∙ length-append kept (spelling (one ∷ run) ++ back) in
-    let rest = length-append (spelling (one ∷ run)) back in
-    let spelt = length-append (spelled one) (spelling run) in
-    let long = spelled_long one in
-    omega (arith, size, rest, spelt, long)
+left_of_run text kept (one ∷ run) back fuel whole some small = grind (arith, length, length-append, spelled_long)
 
 left_of_line : (text front : Text) (one : Spacing) (tabs back : Text) (fuel : ℕ) → text ≡ front ++ (spelled one ++ (tabs ++ back)) → length text ≤ suc fuel → length back ≤ fuel
-left_of_line text front one tabs back fuel whole small =
-    let size = ap length whole ∙ length-append front (spelled one ++ (tabs ++ back)) in
-    let rest = length-append (spelled one) (tabs ++ back) in
-    let spelt = length-append tabs back in
-    let long = spelled_long one in
-    omega (arith, size, rest, spelt, long)
+left_of_line text front one tabs back fuel whole small = grind (arith, length, length-append, spelled_long)
 
 module _ (one other : List ℕ → Text → Text) (a : Splices one) (b : Splices other) where
   abbrev Same : ℕ → Type 0
@@ -230,25 +195,16 @@ module _ (one other : List ℕ → Text → Text) (a : Splices one) (b : Splices
 
   same_inner : (mask : List ℕ) (text : Text) (r : Around mask text) → one (drop (length (r.kept ++ spelling r.run)) mask) r.back ≡ other (drop (length (r.kept ++ spelling r.run)) mask) r.back
       → one mask text ≡ other mask text
-  same_inner mask text r later =
-      let none : HasNoNewline r.kept = free_at r.kept r.free in
-      ap (one mask) r.whole ∙ a.inner mask r.kept r.run r.back none r.gap ∙ ap (λ t. r.kept ++ (32 ∷ t)) later
-      ∙ sym (ap (other mask) r.whole ∙ b.inner mask r.kept r.run r.back none r.gap)
+  same_inner mask text r later = grind (arith, free_at)
 
   same_outer : (mask : List ℕ) (front : Text) (found : Spacing) (after : Text) (t : Tabs after) → IsFree front → IsOuter mask front found
       → one (drop (length (front ++ (spelled found ++ t.tabs))) mask) t.back ≡ other (drop (length (front ++ (spelled found ++ t.tabs))) mask) t.back
       → one mask (front ++ (spelled found ++ after)) ≡ other mask (front ++ (spelled found ++ after))
-  same_outer mask front found after t free outer later =
-      let none : HasNoNewline front = free_at front free in
-      let whole : front ++ (spelled found ++ after) ≡ front ++ (spelled found ++ (t.tabs ++ t.back)) = ap (λ x. front ++ (spelled found ++ x)) t.whole in
-      ap (one mask) whole ∙ a.outer mask front found t.tabs t.back none outer t.is ∙ ap (λ x. front ++ x) later
-      ∙ sym (ap (other mask) whole ∙ b.outer mask front found t.tabs t.back none outer t.is)
+  same_outer mask front found after t free outer later = grind (arith, free_at)
 
   same_newline : (mask : List ℕ) (front mark after : Text) → IsFree front → IsNewline front mark
       → one (drop (length (front ++ mark)) mask) after ≡ other (drop (length (front ++ mark)) mask) after → one mask (front ++ (mark ++ after)) ≡ other mask (front ++ (mark ++ after))
-  same_newline mask front mark after free is later =
-      let none : HasNoNewline front = free_at front free in
-      a.newline mask front mark after none is ∙ ap (λ x. front ++ (10 ∷ x)) later ∙ sym (b.newline mask front mark after none is)
+  same_newline mask front mark after free is later = grind (arith, free_at)
 
   same_by : (fuel : ℕ) (mask : List ℕ) (text : Text) → length text ≤ suc fuel → Same fuel → FirstNewline text → one mask text ≡ other mask text
   same_by fuel mask text small later (no_newline free) = a.stays mask text (free_at text free) ∙ sym (b.stays mask text (free_at text free))

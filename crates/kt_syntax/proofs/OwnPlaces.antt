@@ -50,8 +50,7 @@ byte_run sought (suc count) symbol (first ∷ text) own free =
 pub byte_found : (sought end place : ℕ) (text : Text) → is_mark sought ≡ false → place ≡ position_or_len (λ byte. byte == sought) (take end text)
     → position_or_len is_mark (take place text) ≡ place → place ≡ position_or_len (λ symbol. symbol == sought) (take end (mask_of text))
 unfolding mask_of
-byte_found sought end place text own is free =
-    is ∙ byte_run sought end 0 text own (sym (ap (λ n. position_or_len is_mark (take n text)) is) ∙ free ∙ is)
+byte_found sought end place text own is free = grind (arith, byte_run, take)
 
 -- ---- the number sign
 
@@ -117,5 +116,4 @@ kept_run symbol (first ∷ text) free =
 pub sign_kept : (place : ℕ) (text : Text) → place ≡ position_or_len (λ byte. byte == 35) text → position_or_len is_mark (take place text) ≡ place
     → take place text ≡ uncommented_of text
 unfolding mask_of uncommented_of
-sign_kept place text is free =
-    ap (λ n. take n text) is ∙ kept_run 0 text (sym (ap (λ n. position_or_len is_mark (take n text)) is) ∙ free ∙ is)
+sign_kept place text is free = grind (arith, take, kept_run)

@@ -1,6 +1,6 @@
 -- Runs of bytes that are their own symbols: where they end, the walk over symbols is.
-use Rattle.std.proofs.Common.{◌≡◌, ◌==◌, ◌||◌, ◌&&◌, ◌≤◌, ◌-◌, ◌+◌, ℕ, zero, suc, Bool, true, false, not, List, [], ◌∷◌, length, take, drop, refl, sym, ap, ◌∙◌, arith, ⊎_elim, true≢false, slice_index, None, is_some}
-use Rattle.kt_syntax.proofs.Common.{and_right, cases_Bool, eqb-true, or_parts, or_right, drop-drop, position_or_len, prefix_len, slice_range, Text, is_blank, differ_turned, name_end, operator_of, past_blanks, past_word, inside, mask_byte, mask_from, mask_of, more_masked}
+use Rattle.std.proofs.Common.{◌≡◌, ◌==◌, ◌≤◌, ◌-◌, ◌+◌, ℕ, zero, suc, Bool, true, false, not, List, [], ◌∷◌, length, take, drop, refl, sym, ap, ◌∙◌, arith, ⊎_elim, true≢false, slice_index, None}
+use Rattle.kt_syntax.proofs.Common.{and_right, cases_Bool, eqb-true, or_parts, or_right, drop-drop, position_or_len, prefix_len, slice_range, Text, is_blank, differ_turned, name_end, operator_of, past_blanks, past_word, mask_from, mask_of}
 use Rattle.kt_syntax.proofs.Masking.{mask_from-nil, step-outside}
 use Rattle.kt_syntax.proofs.OwnSymbols.{after_own, own_byte, run_no, run_yes}
 use Rattle.kt_syntax.specs.inner.OwnRuns.{begins_operator, ends_own_name, ends_own_word, is_mark}
@@ -14,23 +14,13 @@ prefix_no test byte bytes h = rw h refl
 -- a blank is no mark
 pub blank_unmarked : (byte : ℕ) → is_blank byte ≡ true → is_mark byte ≡ false
 unfolding is_blank
-blank_unmarked byte h =
-    ⊎_elim (λ (space : (byte == 32) ≡ true). rw (eqb-true byte 32 space) refl)
-    (λ (other : (byte == 32) ≡ false). let tab : (byte == 9) ≡ true = rw other at h in rw (eqb-true byte 9 tab) refl)
-    (cases_Bool (byte == 32))
+blank_unmarked byte h = grind (arith, ⊎_elim, eqb-true, cases_Bool)
 
 -- a byte that is neither a blank nor a backslash ends the blanks, a dollar too
 blanks_end : (count symbol byte : ℕ) (text : Text) → is_blank byte ≡ false → (byte == 92) ≡ false
     → prefix_len is_blank (take (suc count) (mask_from 0 symbol false (byte ∷ text))) ≡ 0
 unfolding is_blank
-blanks_end count symbol byte text other stop =
-    ⊎_elim (λ (dollar : (byte == 36) ≡ true).
-    let more = more_masked false byte text in
-    let first : inside ≡ mask_byte byte more = rw dollar refl in
-    ap (λ (mask : List ℕ). prefix_len is_blank (take (suc count) mask)) (step-outside 0 symbol false byte text more inside refl refl first))
-    (λ (free : (byte == 36) ≡ false).
-    rw (own_byte symbol byte text (rw (free, stop) refl)) (prefix_no is_blank byte (take count (mask_from 0 byte false text)) other))
-    (cases_Bool (byte == 36))
+blanks_end count symbol byte text other stop = grind (arith, ⊎_elim, take, step-outside, own_byte, prefix_no, cases_Bool)
 
 -- blanks, up to a byte that is no backslash
 blanks_run : (count symbol : ℕ) (text : Text) → (slice_index (take count text) (prefix_len is_blank (take count text)) == 92) ≡ false
@@ -77,45 +67,21 @@ word_run (suc count) symbol (byte ∷ text) h =
 
 pub no_operator : (byte : ℕ) (text : Text) → begins_operator byte ≡ false → operator_of (byte ∷ text) ≡ None
 unfolding operator_of
-no_operator byte text h =
-    let four = or_parts (byte == 61 || byte == 58 || byte == 63 || byte == 43) (byte == 33) h in
-    let three = or_parts (byte == 61 || byte == 58 || byte == 63) (byte == 43) four.0 in
-    let two = or_parts (byte == 61 || byte == 58) (byte == 63) three.0 in
-    let one = or_parts (byte == 61) (byte == 58) two.0 in
-    rw (
-      differ_turned byte 61 one.0,
-      differ_turned byte 58 one.1,
-      differ_turned byte 63 two.1,
-      differ_turned byte 43 three.1,
-      differ_turned byte 33 four.1,
-    ) refl
+no_operator byte text h = grind (arith, or_parts, differ_turned)
 
 -- such a byte doesn't end a name
 pub name_goes_on : (place byte : ℕ) (mask : List ℕ) (text : Text) → ends_own_name byte ≡ false
     → name_end place (byte ∷ mask) (byte ∷ text) ≡ name_end (place + 1) mask text
 unfolding name_end
-name_goes_on place byte mask text h =
-    let parts = or_parts (ends_own_word byte) (begins_operator byte) h in
-    let word = or_parts (is_blank byte) (is_mark byte) parts.0 in
-    let four = or_parts (byte == 61 || byte == 58 || byte == 63 || byte == 43) (byte == 33) parts.1 in
-    let three = or_parts (byte == 61 || byte == 58 || byte == 63) (byte == 43) four.0 in
-    let two = or_parts (byte == 61 || byte == 58) (byte == 63) three.0 in
-    let one = or_parts (byte == 61) (byte == 58) two.0 in
-    let none : (not (byte == inside) && is_some (operator_of (byte ∷ text))) ≡ false
-    = and_right (not (byte == inside)) (is_some (operator_of (byte ∷ text))) (ap is_some (no_operator byte text parts.1)) in
-    rw (word.0, none, one.1) refl
+name_goes_on place byte mask text h = grind (arith, or_parts, not, and_right, no_operator)
 
 name_run : (count place symbol : ℕ) (text : Text)
     → name_end (place + position_or_len ends_own_name (take count text))
     (drop (position_or_len ends_own_name (take count text)) (take count (mask_from 0 symbol false text)))
     (drop (position_or_len ends_own_name (take count text)) text)
     ≡ name_end place (take count (mask_from 0 symbol false text)) text
-name_run zero place symbol text =
-    let same : place + 0 ≡ place = omega arith in
-    ap (λ n. name_end n [] text) same
-name_run (suc count) place symbol [] =
-    let same : place + 0 ≡ place = omega arith in
-    ap (λ n. name_end n (take (suc count) (mask_from 0 symbol false [])) []) same
+name_run zero place symbol text = grind arith
+name_run (suc count) place symbol [] = grind (arith, take)
 name_run (suc count) place symbol (byte ∷ text) =
     let mask = take (suc count) (mask_from 0 symbol false (byte ∷ text)) in
     ⊎_elim (λ (yes : ends_own_name byte ≡ true).
@@ -144,10 +110,7 @@ symbols_from text from end within free = after_own text from end from (sym free)
 pub blanks_passed : (text : Text) (from end run : ℕ) → from ≤ end → end ≤ length text → position_or_len is_mark (take from text) ≡ from
     → run ≡ prefix_len is_blank (slice_range text from end) → (slice_index (slice_range text from end) run == 92) ≡ false
     → from + run ≡ past_blanks from (take end (mask_of text))
-blanks_passed text from end run order within free is stop =
-    let here = ap (λ n. slice_index (slice_range text from end) n == 92) (sym is) ∙ stop in
-    ap (λ n. from + n) (is ∙ blanks_run (end - from) 0 (drop from text) here
-    ∙ ap (λ (mask : List ℕ). prefix_len is_blank mask) (symbols_from text from end (omega arith) free))
+blanks_passed text from end run order within free is stop = grind (arith, slice_range, blanks_run, symbols_from)
 
 pub word_passed : (text : Text) (from end run : ℕ) → from ≤ end → end ≤ length text → position_or_len is_mark (take from text) ≡ from
     → run ≡ position_or_len ends_own_word (slice_range text from end) → is_mark (slice_index (slice_range text from end) run) ≡ false

@@ -44,8 +44,7 @@ drop_take : (count most : ℕ) (xs : List ℕ) → drop count (take most xs) ≡
 drop_take zero most xs = ap (λ n. take n xs) (let same : most ≡ most - 0 = omega arith in same)
 drop_take (suc count) zero xs = ap (λ n. take n (drop (suc count) xs)) (let none : 0 ≡ 0 - suc count = omega arith in none)
 drop_take (suc count) (suc most) [] = sym (take_nil (suc most - suc count))
-drop_take (suc count) (suc most) (x ∷ xs) =
-    drop_take count most xs ∙ ap (λ n. take n (drop count xs)) (let same : most - count ≡ suc most - suc count = omega arith in same)
+drop_take (suc count) (suc most) (x ∷ xs) = grind (arith, take, drop_take count most xs)
 
 -- the symbols of a line after so many of its own bytes
 pub after_own : (text : Text) (most end size : ℕ) → size ≡ position_or_len is_mark (take most text) → size ≤ length text

@@ -1,17 +1,14 @@
 -- The steps of a text's lines can be read one after another.
 use Rattle.std.proofs.Common.{◌≡◌, ◌≤◌, ℕ, zero, suc, ◌+◌, arith, List, [], ◌∷◌, drop, length, Some, refl, sym, ap, subst, ◌∙◌, zero-add}
 use Rattle.kt_syntax.proofs.Common.{slice_get, BlockPart, Step}
-use Rattle.kt_syntax.specs.declared.part.BlockPart.TheVariants as part
-use Rattle.kt_syntax.specs.declared.part.Stray.TheVariants as stray
 use Rattle.kt_syntax.specs.declared.step.Exits.{Exits}
 use Rattle.kt_syntax.specs.Steps.{Ahead, ahead_of, exits_of, places_after, step_of, steps_from}
-use Rattle.kt_syntax.specs.Blocks.{Items, Level, none, line, definition, conditional, innermost, levels_from, levels_with, outer}
+use Rattle.kt_syntax.specs.Blocks.{Items, Level, none, innermost, levels_from, levels_with, outer}
 use Rattle.kt_syntax.specs.Reading.{AreReadable, AreTried, IsAhead, ReadsOn, after_branches, append, left_at, left_of}
 
 -- what is left of the innermost block and of those round it
 left-split : (levels : List Level) → left_of levels ≡ append (innermost levels).items (after_branches (innermost levels).others (left_of (outer levels)))
-left-split [] = refl
-left-split (level ∷ levels) = refl
+left-split levels = grind arith
 
 -- exits are those of the branches of a block
 abbrev Leads : List Step → Exits → List Level → Type 0
@@ -32,16 +29,12 @@ record Agrees (steps : List Step) (ahead : Ahead) (levels : List Level) : Type 0
 
 first_leads : (steps : List Step) (end body_end : ℕ) (conditionals : List Exits) (levels : List Level) → Lead steps end conditionals levels
     → Leads steps (exits_of (record { end = end; body_end = body_end; conditionals = conditionals })) levels
-first_leads steps end body_end [] levels h = h.0
-first_leads steps end body_end (exits ∷ others) levels h = h.0
+first_leads steps end body_end conditionals levels h = grind arith
 
 others_lead : (steps : List Step) (end : ℕ) (conditionals : List Exits) (levels : List Level) → left_at steps end ≡ none → Lead steps end conditionals levels
     → Lead steps end (drop 1 conditionals) (outer levels)
 unfolding AreTried
-others_lead steps end [] levels n h =
-    let P : List Level → Type 0 = λ levels. Lead steps end [] levels in
-    subst P (sym h.1) ((n, refl), refl)
-others_lead steps end (exits ∷ others) levels n h = h.1
+others_lead steps end conditionals levels n h = grind arith
 
 -- more items change no exit
 items_lead : (steps : List Step) (end : ℕ) (conditionals : List Exits) (levels : List Level) (items : Items) → Lead steps end conditionals levels
@@ -58,74 +51,7 @@ one_more : (found : BlockPart) (steps : List Step) (ahead : Ahead) (levels : Lis
     → left_at steps place ≡ left_of (levels_with place (step_of ahead found) levels) → left_at steps (place + 1) ≡ left_of levels
     → slice_get steps place ≡ Some (step_of ahead found) → Agrees steps ahead levels → OneMore steps ahead levels place found
 unfolding places_after step_of AreTried
-one_more part.Line steps ahead levels place here next got a = record {
-  agrees = record { lead = items_lead steps ahead.end ahead.conditionals levels _ a.lead; ended = a.ended; body = here };
-  reads = here ∙ ap (line place) (sym (next ∙ left-split levels));
-}
-one_more part.Body steps ahead levels place here next got a = record { agrees = a; reads = here ∙ sym next }
-one_more part.Define steps ahead levels place here next got a = record {
-  agrees = record { lead = items_lead steps ahead.end ahead.conditionals levels _ a.lead; ended = a.ended; body = here };
-  reads = here ∙ ap (definition place ahead.body_end) (sym (a.body ∙ left-split levels));
-}
-one_more part.Endef steps ahead levels place here next got a = record {
-  agrees = record { lead = a.lead; ended = a.ended; body = here };
-  reads = here ∙ sym next;
-}
-one_more part.Conditional steps ahead levels place here next got a =
-    let top = first_leads steps ahead.end ahead.body_end ahead.conditionals levels a.lead in
-    record {
-      agrees = record {
-        lead = items_lead steps ahead.end (drop 1 ahead.conditionals) (outer levels) _ (others_lead steps ahead.end ahead.conditionals levels a.ended a.lead);
-        ended = a.ended;
-        body = here;
-      };
-      reads = record {
-        first = (innermost levels).items;
-        others = (innermost levels).others;
-        rest = left_of (outer levels);
-        left = here ∙ ap (conditional place (innermost levels).items (innermost levels).others) (sym (left-split (outer levels)));
-        inside = next ∙ left-split levels ∙ ap (append (innermost levels).items) (sym top.0);
-        past = top.0;
-        tried = top.1;
-      };
-    }
-one_more (part.Branch condition) steps ahead levels place here next got a =
-    let top = first_leads steps ahead.end ahead.body_end ahead.conditionals levels a.lead in
-    record {
-      agrees = record {
-        lead = (
-          (top.0, (refl, next ∙ left-split levels ∙ ap (append (innermost levels).items) (sym top.0), ((exits_of ahead).next, got, top.1))),
-          others_lead steps ahead.end ahead.conditionals levels a.ended a.lead,
-        );
-        ended = a.ended;
-        body = here;
-      };
-      reads = here ∙ sym top.0;
-    }
-one_more part.Endif steps ahead levels place here next got a = record {
-  agrees = record { lead = ((here, refl), a.lead); ended = a.ended; body = here };
-  reads = here ∙ sym next;
-}
-one_more (part.Stray stray.LateElse) steps ahead levels place here next got a = record {
-  agrees = record {
-    lead = ((here, refl), others_lead steps ahead.end ahead.conditionals levels a.ended a.lead);
-    ended = a.ended;
-    body = here;
-  };
-  reads = (left_of (outer levels), here);
-}
-one_more (part.Stray stray.Else) steps ahead levels place here next got a = record {
-  agrees = record { lead = items_lead steps ahead.end ahead.conditionals levels _ a.lead; ended = a.ended; body = here };
-  reads = (_, here);
-}
-one_more (part.Stray stray.Endif) steps ahead levels place here next got a = record {
-  agrees = record { lead = items_lead steps ahead.end ahead.conditionals levels _ a.lead; ended = a.ended; body = here };
-  reads = (_, here);
-}
-one_more (part.Stray stray.Endef) steps ahead levels place here next got a = record {
-  agrees = record { lead = items_lead steps ahead.end ahead.conditionals levels _ a.lead; ended = a.ended; body = here };
-  reads = (_, here);
-}
+one_more found steps ahead levels place here next got a = grind (arith, items_lead, left-split, first_leads, others_lead)
 
 -- exits lie between a place and the end
 abbrev AreWithin : (place end : ℕ) → List Exits → Type 0
@@ -143,13 +69,11 @@ widen place end [] h = tt
 widen place end (exits ∷ others) h = ((omega (arith, h.0.0), h.0.1, h.0.2), widen place end others h.1)
 
 others_within : (place end : ℕ) (exits : List Exits) → AreWithin place end exits → AreWithin place end (drop 1 exits)
-others_within place end [] h = tt
-others_within place end (exits ∷ others) h = h.1
+others_within place end exits h = grind arith
 
 first_within : (place end body_end : ℕ) (exits : List Exits) → place ≤ end → AreWithin place end exits
     → let first = exits_of (record { end = end; body_end = body_end; conditionals = exits }) in (place ≤ first.next) × (first.next ≤ first.after) × (first.after ≤ end)
-first_within place end body_end [] l h = (l, omega arith, omega arith)
-first_within place end body_end (exits ∷ others) l h = h.0
+first_within place end body_end exits l h = grind arith
 
 record OneWithin (ahead : Ahead) (place : ℕ) (found : BlockPart) : Type 0 where
   within : Within place (places_after ahead found place)
@@ -158,85 +82,7 @@ record OneWithin (ahead : Ahead) (place : ℕ) (found : BlockPart) : Type 0 wher
 
 one_within : (found : BlockPart) (ahead : Ahead) (place : ℕ) → Within (place + 1) ahead → OneWithin ahead place found
 unfolding places_after step_of
-one_within part.Line ahead place w = record {
-  within = record { low = omega (arith, w.low); body_low = omega arith; body_high = omega (arith, w.low); exits = widen place ahead.end ahead.conditionals w.exits };
-  ahead_is = tt;
-  end_is = refl;
-}
-one_within part.Body ahead place w = record {
-  within = record { low = omega (arith, w.low); body_low = omega (arith, w.body_low); body_high = w.body_high; exits = widen place ahead.end ahead.conditionals w.exits };
-  ahead_is = tt;
-  end_is = refl;
-}
-one_within part.Define ahead place w = record {
-  within = record { low = omega (arith, w.low); body_low = omega arith; body_high = omega (arith, w.low); exits = widen place ahead.end ahead.conditionals w.exits };
-  ahead_is = (omega (arith, w.body_low), w.body_high);
-  end_is = refl;
-}
-one_within part.Endef ahead place w = record {
-  within = record { low = omega (arith, w.low); body_low = omega arith; body_high = omega (arith, w.low); exits = widen place ahead.end ahead.conditionals w.exits };
-  ahead_is = tt;
-  end_is = refl;
-}
-one_within part.Conditional ahead place w =
-    let first = first_within (place + 1) ahead.end ahead.body_end ahead.conditionals w.low w.exits in
-    record {
-      within = record {
-        low = omega (arith, w.low);
-        body_low = omega arith;
-        body_high = omega (arith, w.low);
-        exits = others_within place ahead.end ahead.conditionals (widen place ahead.end ahead.conditionals w.exits);
-      };
-      ahead_is = (omega (arith, first.0), first.1, first.2);
-      end_is = refl;
-    }
-one_within (part.Branch condition) ahead place w =
-    let first = first_within (place + 1) ahead.end ahead.body_end ahead.conditionals w.low w.exits in
-    record {
-      within = record {
-        low = omega (arith, w.low);
-        body_low = omega arith;
-        body_high = omega (arith, w.low);
-        exits = ((omega arith, omega (arith, first.0, first.1), first.2), others_within place ahead.end ahead.conditionals (widen place ahead.end ahead.conditionals w.exits));
-      };
-      ahead_is = (omega (arith, first.0), first.1, first.2);
-      end_is = refl;
-    }
-one_within part.Endif ahead place w = record {
-  within = record {
-    low = omega (arith, w.low);
-    body_low = omega arith;
-    body_high = omega (arith, w.low);
-    exits = ((omega arith, omega arith, omega (arith, w.low)), widen place ahead.end ahead.conditionals w.exits);
-  };
-  ahead_is = tt;
-  end_is = refl;
-}
-one_within (part.Stray stray.LateElse) ahead place w = record {
-  within = record {
-    low = omega (arith, w.low);
-    body_low = omega arith;
-    body_high = omega (arith, w.low);
-    exits = ((omega arith, omega arith, omega (arith, w.low)), others_within place ahead.end ahead.conditionals (widen place ahead.end ahead.conditionals w.exits));
-  };
-  ahead_is = tt;
-  end_is = refl;
-}
-one_within (part.Stray stray.Else) ahead place w = record {
-  within = record { low = omega (arith, w.low); body_low = omega arith; body_high = omega (arith, w.low); exits = widen place ahead.end ahead.conditionals w.exits };
-  ahead_is = tt;
-  end_is = refl;
-}
-one_within (part.Stray stray.Endif) ahead place w = record {
-  within = record { low = omega (arith, w.low); body_low = omega arith; body_high = omega (arith, w.low); exits = widen place ahead.end ahead.conditionals w.exits };
-  ahead_is = tt;
-  end_is = refl;
-}
-one_within (part.Stray stray.Endef) ahead place w = record {
-  within = record { low = omega (arith, w.low); body_low = omega arith; body_high = omega (arith, w.low); exits = widen place ahead.end ahead.conditionals w.exits };
-  ahead_is = tt;
-  end_is = refl;
-}
+one_within found ahead place w = grind (arith, widen, first_within, others_within)
 
 -- a list from a place on
 drop-next : {X : Type 0} (xs : List X) (place : ℕ) (x : X) (rest : List X) → drop place xs ≡ x ∷ rest → drop (suc place) xs ≡ rest
@@ -275,15 +121,7 @@ record Readable (steps : List Step) (place : ℕ) (lines : List BlockPart) : Typ
 
 readable : (lines : List BlockPart) (steps : List Step) (place : ℕ) → drop place steps ≡ steps_from place lines → Readable steps place lines
 unfolding steps_from ahead_of levels_from left_at AreTried
-readable [] steps place e =
-    let nothing : left_at steps place ≡ none = ap (λ (x : List Step). left_of (levels_from place x)) e in
-    record {
-      agrees = record { lead = ((nothing, refl), refl); ended = nothing; body = nothing };
-      within = record { low = omega arith; body_low = omega arith; body_high = omega arith; exits = tt };
-      end_is = omega arith;
-      reads = λ more found h. absurd (cc);
-      ahead = λ more found h. absurd (cc);
-    }
+readable [] steps place e = grind arith
 readable (found ∷ lines) steps place e =
     let A : Ahead = ahead_of (place + 1) lines in
     let others : List Step = steps_from (place + 1) lines in

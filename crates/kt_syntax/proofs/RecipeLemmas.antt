@@ -2,7 +2,7 @@
 use Rattle.std.proofs.Common.{◌≡◌, ◌<◌, ◌-◌, ◌+◌, ◌==◌, ℕ, suc, true, false, Some, None, List, [], ◌∷◌, ◌++◌, length, take, drop, length-take-le, append_assoc, refl, sym, ap, ◌∙◌, arith, ⊎_elim, slice_index}
 use Rattle.kt_syntax.proofs.Common.{cases_Bool, append-nil, onto_first, position_or_len, IsFirstByte, is_byte, Text, pieces_of, Joint, Edge, mask_of, first_byte_place}
 use Rattle.kt_syntax.specs.Recipes.{joint_of, recipe_line, recipe_lines, recipe_of}
-use Rattle.kt_text.proofs.CondensedLemmas.{HasPiece, onto_piece, pieces-some}
+use Rattle.kt_text.proofs.CondensedLemmas.{HasPiece, pieces-some}
 
 -- how many bytes stand before the first newline
 abbrev run : Text → ℕ

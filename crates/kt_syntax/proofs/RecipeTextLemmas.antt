@@ -1,6 +1,6 @@
 -- The text of a recipe line, by its physical lines.
 use Rattle.std.proofs.Common.{◌≡◌, ◌<◌, ◌-◌, ◌+◌, ◌==◌, ◌%◌, ◌&&◌, ℕ, ◌≤◌, suc, zero, Bool, true, false, not, List, [], ◌∷◌, ◌++◌, length, length-append, take, drop, filter, refl, sym, ap, subst, ◌∙◌, arith, append-nil, cond, ⊎_elim, count_by, nat_lt, slice_index}
-use Rattle.kt_syntax.proofs.Common.{and_parts, cases_Bool, eqb-true, false≢true, reverse-append, take-append-le, filter-append, sum_by-append, sum_by-cons, take-append_seam, take-length, concat, onto_first, prefix_len, suffix_len, no_cr, without_terminator, Text, is_blank, trimmed_end, trimmed_start, before_backslash, is_continued, is_continued_text, pieces_of, IsFree, free_nil, free_space, one_piece, ArePieces, are_pieces, free_backslash, free_end, free_start, front_content, HasLast, last_at, last_of, content_ended, Joint, Edge, Newline, Outside, Inside, inside, mask_of}
+use Rattle.kt_syntax.proofs.Common.{and_parts, cases_Bool, eqb-true, false≢true, reverse-append, take-append-le, filter-append, sum_by-append, sum_by-cons, take-length, concat, onto_first, prefix_len, suffix_len, no_cr, without_terminator, Text, is_blank, trimmed_end, trimmed_start, before_backslash, is_continued, is_continued_text, pieces_of, IsFree, free_nil, free_space, one_piece, ArePieces, are_pieces, free_backslash, free_end, free_start, front_content, HasLast, last_at, last_of, content_ended, Joint, Edge, mask_of}
 use Rattle.kt_syntax.specs.Recipes.{begun, content, ended, joint_of, newline_after, recipe_line, recipe_lines, recipe_of, space_before, without_tab}
 use Rattle.kt_syntax.specs.RecipeTexts.{RecipeLaw, is_shown}
 use Rattle.kt_text.proofs.TrimLemmas.{suffix-none}
@@ -71,14 +71,7 @@ shown_start (byte ∷ text) =
 
 shown_tab : (text : Text) → shown (without_tab text) ≡ shown text
 unfolding is_blank
-shown_tab [] = refl
-shown_tab (byte ∷ text) =
-    ⊎_elim
-    (λ h. let tab : byte ≡ 9 = eqb-true _ _ h in
-    let same : without_tab (byte ∷ text) ≡ text = rw h refl in
-    let blank : is_blank byte ≡ true = rw tab refl in ap shown same ∙ sym (hidden byte text (blank_hidden byte blank)))
-    (λ h. let same : without_tab (byte ∷ text) ≡ byte ∷ text = rw h refl in ap shown same)
-    (cases_Bool (byte == 9))
+shown_tab text = grind (arith, ⊎_elim, eqb-true, hidden, blank_hidden, cases_Bool)
 
 cr_hidden : (byte : ℕ) → byte ≡ 13 → is_shown byte ≡ false
 unfolding is_blank
@@ -131,51 +124,26 @@ continued_shown front odd = ends_odd (without_terminator (front ++ 10 ∷ [])) o
 
 space_shown : (before after : Joint) (text : Text) → shown (space_before before after text) ≡ []
 unfolding is_blank
-space_shown Edge after text = refl
-space_shown Newline after text = refl
-space_shown Outside after text = refl
-space_shown Inside Edge text = refl
-space_shown Inside Newline text = refl
-space_shown Inside Outside text = refl
-space_shown Inside Inside [] = refl
-space_shown Inside Inside (byte ∷ text) = refl
+space_shown before after text = grind arith
 
 newline_shown : (after : Joint) → shown (newline_after after) ≡ []
 unfolding is_blank
-newline_shown Edge = refl
-newline_shown Newline = refl
-newline_shown Outside = refl
-newline_shown Inside = refl
+newline_shown after = grind arith
 
 begun_shown : (before : Joint) (text : Text) → shown (begun before text) ≡ shown text
-begun_shown Edge text = refl
-begun_shown Newline text = refl
-begun_shown Outside text = shown_tab text
-begun_shown Inside text = shown_start text
+begun_shown before text = grind (arith, shown_tab, shown_start)
 
 ended_shown : (after : Joint) (text : Text) → shown (ended after text) ≡ shown text
-ended_shown Edge text = refl
-ended_shown Newline text = refl
-ended_shown Outside text = refl
-ended_shown Inside text = shown_end (length text) text (omega arith)
+ended_shown after text = grind (arith, shown_end, length)
 
 -- a line between two joints shows what its content shows
 between : (before after : Joint) (line : Text) → shown (recipe_line before after line) ≡ shown (content after line)
 unfolding recipe_line
-between before after line =
-    let text = ended after (begun before (content after line)) in
-    shown-append (space_before before after text) (text ++ newline_after after)
-    ∙ ap (λ l. l ++ shown (text ++ newline_after after)) (space_shown before after text)
-    ∙ shown-append text (newline_after after) ∙ ap (λ l. shown text ++ l) (newline_shown after) ∙ append-nil (shown text)
-    ∙ ended_shown after (begun before (content after line)) ∙ begun_shown before (content after line)
+between before after line = grind (arith, shown-append, space_shown, newline_shown, append-nil, ended_shown, begun_shown)
 
 joined_shown : (symbol : ℕ) (front : Text) → shown (content (joint_of symbol (front ++ 10 ∷ [])) (front ++ 10 ∷ [])) ≡ shown (front ++ 10 ∷ [])
 unfolding joint_of
-joined_shown symbol front =
-    ⊎_elim
-    (λ h. rw h (⊎_elim (λ i. rw i (continued_shown front h)) (λ i. rw i (continued_shown front h)) (cases_Bool (symbol == inside))))
-    (λ h. rw h (content_shown front))
-    (cases_Bool (is_continued (front ++ 10 ∷ [])))
+joined_shown symbol front = grind (arith, ⊎_elim, continued_shown, cases_Bool, content_shown)
 
 -- physical lines put together
 lines_shown : (before : Joint) (mask : List ℕ) (lines : List Text) → ArePieces lines → shown (recipe_lines before mask lines) ≡ shown (concat lines)
@@ -194,42 +162,26 @@ lines_shown before mask (line ∷ next ∷ lines) are =
 
 onto_whole : (byte : ℕ) (pieces : List Text) → ArePieces pieces → concat (onto_first byte pieces) ≡ byte ∷ concat pieces
 unfolding ArePieces
-onto_whole byte [] are = absurd are
-onto_whole byte (piece ∷ pieces) are = refl
+onto_whole byte pieces are = grind arith
 
 pieces_whole : (text : Text) → concat (pieces_of text) ≡ text
 unfolding pieces_of
 pieces_whole [] = refl
-pieces_whole (byte ∷ text) =
-    ⊎_elim (λ h. rw h (ap (λ l. byte ∷ l) (pieces_whole text))) (λ h. rw h (onto_whole byte (pieces_of text) (are_pieces text) ∙ ap (λ l. byte ∷ l) (pieces_whole text))) (cases_Bool (byte == 10))
+pieces_whole (byte ∷ text) = grind (arith, ⊎_elim, onto_whole, are_pieces, cases_Bool, pieces_whole text)
 
 -- newlines
 tab_free : (text : Text) → IsFree text → IsFree (without_tab text)
 unfolding IsFree
-tab_free [] free = tt
-tab_free (byte ∷ text) free = ⊎_elim (λ h. rw h free.1) (λ h. rw h free) (cases_Bool (byte == 9))
+tab_free text free = grind (arith, ⊎_elim, cases_Bool)
 
 begun_free : (before : Joint) (text : Text) → IsFree text → IsFree (begun before text)
-begun_free Edge text free = free
-begun_free Newline text free = free
-begun_free Outside text free = tab_free text free
-begun_free Inside text free = free_start text free
+begun_free before text free = grind (arith, tab_free, free_start)
 
 ended_free : (after : Joint) (text : Text) → IsFree text → IsFree (ended after text)
-ended_free Edge text free = free
-ended_free Newline text free = free
-ended_free Outside text free = free
-ended_free Inside text free = free_end text free
+ended_free after text free = grind (arith, free_end)
 
 space_free : (before after : Joint) (text : Text) → IsFree (space_before before after text)
-space_free Edge after text = free_nil
-space_free Newline after text = free_nil
-space_free Outside after text = free_nil
-space_free Inside Edge text = free_space
-space_free Inside Newline text = free_space
-space_free Inside Outside text = free_space
-space_free Inside Inside [] = free_nil
-space_free Inside Inside (byte ∷ text) = free_space
+space_free before after text = grind (arith, free_nil, free_space)
 
 line_count : (before after : Joint) (line : Text) → IsFree (content after line) → count (recipe_line before after line) ≡ count (newline_after after)
 unfolding recipe_line
@@ -244,14 +196,7 @@ line_count before after line free =
 joined_count : (before : Joint) (symbol : ℕ) (front : Text) → IsFree front
     → count (recipe_line before (joint_of symbol (front ++ 10 ∷ [])) (front ++ 10 ∷ [])) ≡ cond (not (is_continued (front ++ 10 ∷ []))) 1 0
 unfolding joint_of
-joined_count before symbol front free =
-    ⊎_elim
-    (λ h. rw h (⊎_elim
-    (λ i. rw i (line_count before Inside (front ++ 10 ∷ []) (free_backslash front free)))
-    (λ i. rw i (line_count before Outside (front ++ 10 ∷ []) (free_backslash front free)))
-    (cases_Bool (symbol == inside))))
-    (λ h. rw h (line_count before Newline (front ++ 10 ∷ []) (front_content front free)))
-    (cases_Bool (is_continued (front ++ 10 ∷ [])))
+joined_count before symbol front free = grind (arith, ⊎_elim, line_count, free_backslash, cases_Bool, front_content)
 
 abbrev ended_lines : List Text → ℕ
 ended_lines lines = count_by (λ line. not (is_continued line)) (take (length lines - 1) lines)

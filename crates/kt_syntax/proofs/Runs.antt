@@ -1,5 +1,5 @@
 -- Runs of bytes without a dollar.
-use Rattle.std.proofs.Common.{◌≡◌, ◌==◌, ◌≤◌, ℕ, suc, true, false, [], ◌∷◌, ◌++◌, length, take, drop, refl, sym, ap, subst, ◌∙◌, arith, ⊎_elim}
+use Rattle.std.proofs.Common.{◌≡◌, ◌==◌, ◌≤◌, ℕ, suc, true, false, [], ◌∷◌, ◌++◌, length, take, drop, refl, ap, ◌∙◌, arith, ⊎_elim}
 use Rattle.kt_syntax.proofs.Common.{cases_Bool, eqb-true, eq-eqb, position_or_len, Text, count_of, EndsRun}
 use Rattle.kt_syntax.proofs.Closing.{count_yes, count_no, count_nil}
 
@@ -15,30 +15,18 @@ run-no byte text h = rw h (omega arith)
 
 pub run_within : (text : Text) → run text ≤ length text
 run_within [] = omega arith
-run_within (byte ∷ text) =
-    ⊎_elim (λ h. let e = run-yes byte text h in omega arith)
-    (λ h. let e = run-no byte text h in let l = run_within text in omega arith)
-    (cases_Bool (byte == 36))
+run_within (byte ∷ text) = grind (arith, ⊎_elim, run-yes, run-no, cases_Bool, run_within text)
 
 pub run_free : (text : Text) → count_of 36 (take (run text) text) ≡ 0
 run_free [] = count_nil 36
-run_free (byte ∷ text) =
-    ⊎_elim (λ h. ap (λ n. count_of 36 (take n (byte ∷ text))) (run-yes byte text h) ∙ count_nil 36)
-    (λ h. ap (λ n. count_of 36 (take n (byte ∷ text))) (run-no byte text h) ∙ count_no 36 byte (take (run text) text) h ∙ run_free text)
-    (cases_Bool (byte == 36))
+run_free (byte ∷ text) = grind (arith, ⊎_elim, take, run-yes, count_nil, run-no, count_no, cases_Bool, run_free text)
 
 pub run_ends : (text : Text) → EndsRun (drop (run text) text)
 run_ends [] = tt
-run_ends (byte ∷ text) =
-    ⊎_elim (λ h. subst (λ n. EndsRun (drop n (byte ∷ text))) (sym (run-yes byte text h)) (eqb-true byte 36 h))
-    (λ h. subst (λ n. EndsRun (drop n (byte ∷ text))) (sym (run-no byte text h)) (run_ends text))
-    (cases_Bool (byte == 36))
+run_ends (byte ∷ text) = grind (arith, ⊎_elim, run-yes, eqb-true, run-no, cases_Bool, run_ends text)
 
 pub no_dollar : (byte : ℕ) (bytes : Text) → count_of 36 (byte ∷ bytes) ≡ 0 → ((byte == 36) ≡ false) × (count_of 36 bytes ≡ 0)
-no_dollar byte bytes e =
-    ⊎_elim (λ h. let c = count_yes 36 byte bytes h in absurd (omega arith))
-    (λ h. (h, sym (count_no 36 byte bytes h) ∙ e))
-    (cases_Bool (byte == 36))
+no_dollar byte bytes e = grind (arith, ⊎_elim, count_yes, count_no, cases_Bool)
 
 pub run_length : (bytes rest : Text) → count_of 36 bytes ≡ 0 → EndsRun rest → run (bytes ++ rest) ≡ length bytes
 run_length [] [] e ends = refl

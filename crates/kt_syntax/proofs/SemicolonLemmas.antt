@@ -57,15 +57,12 @@ blocked state (byte ∷ front) h =
     (cases_Bool (stops state byte))
 
 together : (a b c : Bool) → (a && (b && c)) ≡ ((a && b) && c)
-together true b c = refl
-together false b c = refl
+together a b c = grind arith
 
 clear-append : (state : State) (first second : Text) → is_clear state (first ++ second) ≡ (is_clear state first && is_clear (go state first) second)
 unfolding is_clear go
 clear-append state [] second = refl
-clear-append state (byte ∷ first) second =
-    ap (λ b. not (stops state byte) && b) (clear-append (next state byte) first second)
-    ∙ together (not (stops state byte)) (is_clear (next state byte) first) (is_clear (go (next state byte) first) second)
+clear-append state (byte ∷ first) second = grind (arith, not, stops, next, together, is_clear, go, clear-append (next state byte) first second)
 
 go-append : (state : State) (first second : Text) → go state (first ++ second) ≡ go (go state first) second
 unfolding go
@@ -112,14 +109,12 @@ settled (within true depth) = refl
 run_clear : (state : State) (run : List Spacing) → is_clear state (spelling run) ≡ true
 unfolding is_clear
 run_clear state [] = refl
-run_clear state (one ∷ run) =
-    clear-append state (spelled one) (spelling run) ∙ ap (λ b. b && is_clear (go state (spelled one)) (spelling run)) (one_clear state one) ∙ run_clear (go state (spelled one)) run
+run_clear state (one ∷ run) = grind (arith, clear-append, is_clear, go, one_clear, run_clear (go state (spelled one)) run)
 
 run_settled : (state : State) (run : List Spacing) → go (settle state) (spelling run) ≡ settle state
 unfolding go
 run_settled state [] = refl
-run_settled state (one ∷ run) =
-    go-append (settle state) (spelled one) (spelling run) ∙ ap (λ s. go s (spelling run)) (one_goes (settle state) one ∙ settled state) ∙ run_settled state run
+run_settled state (one ∷ run) = grind (arith, go-append, go, one_goes, settled, run_settled state run)
 
 run_goes : (state : State) (run : List Spacing) → list_any is_continuation run ≡ true → go state (spelling run) ≡ settle state
 run_goes state [] h = absurd (false≢true h)
@@ -182,10 +177,7 @@ record Alike (state : State) (text : Text) : Type 0 where
 -- from what is found in both
 alike : (state : State) (text : Text) (one other : Stop) → found_at state text ≡ one → found_at state (condensed_of text) ≡ other → one.1 ≡ other.1
     → condensed_of (take one.0 text) ≡ take other.0 (condensed_of text) → Alike state text
-alike state text one other e f same front = record {
-  flag = ap (λ (s : Stop). s.1) e ∙ same ∙ sym (ap (λ (s : Stop). s.1) f);
-  front = ap (λ (s : Stop). condensed_of (take s.0 text)) e ∙ front ∙ ap (λ (s : Stop). take s.0 (condensed_of text)) (sym f);
-}
+alike state text one other e f same front = grind (arith, take)
 
 whole_condensed : (text : Text) (c : Cut text) → condensed_of text ≡ c.kept ++ (c.mark ∷ condensed_of c.back)
 whole_condensed text c =
@@ -271,10 +263,7 @@ newline_cut text front mark after whole free is =
     }
 
 alike_free : (state : State) (text : Text) → IsFree text → Alike state text
-alike_free state text free =
-    let found : Stop = found_at state text in
-    let same = free_itself text free in
-    alike state text found found refl (ap (found_at state) same) refl (free_itself (take found.0 text) (free_take found.0 text free) ∙ ap (take found.0) (sym same))
+alike_free state text free = grind (arith, found_at, free_itself, alike, take, free_take)
 
 alike_by : (fuel : ℕ) (text : Text) → length text ≤ suc fuel → ((back : Text) → length back ≤ fuel → (state : State) → Alike state back) → FirstNewline text → (state : State) → Alike state text
 alike_by fuel text small rest (no_newline free) state = alike_free state text free

@@ -37,10 +37,7 @@ comment-nil odd = refl
 
 comment_from : (mask whole : List ℕ) (place : ℕ) → drop place whole ≡ mask → place ≤ length whole → ((k : ℕ) → k < place → ¬ BeginsComment whole k)
     → IsCommentPlace whole (place + before_comment (odd_at whole place) mask)
-comment_from [] whole place e low before =
-    let end = ended whole place e in
-    subst (IsCommentPlace whole) (sym (ap (λ n. place + n) (comment-nil (odd_at whole place)) ∙ add-zero place))
-    (record { bound = low; begins = λ l. absurd (omega arith); first = before })
+comment_from [] whole place e low before = grind (arith, ended, comment-nil, odd_at, add-zero)
 comment_from (symbol ∷ mask) whole place e low before =
     let odd : Bool = odd_at whole place in
     let room = within whole mask place symbol e in
@@ -85,8 +82,7 @@ Found whole found = MatchOption found ((k : ℕ) → ¬ IsColon whole k) (IsFirs
 
 no_colon_here : (whole : List ℕ) (place previous symbol : ℕ) → IsBefore whole place previous → slice_index whole place ≡ symbol
     → (symbol == 58 && not (previous == 92)) ≡ false → ¬ IsColon whole place
-no_colon_here whole zero previous symbol before e h c =
-    false≢true (sym h ∙ rw (eq-eqb symbol 58 (sym e ∙ c.is), before.at_begin refl) refl)
+no_colon_here whole zero previous symbol before e h c = grind (arith, false≢true, eq-eqb)
 no_colon_here whole (suc place) previous symbol before e h c =
     let other : (previous == 92) ≡ false = false_from_ne_true (previous == 92) (λ k. c.unquoted place refl (before.later place refl ∙ eqb-true previous 92 k)) in
     false≢true (sym h ∙ rw (eq-eqb symbol 58 (sym e ∙ c.is), other) refl)

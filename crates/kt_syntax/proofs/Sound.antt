@@ -1,5 +1,5 @@
 -- The tree of the steps of a text's lines is one of these lines.
-use Rattle.std.proofs.Common.{◌≡◌, ℕ, zero, suc, ◌+◌, Bool, true, false, not, List, [], ◌∷◌, Option, Some, None, refl}
+use Rattle.std.proofs.Common.{arith, ◌≡◌, ℕ, zero, suc, ◌+◌, Bool, true, false, not, List, [], ◌∷◌, Option, Some, None, refl}
 use Rattle.kt_syntax.proofs.Common.{Missing, OpenConditional, OpenDefine, Head, Role}
 use Rattle.kt_syntax.specs.declared.part.Missing.TheVariants as missing
 use Rattle.kt_syntax.specs.declared.role.Role.TheVariants as role
@@ -42,8 +42,7 @@ ended_with found (open_one ∷ others) place = ended_with found others place
 
 ended : (conditionals : List OpenConditional) (place : ℕ) → TakesLevels (missing_in (record { define = None; conditionals = conditionals })) conditionals [] None place []
 unfolding TakesItems
-ended [] place = (refl, refl)
-ended (open_one ∷ others) place = ended_with (missing.Endif open_one.number) others place
+ended conditionals place = grind (arith, ended_with)
 
 -- an `else` inside a conditional
 else_line : (condition : Bool) (number : ℕ) (heads : List Head) (place opened : ℕ) (plain_else : Bool) (others : List OpenConditional)

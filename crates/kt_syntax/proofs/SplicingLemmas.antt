@@ -1,6 +1,6 @@
 -- The text of a recipe line at its first newline.
-use Rattle.std.proofs.Common.{◌≡◌, ◌≢◌, ◌-◌, ◌+◌, ◌==◌, ◌||◌, ℕ, suc, Bool, true, false, not, List, [], ◌∷◌, ◌++◌, length, drop, take, if◌then◌else◌, refl, sym, ap, subst, ◌∙◌, arith, append_assoc, append-nil, length-append, inl, inr, ⊎_elim, slice_index}
-use Rattle.kt_syntax.proofs.Common.{cases_Bool, eq-eqb, eqb-true, false≢true, ne_eqb, drop-drop, get_or-drop, take_at, list_any, without_terminator, Text, is_blank, trimmed_end, trimmed_start, before_backslash, is_continued, is_continued_text, pieces_of, FirstStands, IsNewline, Spacing, is_continuation, spelled, space, tab, continuation, returned, one_piece, Ending, FirstNewline, ending_continued, ending_newline, first_newline, odd_more, spelled_long, no_newline, first_continued, first_ended, blank_free, newline_blank, not_either, spelling, content_ended, pieces_after, IsFree, free_append, free_at, AllBlank, EndsPlain, end_blanks, end_first, even_blank, even_past, free_blanks, start_blank, start_plain, Joint, Edge, Newline, Outside, Inside, inside}
+use Rattle.std.proofs.Common.{rules, ◌≡◌, ◌≢◌, ◌-◌, ◌+◌, ◌==◌, ◌||◌, ℕ, suc, Bool, true, false, not, List, [], ◌∷◌, ◌++◌, length, drop, take, if◌then◌else◌, refl, sym, ap, subst, ◌∙◌, arith, append_assoc, append-nil, length-append, inl, inr, ⊎_elim, slice_index}
+use Rattle.kt_syntax.proofs.Common.{cases_Bool, eq-eqb, eqb-true, false≢true, ne_eqb, drop-drop, get_or-drop, take_at, list_any, without_terminator, Text, is_blank, trimmed_start, before_backslash, is_continued, is_continued_text, pieces_of, FirstStands, IsNewline, Spacing, is_continuation, spelled, space, tab, continuation, returned, one_piece, Ending, FirstNewline, ending_continued, ending_newline, first_newline, odd_more, spelled_long, no_newline, first_continued, first_ended, blank_free, newline_blank, not_either, spelling, content_ended, pieces_after, IsFree, free_append, free_at, AllBlank, EndsPlain, end_blanks, end_first, even_blank, even_past, free_blanks, start_blank, start_plain, Joint, Edge, Newline, Outside, Inside, inside}
 use Rattle.kt_syntax.specs.Recipes.{begun, content, ended, joint_of, newline_after, recipe_line, recipe_lines, space_before, without_tab}
 use Rattle.kt_syntax.specs.RecipeCuts.{AreInside, IsInside, IsOneTab}
 use Rattle.kt_syntax.proofs.RecipeLemmas.{followed}
@@ -22,9 +22,7 @@ joint_at mask front one = if slice_index mask (length (front ++ spelled one) - 1
 
 line_is : (before after : Joint) (line front : Text) → content after line ≡ front → recipe_line before after line ≡ part before after front ++ newline_after after
 unfolding recipe_line
-line_is before after line front e =
-    ap (λ (t : Text). space_before before after (ended after (begun before t)) ++ (ended after (begun before t) ++ newline_after after)) e
-    ∙ sym (append_assoc (space_before before after (ended after (begun before front))) (ended after (begun before front)) (newline_after after))
+line_is before after line front e = grind (arith, append_assoc)
 
 one_line : (before : Joint) (mask : List ℕ) (text : Text) (found : List Text) → found ≡ text ∷ [] → recipe_lines before mask found ≡ recipe_line before Edge text
 unfolding recipe_lines
@@ -38,9 +36,7 @@ from_free before mask text free =
 line_step : (before after : Joint) (mask : List ℕ) (line rest : Text) → pieces_of (line ++ rest) ≡ line ∷ pieces_of rest → joint_of (slice_index mask (length line - 1)) line ≡ after
     → recipe_from before mask (line ++ rest) ≡ recipe_line before after line ++ recipe_from after (drop (length line) mask) rest
 unfolding recipe_from
-line_step before after mask line rest cut joint =
-    ap (recipe_lines before mask) cut ∙ followed before mask line (pieces_of rest) (pieces-some rest)
-    ∙ ap (λ (j : Joint). recipe_line before j line ++ recipe_lines j (drop (length line) mask) (pieces_of rest)) joint
+line_step before after mask line rest cut joint = grind (arith, followed, pieces-some, length)
 
 line_cut : (front mark kept rest : Text) → Ending front mark kept → pieces_of ((front ++ mark) ++ rest) ≡ (front ++ mark) ∷ pieces_of rest
 line_cut front mark kept rest e = subst (λ (l : Text). pieces_of (l ++ rest) ≡ l ∷ pieces_of rest) (sym e.whole) (pieces_after e.before rest e.free)
@@ -103,15 +99,8 @@ pub same_by : (first second : Joint) (mask : List ℕ) (text : Text) → ((front
     → FirstNewline text → recipe_from first mask text ≡ recipe_from second mask text
 same_by first second mask text same (no_newline free) =
     from_free first mask text free ∙ same text [] Edge (sym (append-nil text)) ∙ sym (from_free second mask text free)
-same_by first second mask text same (first_continued front rest one whole free is even) =
-    let after : Joint = joint_at mask front one in
-    ap (recipe_from first mask) whole ∙ from_continued first mask front one rest free is even
-    ∙ ap (λ t. t ++ recipe_from after (drop (length (front ++ spelled one)) mask) rest) (same front (spelled one ++ rest) after whole)
-    ∙ sym (ap (recipe_from second mask) whole ∙ from_continued second mask front one rest free is even)
-same_by first second mask text same (first_ended front mark rest whole free is) =
-    ap (recipe_from first mask) whole ∙ from_ended first mask front mark rest free is
-    ∙ ap (λ t. t ++ (10 ∷ recipe_from Newline (drop (length (front ++ mark)) mask) rest)) (same front (mark ++ rest) Newline whole)
-    ∙ sym (ap (recipe_from second mask) whole ∙ from_ended second mask front mark rest free is)
+same_by first second mask text same (first_continued front rest one whole free is even) = grind (arith, from_continued, length)
+same_by first second mask text same (first_ended front mark rest whole free is) = grind (arith, from_ended, length)
 
 pub from_newline : (mask : List ℕ) (text : Text) → recipe_from Newline mask text ≡ recipe_from Edge mask text
 from_newline mask text = same_by Newline Edge mask text (λ front rest after e. refl) (first_newline text)
@@ -123,17 +112,12 @@ pub drop_both : (first second : Text) (mask : List ℕ) → drop (length (first 
 drop_both first second mask = ap (λ n. drop n mask) (length-append first second) ∙ sym (drop-drop (length second) (length first) mask)
 
 joint_later : (mask : List ℕ) (byte : ℕ) (front : Text) (one : Spacing) → joint_at mask (byte ∷ front) one ≡ joint_at (drop 1 mask) front one
-joint_later mask byte front one =
-    let size = length-append front (spelled one) in
-    let long = spelled_long one in
-    let n : 1 + (length (front ++ spelled one) - 1) ≡ length ((byte ∷ front) ++ spelled one) - 1 = omega (arith, size, long) in
-    ap (λ symbol. if symbol == inside then Inside else Outside) (ap (slice_index mask) (sym n) ∙ sym (get_or-drop 1 mask (length (front ++ spelled one) - 1) 0))
+joint_later mask byte front one = grind (arith, length-append, spelled_long, length, get_or-drop)
 
 -- with a blank before it
 shift_by : (first second : Joint) (mask : List ℕ) (byte : ℕ) (text : Text) → is_blank byte ≡ true → ((front : Text) (after : Joint) → part first after (byte ∷ front) ≡ part second after front)
     → FirstNewline text → recipe_from first mask (byte ∷ text) ≡ recipe_from second (drop 1 mask) text
-shift_by first second mask byte text h same (no_newline free) =
-    from_free first mask (byte ∷ text) (blank_free byte text h free) ∙ same text Edge ∙ sym (from_free second (drop 1 mask) text free)
+shift_by first second mask byte text h same (no_newline free) = search (rules, from_free, blank_free)
 shift_by first second mask byte text h same (first_continued front rest one whole free is even) =
     let later : List ℕ = drop 1 mask in
     ap (λ t. recipe_from first mask (byte ∷ t)) whole
@@ -157,12 +141,10 @@ unfolding is_blank
 tab_blank = refl
 
 no_tab : (text : Text) → slice_index text 0 ≢ 9 → without_tab text ≡ text
-no_tab [] h = refl
-no_tab (byte ∷ text) h = rw (ne_eqb byte 9 h) refl
+no_tab text h = grind (arith, ne_eqb)
 
 no_tab_front : (front rest : Text) → slice_index (front ++ rest) 0 ≢ 9 → without_tab front ≡ front
-no_tab_front [] rest h = refl
-no_tab_front (byte ∷ front) rest h = no_tab (byte ∷ front) h
+no_tab_front front rest h = grind (arith, no_tab)
 
 pub from_outside : (mask : List ℕ) (tabs back : Text) → IsOneTab tabs back → recipe_from Outside mask (tabs ++ back) ≡ recipe_from Edge (drop (length tabs) mask) back
 from_outside mask tabs back (inl e) =
@@ -176,22 +158,10 @@ from_outside mask tabs back (inr e) =
 -- ---- inside references
 
 joint_inside : (mask : List ℕ) (front : Text) (one : Spacing) → IsInside (drop (length front) mask) one → joint_at mask front one ≡ Inside
-joint_inside mask front one is =
-    let size = length-append front (spelled one) in
-    let long = spelled_long one in
-    let n : length (front ++ spelled one) - 1 ≡ length front + (length (spelled one) - 1) = omega (arith, size, long) in
-    let symbol : slice_index mask (length (front ++ spelled one) - 1) ≡ inside =
-    ap (slice_index mask) n ∙ sym (get_or-drop (length front) mask (length (spelled one) - 1) 0) ∙ is in
-    ap (λ b. if b then Inside else Outside) (eq-eqb (slice_index mask (length (front ++ spelled one) - 1)) inside symbol)
+joint_inside mask front one is = grind (arith, length-append, spelled_long, length, get_or-drop, eq-eqb)
 
 pub joint_outside : (mask : List ℕ) (front : Text) (one : Spacing) → ¬ IsInside (drop (length front) mask) one → joint_at mask front one ≡ Outside
-joint_outside mask front one other =
-    let size = length-append front (spelled one) in
-    let long = spelled_long one in
-    let n : length (front ++ spelled one) - 1 ≡ length front + (length (spelled one) - 1) = omega (arith, size, long) in
-    let symbol : slice_index mask (length (front ++ spelled one) - 1) ≡ slice_index (drop (length front) mask) (length (spelled one) - 1) =
-    ap (slice_index mask) n ∙ sym (get_or-drop (length front) mask (length (spelled one) - 1) 0) in
-    ap (λ b. if b then Inside else Outside) (ne_eqb (slice_index mask (length (front ++ spelled one) - 1)) inside (λ e. other (sym symbol ∙ e)))
+joint_outside mask front one other = grind (arith, length-append, spelled_long, length, get_or-drop, ne_eqb)
 
 -- at the begin of a line
 begin_inside : (mask : List ℕ) (one : Spacing) (rest : Text) → is_continuation one ≡ true → IsInside mask one → recipe_from Inside mask (spelled one ++ rest) ≡ recipe_from Inside (drop (length (spelled one)) mask) rest
@@ -236,11 +206,7 @@ outer_part : (mask : List ℕ) (front : Text) (one : Spacing) (rest : Text) → 
     → part Inside (if b then Inside else Outside) front ≡ 32 ∷ part Edge (if b then Inside else Outside) front
 outer_part mask front one rest is plain false h = ap (λ t. 32 ∷ t) (outer_start mask front (spelled one ++ rest) plain)
 outer_part mask [] one rest is plain true h = absurd (plain one rest (λ e. eqb-true (slice_index mask (length (spelled one) - 1)) inside h) refl)
-outer_part mask (byte ∷ front) one rest is plain true h =
-    let first = outer_first mask byte (front ++ (spelled one ++ rest)) plain in
-    let kept : trimmed_end (trimmed_start (byte ∷ front)) ≡ byte ∷ trimmed_end front =
-    ap (λ (t : Text). trimmed_end t) (start_plain byte front first) ∙ end_first byte front first in
-    ap (λ (t : Text). space_before Inside Inside t ++ t) kept ∙ ap (λ (t : Text). 32 ∷ t) (sym (end_first byte front first))
+outer_part mask (byte ∷ front) one rest is plain true h = search (rules, outer_first, start_plain, end_first)
 
 from_outer_by : (mask : List ℕ) (text : Text) → BeginsOuter mask text → FirstNewline text → recipe_from Inside mask text ≡ 32 ∷ recipe_from Edge mask text
 from_outer_by mask text plain (no_newline free) =
@@ -280,8 +246,7 @@ blanks_more [] second a b = b
 blanks_more (byte ∷ first) second a b = (a.0, blanks_more first second a.1 b)
 
 stands_anyhow : (front : Text) (run : List Spacing) → is_continued_text front ≡ false → FirstStands front run
-stands_anyhow front [] h = tt
-stands_anyhow front (one ∷ run) h = λ is. h
+stands_anyhow front run h = grind arith
 
 unfoldable pub Joined : List ℕ → Text → Text → List Spacing → Text → Type 0
 Joined mask front blanks run back =

@@ -1,6 +1,6 @@
 -- A text has exactly one splitting into terms.
-use Rattle.std.proofs.Common.{◌≡◌, ◌≢◌, ◌==◌, ◌≤◌, ◌<◌, ◌+◌, not, ℕ, zero, suc, Bool, true, false, ◌&&◌, ◌||◌, List, [], ◌∷◌, ◌++◌, Option, Some, None, length, take, drop, refl, sym, ap, subst, ◌∙◌, arith, ⊎_elim, inl, inr, append_assoc, length-drop}
-use Rattle.kt_syntax.proofs.Common.{nat_tests, cases_Bool, eqb-true, false≢true, and_parts, take-append-drop, take_all, drop_all, take_at, drop_at, length-take-le, take-take, append-nil, take-append-add, drop-append-add, list_all, Text, Byte, Parentheses, Braces, Token, Continuations, kept, dropped, literal, dollar, reference, unclosed, count_of, is_special, unit_length, IsBalanced, IsUnclosed, EndsRun, IsSingle, IsTerm, IsSplittingIn, OneSplitting, closing, referred, single, after_dollar, literal_run, first_term, terms_after, terms_of}
+use Rattle.std.proofs.Common.{◌≡◌, ◌≢◌, ◌==◌, ◌≤◌, ◌<◌, ◌+◌, not, ℕ, zero, suc, Bool, true, false, ◌&&◌, List, [], ◌∷◌, ◌++◌, Option, Some, None, length, take, drop, refl, sym, ap, subst, ◌∙◌, arith, ⊎_elim, inl, inr, append_assoc, length-drop}
+use Rattle.kt_syntax.proofs.Common.{nat_tests, cases_Bool, eqb-true, false≢true, and_parts, take-append-drop, take_all, drop_all, take_at, drop_at, length-take-le, take-take, append-nil, take-append-add, drop-append-add, Text, Byte, Parentheses, Braces, Token, Continuations, kept, dropped, literal, dollar, reference, unclosed, count_of, is_special, unit_length, IsBalanced, IsUnclosed, EndsRun, IsSingle, IsTerm, IsSplittingIn, OneSplitting, closing, referred, single, after_dollar, literal_run, first_term, terms_after, terms_of}
 use Rattle.kt_syntax.specs.declared.term.Mark.{Mark}
 use Rattle.kt_syntax.proofs.Closing.{count_no, closed_found, closed_sound, unclosed_sound, unclosed_found}
 use Rattle.kt_syntax.proofs.Runs.{run, run_within, run_free, run_ends, run_length, no_dollar}
@@ -28,41 +28,30 @@ cut_taken text front rest byte n e size = rw (size, e) (take-append-add front (b
 
 pub terms_first : (continuations : Continuations) (byte : ℕ) (text rest : Text) (piece : Token) → (first_term continuations byte text).0 ≡ piece → drop (first_term continuations byte text).1 text ≡ rest
     → terms_after continuations 0 (byte ∷ text) ≡ piece ∷ terms_after continuations 0 rest
-terms_first continuations byte text rest piece p d =
-    terms_of-cons continuations byte text ∙ ap (λ (x : Token). x ∷ terms_after continuations 0 (drop (first_term continuations byte text).1 text)) p ∙ ap (λ (x : Text). piece ∷ terms_after continuations 0 x) d
+terms_first continuations byte text rest piece p d = grind (arith, terms_of-cons)
 
 literal_first : (continuations : Continuations) (byte : ℕ) (bytes rest : Text) → (byte == 36) ≡ false → run (bytes ++ rest) ≡ length bytes → (first_term continuations byte (bytes ++ rest)).0 ≡ literal (byte ∷ bytes)
 unfolding first_term
-literal_first continuations byte bytes rest h size =
-    rw h (ap (λ (n : ℕ). literal (byte ∷ take n (bytes ++ rest))) size ∙ ap (λ (x : Text). literal (byte ∷ x)) (take_at bytes rest (length bytes) refl))
+literal_first continuations byte bytes rest h size = grind (arith, take, take_at, length)
 
 literal_after : (continuations : Continuations) (byte : ℕ) (bytes rest : Text) → (byte == 36) ≡ false → run (bytes ++ rest) ≡ length bytes → drop (first_term continuations byte (bytes ++ rest)).1 (bytes ++ rest) ≡ rest
 unfolding first_term
-literal_after continuations byte bytes rest h size =
-    rw h (ap (λ (n : ℕ). drop n (bytes ++ rest)) size ∙ drop_at bytes rest (length bytes) refl)
+literal_after continuations byte bytes rest h size = grind (arith, drop_at, length)
 
 from_literal : (continuations : Continuations) (byte : ℕ) (bytes rest : Text) → count_of 36 (byte ∷ bytes) ≡ 0 → EndsRun rest
     → terms_after continuations 0 (byte ∷ (bytes ++ rest)) ≡ literal (byte ∷ bytes) ∷ terms_after continuations 0 rest
-from_literal continuations byte bytes rest free ends =
-    let n = no_dollar byte bytes free in
-    let size = run_length bytes rest n.1 ends in
-    terms_first continuations byte (bytes ++ rest) rest (literal (byte ∷ bytes)) (literal_first continuations byte bytes rest n.0 size) (literal_after continuations byte bytes rest n.0 size)
+from_literal continuations byte bytes rest free ends = grind (arith, no_dollar, run_length, terms_first, literal_first, literal_after)
 
 -- after a dollar
 terms_past : (continuations : Continuations) (text rest : Text) (piece : Token) (n : ℕ) → after_dollar continuations text ≡ (piece, n) → drop n text ≡ rest → terms_after continuations 0 (36 ∷ text) ≡ piece ∷ terms_after continuations 0 rest
 unfolding first_term
-terms_past continuations text rest piece n e d =
-    terms_first continuations 36 text rest piece (ap (λ (x : Token × ℕ). x.0) e) (ap (λ (x : Token × ℕ). drop x.1 text) e ∙ d)
+terms_past continuations text rest piece n e d = grind (arith, terms_first)
 
 referred_cut : (mark : Mark) (body rest : Text) (closer : ℕ) → referred mark (body ++ closer ∷ rest) (Some (length body)) ≡ (reference mark body, length body + 2)
 referred_cut mark body rest closer = ap (λ (x : Text). (reference mark x, length body + 2)) (take_at body (closer ∷ rest) (length body) refl)
 
 after_mark : (body rest : Text) (opener closer : ℕ) → drop (length body + 2) (opener ∷ (body ++ closer ∷ rest)) ≡ rest
-after_mark body rest opener closer =
-    ap (λ (n : ℕ). drop n (opener ∷ (body ++ closer ∷ rest))) (two_more (length body)) ∙ drop-append-add body (closer ∷ rest) 1
-  where
-    two_more : (n : ℕ) → n + 2 ≡ suc (n + 1)
-    two_more n = omega arith
+after_mark body rest opener closer = grind (arith, length, drop-append-add)
 
 from_parentheses : (continuations : Continuations) (body rest : Text) → IsBalanced 40 41 body → terms_after continuations 0 (36 ∷ 40 ∷ (body ++ 41 ∷ rest)) ≡ reference Parentheses body ∷ terms_after continuations 0 rest
 unfolding after_dollar
@@ -105,24 +94,7 @@ pub record IsPlain (byte : ℕ) : Type 0 where
   pub no_brace : (byte == 123) ≡ false
 
 plain_byte : (byte : ℕ) (others : Bool) → (not (is_special byte) && others) ≡ true → IsPlain byte
-plain_byte byte others h =
-    let plain = (and_parts (not (is_special byte)) others h).0 in
-    record { no_dollar_here = one (byte == 36) (byte == 40) (byte == 123) plain; no_parenthesis = two (byte == 36) (byte == 40) (byte == 123) plain; no_brace = three (byte == 36) (byte == 40) (byte == 123) plain }
-  where
-    one : (a b c : Bool) → not (a || (b || c)) ≡ true → a ≡ false
-    one false b c h = refl
-    one true b c h = absurd (false≢true h)
-
-    two : (a b c : Bool) → not (a || (b || c)) ≡ true → b ≡ false
-    two false false c h = refl
-    two false true c h = absurd (false≢true h)
-    two true b c h = absurd (false≢true h)
-
-    three : (a b c : Bool) → not (a || (b || c)) ≡ true → c ≡ false
-    three false false false h = refl
-    three false false true h = absurd (false≢true h)
-    three false true c h = absurd (false≢true h)
-    three true b c h = absurd (false≢true h)
+plain_byte byte others h = grind (arith, and_parts, not, false≢true)
 
 past-single : (continuations : Continuations) (byte : ℕ) (text : Text) → IsPlain byte → after_dollar continuations (byte ∷ text) ≡ single continuations (byte ∷ text)
 unfolding after_dollar
@@ -146,25 +118,13 @@ joined body rest closer = append_assoc body (closer ∷ []) rest
 
 -- a term that a text begins with is its first one
 pub term_first : (continuations : Continuations) (piece : Token) (text spelled rest : Text) → text ≡ spelled ++ rest → IsTerm continuations piece spelled rest → terms_after continuations 0 text ≡ piece ∷ terms_after continuations 0 rest
-term_first continuations (literal []) text spelled rest e is =
-    ap (terms_after continuations 0) (e ∙ rw (is.0, is.1) refl) ∙ from_last continuations ∙ ap (λ (x : Text). literal [] ∷ terms_after continuations 0 x) (sym is.1)
-term_first continuations (literal (byte ∷ bytes)) text spelled rest e is =
-    at_text continuations text spelled rest (byte ∷ (bytes ++ rest)) (literal (byte ∷ bytes)) e (ap (λ (x : Text). x ++ rest) is.0)
-    (from_literal continuations byte bytes rest (ap (count_of 36) (sym is.0) ∙ is.1) is.2)
+term_first continuations (literal []) text spelled rest e is = grind (arith, from_last)
+term_first continuations (literal (byte ∷ bytes)) text spelled rest e is = grind (arith, at_text, from_literal)
 term_first continuations dollar text spelled rest e is = at_text continuations text spelled rest (36 ∷ 36 ∷ rest) dollar e (ap (λ (x : Text). x ++ rest) is) (from_dollar continuations rest)
-term_first continuations (reference Byte body) text spelled rest e is =
-    at_text continuations text spelled rest (36 ∷ (body ++ rest)) (reference Byte body) e (ap (λ (x : Text). x ++ rest) is.0) (from_single continuations body rest is.1)
-term_first continuations (reference Parentheses body) text spelled rest e is =
-    at_text continuations text spelled rest (36 ∷ 40 ∷ (body ++ 41 ∷ rest)) (reference Parentheses body) e
-    (ap (λ (x : Text). x ++ rest) is.0 ∙ ap (λ (x : Text). 36 ∷ 40 ∷ x) (joined body rest 41)) (from_parentheses continuations body rest is.1)
-term_first continuations (reference Braces body) text spelled rest e is =
-    at_text continuations text spelled rest (36 ∷ 123 ∷ (body ++ 125 ∷ rest)) (reference Braces body) e
-    (ap (λ (x : Text). x ++ rest) is.0 ∙ ap (λ (x : Text). 36 ∷ 123 ∷ x) (joined body rest 125)) (from_braces continuations body rest is.1)
-term_first continuations unclosed text spelled rest e is =
-    let whole : text ≡ spelled = e ∙ ap (λ (x : Text). spelled ++ x) is.0 ∙ append-nil spelled in
-    let open_term : terms_after continuations 0 text ≡ unclosed ∷ terms_after continuations 0 [] =
-    ⊎_elim (λ p. ap (terms_after continuations 0) (whole ∙ p.0) ∙ from_open_parenthesis continuations is.1.0 p.1) (λ b. ap (terms_after continuations 0) (whole ∙ b.0) ∙ from_open_brace continuations is.1.0 b.1) is.1.1 in
-    open_term ∙ ap (λ (x : Text). unclosed ∷ terms_after continuations 0 x) (sym is.0)
+term_first continuations (reference Byte body) text spelled rest e is = grind (arith, at_text, from_single)
+term_first continuations (reference Parentheses body) text spelled rest e is = grind (arith, at_text, joined, from_parentheses)
+term_first continuations (reference Braces body) text spelled rest e is = grind (arith, at_text, joined, from_braces)
+term_first continuations unclosed text spelled rest e is = grind (arith, append-nil, ⊎_elim, from_open_parenthesis, from_open_brace)
 
 -- a splitting is the one that is computed
 pub only_splitting : (continuations : Continuations) (pieces : List Token) (text : Text) → IsSplittingIn continuations text pieces → pieces ≡ terms_after continuations 0 text
@@ -191,9 +151,7 @@ closed_part opener closer ne tail place e =
 open_part : (opener closer : ℕ) → opener ≢ closer → (tail : Text) → closing opener closer 0 0 tail ≡ None
     → (1 + length tail ≤ length (opener ∷ tail)) × (drop (1 + length tail) (opener ∷ tail) ≡ []) × (36 ∷ take (1 + length tail) (opener ∷ tail) ≡ 36 ∷ opener ∷ tail)
     × IsUnclosed opener closer tail
-open_part opener closer ne tail e =
-    let whole : take (1 + length tail) (opener ∷ tail) ≡ opener ∷ tail = take_all (1 + length tail) (opener ∷ tail) (omega arith) in
-    (omega arith, past_end opener tail, ap (λ (x : Text). 36 ∷ x) whole, unclosed_sound opener closer ne tail e)
+open_part opener closer ne tail e = grind (arith, take, length, take_all, past_end, unclosed_sound)
 
 sound_parentheses : (continuations : Continuations) (tail : Text) (found : Option ℕ) → closing 40 41 0 0 tail ≡ found → Sound continuations (40 ∷ tail) (referred Parentheses tail found)
 sound_parentheses continuations tail None e =
@@ -212,18 +170,7 @@ unit_within kept byte text = (grind arith, grind (arith, nat_tests))
 unit_within dropped byte text = (grind arith, grind (arith, nat_tests))
 
 sound_single : (continuations : Continuations) (byte : ℕ) (text : Text) → IsPlain byte → Sound continuations (byte ∷ text) (single continuations (byte ∷ text))
-sound_single continuations byte text p =
-    let whole : Text = byte ∷ text in
-    let bounds = unit_within continuations byte text in
-    let some = bounds.0 in
-    let within = bounds.1 in
-    let size : length (take (unit_length continuations whole) whole) ≡ unit_length continuations whole = length-take-le (unit_length continuations whole) whole within in
-    let is : IsSingle continuations (take (unit_length continuations whole) whole) (drop (unit_length continuations whole) whole) = record {
-      some = omega arith;
-      unit = size ∙ ap (unit_length continuations) (sym (take-append-drop (unit_length continuations whole) whole));
-      plain = ap (list_all (λ b. not (is_special b))) (take-take 1 (unit_length continuations whole) whole (omega arith)) ∙ rw (p.no_dollar_here, p.no_parenthesis, p.no_brace) refl;
-    } in
-    (within, (refl, is))
+sound_single continuations byte text p = grind (arith, unit_within, length, take, length-take-le, take-append-drop, not, take-take)
 
 past-dollar : (continuations : Continuations) (byte : ℕ) (text : Text) → (byte == 36) ≡ true → after_dollar continuations (byte ∷ text) ≡ (dollar, 1)
 unfolding after_dollar
@@ -261,12 +208,7 @@ other-first continuations byte text h = rw h refl
 
 first_is : (continuations : Continuations) (byte : ℕ) (text : Text) → IsFirst continuations byte text (first_term continuations byte text)
 unfolding first_term
-first_is continuations byte text =
-    ⊎_elim (λ h. subst (IsFirst continuations byte text) (sym (dollar-first continuations byte text h))
-    (subst (λ b. IsFirst continuations b text (after_dollar continuations text)) (sym (eqb-true byte 36 h)) (sound_after continuations text)))
-    (λ h. subst (IsFirst continuations byte text) (sym (other-first continuations byte text h))
-    (run_within text, (refl, count_no 36 byte (take (run text) text) h ∙ run_free text, run_ends text)))
-    (cases_Bool (byte == 36))
+first_is continuations byte text = grind (arith, ⊎_elim, dollar-first, eqb-true, sound_after, other-first, run_within, count_no, take, run, run_free, run_ends, cases_Bool)
 
 pub first_sound : (continuations : Continuations) (byte : ℕ) (text : Text) → FirstTerm continuations byte text
 first_sound continuations byte text = let f = first_is continuations byte text in record { within = f.0; is = f.1 }

@@ -19,10 +19,7 @@ stays_ordinary steps place is =
 
 -- a number stands for the same step where one more is held
 same_step : (held : List Step) (found : Step) (number : ℕ) → number ≤ length held → numbered_step (held ++ found ∷ []) number ≡ numbered_step held number
-same_step held found zero within = refl
-same_step held found (suc place) within =
-    unwrap_or-slice_get (held ++ found ∷ []) place step.Line ∙ get_or_append_left held (found ∷ []) step.Line place within
-    ∙ sym (unwrap_or-slice_get held place step.Line)
+same_step held found number within = grind (arith, unwrap_or-slice_get, get_or_append_left)
 
 same_steps : (held : List Step) (found : Step) (numbers : List ℕ) → All (λ number. number ≤ length held) numbers
     → map (numbered_step (held ++ found ∷ [])) numbers ≡ map (numbered_step held) numbers

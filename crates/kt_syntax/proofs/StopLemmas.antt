@@ -1,5 +1,5 @@
 -- Where the first semicolon or the comment of a line stands, found by its bytes alone.
-use Rattle.std.proofs.Common.{◌≡◌, ◌≤◌, ◌-◌, ◌+◌, ◌==◌, ℕ, zero, suc, Bool, true, false, not, List, [], ◌∷◌, length, drop, if◌then◌else◌, Option, Some, None, option_map, refl, sym, ap, subst, ◌∙◌, arith, ⊎_elim, nat_eq}
+use Rattle.std.proofs.Common.{rules, ◌≡◌, ◌≤◌, ◌-◌, ◌+◌, ◌==◌, ℕ, zero, suc, Bool, true, false, not, List, [], ◌∷◌, length, drop, if◌then◌else◌, Option, Some, None, option_map, refl, sym, ap, subst, ◌∙◌, arith, ⊎_elim, nat_eq}
 use Rattle.kt_syntax.proofs.Common.{and_parts, cases_Bool, eqb-true, not-true, Decides-eqb, nil_from_length, starts_is, starts_with, Text, after_dollar, closing, kept, referred, unit_length, Parentheses, Braces, goes_odd, inside, mask_byte, mask_from, mask_of, more_masked}
 use Rattle.kt_syntax.proofs.Masking.{mask_from-nil}
 use Rattle.kt_syntax.proofs.MaskRuns.{no_unit}
@@ -88,25 +88,17 @@ closing_nil first second at depth = refl
 
 closing_shift : (first second at depth : ℕ) (text : Text) → closing first second (at + 1) depth text ≡ option_map suc (closing first second at depth text)
 closing_shift first second at depth [] = closing_nil first second at depth
-closing_shift first second at depth (byte ∷ text) =
-    ⊎_elim (λ h. closing_opened first second at depth byte text h (closing_shift first second (at + 1) (depth + 1) text))
-    (λ h. ⊎_elim
-    (λ g. ⊎_elim (λ z. closing_last first second at depth byte text h g z)
-    (λ z. closing_less first second at depth byte text h g z (closing_shift first second (at + 1) (depth - 1) text)) (cases_Bool (depth == 0)))
-    (λ g. closing_on first second at depth byte text h g (closing_shift first second (at + 1) depth text)) (cases_Bool (byte == second)))
-    (cases_Bool (byte == first))
+closing_shift first second at depth (byte ∷ text) = grind (arith, ⊎_elim, closing_opened, closing_last, closing_less, cases_Bool, closing_on, closing_shift first second (at + 1) (depth + 1) text, closing_shift first second (at + 1) (depth - 1) text, closing_shift first second (at + 1) depth text)
 
 skip_more : (found : Option ℕ) (byte : ℕ) (text : Text) → skip_of (option_map suc found) (byte ∷ text) ≡ suc (skip_of found text)
 unfolding skip_of
-skip_more None byte text = refl
-skip_more (Some place) byte text = refl
+skip_more found byte text = grind arith
 
 abbrev skip_at : Bool → ℕ → Text → ℕ
 skip_at braces depth text = skip_of (closing (opener braces) (closer braces) 0 depth text) text
 
 closing_more : (braces : Bool) (depth byte : ℕ) (text : Text) → skip_of (closing (opener braces) (closer braces) (0 + 1) depth text) (byte ∷ text) ≡ suc (skip_at braces depth text)
-closing_more braces depth byte text =
-    ap (λ o. skip_of o (byte ∷ text)) (closing_shift (opener braces) (closer braces) 0 depth text) ∙ skip_more (closing (opener braces) (closer braces) 0 depth text) byte text
+closing_more braces depth byte text = search (rules, skip_of, closing_shift, skip_more)
 
 skip-open : (braces : Bool) (depth byte : ℕ) (text : Text) → (byte == opener braces) ≡ true → skip_at braces depth (byte ∷ text) ≡ suc (skip_at braces (depth + 1) text)
 unfolding closing
@@ -154,9 +146,7 @@ record Same (fuel : ℕ) : Type 0 where
 in_reference : (told odd : Bool) (skip byte : ℕ) (text : Text) (state after : State) → stops state byte ≡ false → next state byte ≡ after
     → stop false (mask_from skip inside (goes_odd odd byte) text) ≡ found_at after text
     → stop told (mask_from (suc skip) inside odd (byte ∷ text)) ≡ found_at state (byte ∷ text)
-in_reference told odd skip byte text state after h e rest =
-    ap (stop told) (mask_more skip inside odd byte text) ∙ stop_inside told (mask_from skip inside (goes_odd odd byte) text) ∙ ap later rest
-    ∙ sym (at-no state byte text h ∙ ap (λ s. later (found_at s text)) e)
+in_reference told odd skip byte text state after h e rest = grind (arith, stop, mask_more, stop_inside, later, at-no)
 
 next-open : (braces : Bool) (depth byte : ℕ) → (byte == opener braces) ≡ true → next (within braces depth) byte ≡ within braces (depth + 1)
 next-open braces depth byte h = rw h refl
@@ -204,13 +194,11 @@ dollar_dollar byte text h = rw h refl
 
 referred_long : (found : Option ℕ) (text : Text) → (referred Parentheses text found).1 ≡ suc (skip_of found text)
 unfolding skip_of
-referred_long None text = omega arith
-referred_long (Some place) text = omega arith
+referred_long found text = grind arith
 
 referred_braces : (found : Option ℕ) (text : Text) → (referred Braces text found).1 ≡ suc (skip_of found text)
 unfolding skip_of
-referred_braces None text = omega arith
-referred_braces (Some place) text = omega arith
+referred_braces found text = grind arith
 
 dollar_parentheses : (byte : ℕ) (text : Text) → (byte == 36) ≡ false → (byte == 40) ≡ true → (after_dollar kept (byte ∷ text)).1 ≡ suc (skip_at false 0 text)
 unfolding after_dollar
@@ -320,72 +308,25 @@ OutsideSame told odd symbol text = stop told (mask_from 0 symbol odd text) ≡ f
 -- it is its own symbol
 own_byte : (told odd : Bool) (symbol byte : ℕ) (text : Text) → (byte == 36) ≡ false → more_masked odd byte text ≡ 0
     → OutsideSame (goes_odd told byte) (goes_odd odd byte) byte text → OutsideSame told odd symbol (byte ∷ text)
-own_byte told odd symbol byte text h none rest =
-    let own : mask_byte byte 0 ≡ byte = rw h refl in
-    let mask : mask_from 0 symbol odd (byte ∷ text) ≡ byte ∷ mask_from 0 byte (goes_odd odd byte) text =
-    mask_new symbol 0 odd byte text none ∙ ap (λ s. s ∷ mask_from 0 s (goes_odd odd byte) text) own in
-    ⊎_elim
-    (λ g. ap (stop told) mask ∙ stop-yes told byte (mask_from 0 byte (goes_odd odd byte) text) g ∙ sym (at-yes (plain told) byte text g))
-    (λ g. ap (stop told) mask ∙ stop-no told byte (mask_from 0 byte (goes_odd odd byte) text) g ∙ ap later rest
-    ∙ sym (at-no (plain told) byte text g ∙ ap (λ s. later (found_at s text)) (goes h)))
-    (cases_Bool (is_stop told byte))
-  where
-    goes : (byte == 36) ≡ false → (if byte == 36 then dollar else plain (goes_odd told byte)) ≡ plain (goes_odd told byte)
-    goes e = rw e refl
+own_byte told odd symbol byte text h none rest = grind (arith, mask_new, ⊎_elim, stop, stop-yes, at-yes, stop-no, later, at-no, cases_Bool, is_stop)
 
 newline_masked : (fuel : ℕ) → Same fuel → (odd told : Bool) (text : Text) → length text ≤ fuel → stop false (mask_from 1 32 odd (10 ∷ text)) ≡ found_at (plain told) (10 ∷ text)
-newline_masked fuel same odd told text small =
-    ap (stop false) (mask_more 0 32 odd 10 text) ∙ stop_space false (mask_from 0 32 (goes_odd odd 10) text)
-    ∙ ap later (same.outside false (goes_odd odd 10) 32 text small) ∙ sym (at-no (plain told) 10 text refl)
+newline_masked fuel same odd told text small = grind (arith, stop, mask_more, stop_space, later, at-no)
 
 continued_masked : (fuel : ℕ) → Same fuel → (told : Bool) (symbol : ℕ) (text : Text) → length text ≤ fuel → OutsideSame told false symbol (92 ∷ 10 ∷ text)
-continued_masked fuel same told symbol text small =
-    ap (stop told) (mask_new symbol 1 false 92 (10 ∷ text) (more_continued text)) ∙ stop_space told (mask_from 1 32 (goes_odd false 92) (10 ∷ text))
-    ∙ ap later (newline_masked fuel same (goes_odd false 92) (goes_odd told 92) text small) ∙ sym (at-no (plain told) 92 (10 ∷ text) refl)
+continued_masked fuel same told symbol text small = grind (arith, stop, mask_new, more_continued, stop_space, later, newline_masked, at-no)
 
 returned_masked : (fuel : ℕ) → Same fuel → (told : Bool) (symbol : ℕ) (text : Text) → length text ≤ fuel → OutsideSame told false symbol (92 ∷ 13 ∷ 10 ∷ text)
-returned_masked fuel same told symbol text small =
-    ap (stop told) (mask_new symbol 2 false 92 (13 ∷ 10 ∷ text) (more_returned text)) ∙ stop_space told (mask_from 2 32 (goes_odd false 92) (13 ∷ 10 ∷ text))
-    ∙ ap later
-    (ap (stop false) (mask_more 1 32 (goes_odd false 92) 13 (10 ∷ text)) ∙ stop_space false (mask_from 1 32 (goes_odd (goes_odd false 92) 13) (10 ∷ text))
-    ∙ ap later (newline_masked fuel same (goes_odd (goes_odd false 92) 13) (goes_odd (goes_odd told 92) 13) text small)
-    ∙ sym (at-no (plain (goes_odd told 92)) 13 (10 ∷ text) refl))
-    ∙ sym (at-no (plain told) 92 (13 ∷ 10 ∷ text) refl)
+returned_masked fuel same told symbol text small = grind (arith, stop, mask_new, more_returned, stop_space, later, mask_more, newline_masked, at-no)
 
 backslash_step : (fuel : ℕ) → Same fuel → (told : Bool) (symbol : ℕ) (text : Text) → length text ≤ fuel → OutsideSame told false symbol (92 ∷ text)
-backslash_step fuel same told symbol text small =
-    ⊎_elim
-    (λ a.
-    let begins : text ≡ 10 ∷ drop 1 text = (starts_is Decides-eqb text (10 ∷ []) true (sym a)).0 refl in
-    let size = ap length begins in
-    subst (λ (t : Text). OutsideSame told false symbol (92 ∷ t)) (sym begins) (continued_masked fuel same told symbol (drop 1 text) (omega (arith, size, small))))
-    (λ a. ⊎_elim
-    (λ b.
-    let begins : text ≡ 13 ∷ 10 ∷ drop 2 text = (starts_is Decides-eqb text (13 ∷ 10 ∷ []) true (sym b)).0 refl in
-    let size = ap length begins in
-    subst (λ (t : Text). OutsideSame told false symbol (92 ∷ t)) (sym begins) (returned_masked fuel same told symbol (drop 2 text) (omega (arith, size, small))))
-    (λ b. own_byte told false symbol 92 text refl (more_backslash text a b) (same.outside (goes_odd told 92) (goes_odd false 92) 92 text small))
-    (cases_Bool (starts_with nat_eq text (13 ∷ 10 ∷ []))))
-    (cases_Bool (starts_with nat_eq text (10 ∷ [])))
+backslash_step fuel same told symbol text small = grind (arith, ⊎_elim, starts_is, Decides-eqb, length, continued_masked, returned_masked, own_byte, more_backslash, cases_Bool, nat_eq)
 
 dollar_masked : (fuel : ℕ) → Same fuel → (told odd : Bool) (symbol : ℕ) (text : Text) → length text ≤ fuel → OutsideSame told odd symbol (36 ∷ text)
-dollar_masked fuel same told odd symbol text small =
-    let more : ℕ = (after_dollar kept text).1 in
-    ap (stop told) (mask_new symbol more odd 36 text (more_dollar odd text)) ∙ stop_inside told (mask_from more inside (goes_odd odd 36) text)
-    ∙ ap later (dollar_step fuel same (goes_odd odd 36) text small) ∙ sym (at-no (plain told) 36 text refl)
+dollar_masked fuel same told odd symbol text small = grind (arith, stop, mask_new, more_dollar, stop_inside, later, dollar_step, at-no)
 
 outside_step : (fuel : ℕ) → Same fuel → (told odd : Bool) (symbol byte : ℕ) (text : Text) → length text ≤ fuel → OutsideSame told odd symbol (byte ∷ text)
-outside_step fuel same told odd symbol byte text small =
-    ⊎_elim
-    (λ h. subst (λ b. OutsideSame told odd symbol (b ∷ text)) (sym (eqb-true byte 36 h)) (dollar_masked fuel same told odd symbol text small))
-    (λ h. ⊎_elim
-    (λ g.
-    let parts = and_parts (byte == 92) (not odd) g in
-    subst (λ b. OutsideSame told odd symbol (b ∷ text)) (sym (eqb-true byte 92 parts.0))
-    (subst (λ o. OutsideSame told o symbol (92 ∷ text)) (sym (not-true odd parts.1)) (backslash_step fuel same told symbol text small)))
-    (λ g. own_byte told odd symbol byte text h (more_other odd byte text h g) (same.outside (goes_odd told byte) (goes_odd odd byte) byte text small))
-    (cases_Bool (goes_odd odd byte)))
-    (cases_Bool (byte == 36))
+outside_step fuel same told odd symbol byte text small = grind (arith, ⊎_elim, eqb-true, dollar_masked, and_parts, not, not-true, backslash_step, own_byte, more_other, cases_Bool)
 
 outside_nil : (told odd : Bool) (symbol : ℕ) → OutsideSame told odd symbol []
 outside_nil told odd symbol = ap (stop told) (mask_from-nil 0 symbol odd) ∙ stop-nil told ∙ sym (at-nil (plain told))
@@ -394,15 +335,7 @@ referred_nil : (told odd braces : Bool) (depth : ℕ) → stop told (mask_from (
 referred_nil told odd braces depth = ap (stop told) (mask_from-nil (skip_at braces depth []) inside odd) ∙ stop-nil told ∙ sym (at-nil (within braces depth))
 
 none_same : Same 0
-none_same = record { outside = outside; inner = inner }
-  where
-    outside : (told odd : Bool) (symbol : ℕ) (text : Text) → length text ≤ 0 → OutsideSame told odd symbol text
-    outside told odd symbol text small = subst (OutsideSame told odd symbol) (sym (nil_from_length text (omega (arith, small)))) (outside_nil told odd symbol)
-
-    inner : (told odd braces : Bool) (depth : ℕ) (text : Text) → length text ≤ 0 → stop told (mask_from (skip_at braces depth text) inside odd text) ≡ found_at (within braces depth) text
-    inner told odd braces depth text small =
-        subst (λ (t : Text). stop told (mask_from (skip_at braces depth t) inside odd t) ≡ found_at (within braces depth) t) (sym (nil_from_length text (omega (arith, small))))
-        (referred_nil told odd braces depth)
+none_same = grind (arith, length, nil_from_length, outside_nil, stop, referred_nil)
 
 outside_more : (fuel : ℕ) → Same fuel → (told odd : Bool) (symbol : ℕ) (text : Text) → length text ≤ suc fuel → OutsideSame told odd symbol text
 outside_more fuel same told odd symbol [] small = outside_nil told odd symbol

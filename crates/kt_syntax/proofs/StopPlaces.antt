@@ -1,5 +1,5 @@
 -- Where the head of a line ends, by its mask in one walk: at the first semicolon or at the comment.
-use Rattle.std.proofs.Common.{◌≡◌, ◌<◌, ◌+◌, ◌==◌, ◌&&◌, ◌||◌, ℕ, suc, Bool, true, false, not, List, [], ◌∷◌, take, if◌then◌else◌, refl, sym, ap, subst, ◌∙◌, arith, ⊎_elim}
+use Rattle.std.proofs.Common.{◌≡◌, ◌<◌, ◌+◌, ◌==◌, ◌&&◌, ◌||◌, ℕ, suc, Bool, true, false, not, List, [], ◌∷◌, take, if◌then◌else◌, refl, arith, ⊎_elim}
 use Rattle.kt_syntax.proofs.Common.{cases_Bool, eqb-true, false≢true, position_or_len, and_first, goes_odd, before_comment}
 use Rattle.kt_syntax.proofs.SignLemmas.{comment-nil, comment-no, comment-yes}
 
@@ -51,40 +51,5 @@ one_place : (symbol : ℕ) (mask : List ℕ) (n : ℕ) → (symbol == 59) ≡ fa
 one_place symbol mask n g = rw g (one_more (position_or_len (λ s. s == 59) (take n mask)))
 
 pub found_stop : (odd : Bool) (mask : List ℕ) → IsFound odd mask (stop odd mask)
-found_stop odd [] =
-    subst (IsFound odd []) (sym (stop-nil odd))
-    (record { place = ap (λ n. position_or_len (λ symbol. symbol == 59) (take n [])) (comment-nil odd); semicolon = λ e. absurd (false≢true e); none = λ e. sym (comment-nil odd) })
-found_stop odd (symbol ∷ mask) =
-    ⊎_elim
-    (λ h.
-    let at = comment-yes odd symbol mask h in
-    let sign : (symbol == 59) ≡ false = ap (λ b. b == 59) (eqb-true symbol 35 (and_first (symbol == 35) (not odd) h)) in
-    let here = stop-yes odd symbol mask (ap (λ b. b || symbol == 59) h) in
-    subst (IsFound odd (symbol ∷ mask)) (sym (here ∙ ap (λ b. (0, b)) sign))
-    (record {
-      place = ap (λ n. position_or_len (λ s. s == 59) (take n (symbol ∷ mask))) at;
-      semicolon = λ e. absurd (false≢true e);
-      none = λ e. sym at;
-    }))
-    (λ h. ⊎_elim
-    (λ g.
-    let at = comment-no odd symbol mask h in
-    let here = stop-yes odd symbol mask (ap (λ b. b || symbol == 59) h ∙ g) in
-    subst (IsFound odd (symbol ∷ mask)) (sym (here ∙ ap (λ b. (0, b)) g))
-    (record {
-      place = ap (λ n. position_or_len (λ s. s == 59) (take n (symbol ∷ mask))) at ∙ no_place symbol mask (before_comment (goes_odd odd symbol) mask) g;
-      semicolon = λ e. rw at (omega arith);
-      none = λ e. absurd (false≢true (sym e));
-    }))
-    (λ g.
-    let at = comment-no odd symbol mask h in
-    let here = stop-no odd symbol mask (ap (λ b. b || symbol == 59) h ∙ g) in
-    let rest = found_stop (goes_odd odd symbol) mask in
-    subst (IsFound odd (symbol ∷ mask)) (sym here)
-    (record {
-      place = ap (λ n. position_or_len (λ s. s == 59) (take n (symbol ∷ mask))) at ∙ one_place symbol mask (before_comment (goes_odd odd symbol) mask) g ∙ ap suc rest.place;
-      semicolon = λ e. let less = rest.semicolon e in rw at (omega (arith, less));
-      none = λ e. ap suc (rest.none e) ∙ sym at;
-    }))
-    (cases_Bool (symbol == 59)))
-    (cases_Bool (symbol == 35 && not odd))
+found_stop odd [] = grind (arith, stop-nil, take, comment-nil, false≢true)
+found_stop odd (symbol ∷ mask) = grind (arith, ⊎_elim, comment-yes, eqb-true, and_first, not, stop-yes, take, false≢true, comment-no, no_place, stop-no, one_place, cases_Bool, found_stop (goes_odd odd symbol) mask)

@@ -1,5 +1,5 @@
 -- A byte that doesn't stand in a line doesn't stand in its mask either, unless as what stands for others.
-use Rattle.std.proofs.Common.{◌≡◌, ◌==◌, ◌≤◌, ◌<◌, ◌+◌, ℕ, zero, suc, Bool, true, false, List, [], ◌∷◌, ◌++◌, None, length, take, refl, sym, ap, ◌∙◌, arith, ⊎_elim, ◌⊎◌, inl, inr, append_assoc}
+use Rattle.std.proofs.Common.{◌≡◌, ◌==◌, ◌≤◌, ◌<◌, ◌+◌, ℕ, zero, suc, Bool, true, false, List, [], ◌∷◌, ◌++◌, None, length, take, refl, sym, ap, ◌∙◌, arith, ⊎_elim, ◌⊎◌, inr, append_assoc}
 use Rattle.kt_syntax.proofs.Common.{cases_Bool, eqb-true, false_from_ne_true, or_parts, append-nil, replicate-append-replicate, list_any, position_or_len, IsFirstByte, Text, inside, goes_odd, mask_byte, more_masked, mask_from, mask_of, before_comment, comment_place, head_end, backslashes, uncommented, uncommented_of, first_byte_place}
 
 -- what stands for other bytes
@@ -17,18 +17,10 @@ AreShown (symbol ∷ mask) [] = ⊥
 AreShown (symbol ∷ mask) (byte ∷ text) = IsShown symbol byte × AreShown mask text
 
 byte_shown : (byte more : ℕ) → IsShown (mask_byte byte more) byte
-byte_shown byte more =
-    ⊎_elim (λ (h : (byte == 36) ≡ true). inr (inr (rw h refl)))
-    (λ (h : (byte == 36) ≡ false).
-    ⊎_elim (λ (k : (more == 0) ≡ true). inl (rw (h, k) refl)) (λ (k : (more == 0) ≡ false). inr (inl (rw (h, k) refl))) (cases_Bool (more == 0)))
-    (cases_Bool (byte == 36))
+byte_shown byte more = grind (arith, ⊎_elim, cases_Bool)
 
 other_shown : (byte more : ℕ) → 0 < more → IsOther (mask_byte byte more)
-other_shown byte more some =
-    ⊎_elim (λ (h : (byte == 36) ≡ true). inr (rw h refl))
-    (λ (h : (byte == 36) ≡ false).
-    let k : (more == 0) ≡ false = false_from_ne_true (more == 0) (λ e. let none = eqb-true more 0 e in omega arith) in inl (rw (h, k) refl))
-    (cases_Bool (byte == 36))
+other_shown byte more some = grind (arith, ⊎_elim, false_from_ne_true, eqb-true, cases_Bool)
 
 shown_from : (skip symbol : ℕ) (odd : Bool) (text : Text) → (0 < skip → IsOther symbol) → AreShown (mask_from skip symbol odd text) text
 unfolding mask_from
@@ -60,14 +52,10 @@ not_there sought (byte ∷ text) h =
     rw both.0 (omega arith)
 
 absent_first : (sought byte : ℕ) (text : Text) → IsAbsent sought (byte ∷ text) → (byte == sought) ≡ false
-absent_first sought byte text absent =
-    false_from_ne_true (byte == sought) (λ h. let place : position_or_len (λ b. b == sought) (byte ∷ text) ≡ 0 = rw h refl in omega arith)
+absent_first sought byte text absent = grind (arith, false_from_ne_true)
 
 absent_rest : (sought byte : ℕ) (text : Text) → IsAbsent sought (byte ∷ text) → IsAbsent sought text
-absent_rest sought byte text absent =
-    let other = absent_first sought byte text absent in
-    let place : position_or_len (λ b. b == sought) (byte ∷ text) ≡ suc (position_or_len (λ b. b == sought) text) = rw other (omega arith) in
-    omega arith
+absent_rest sought byte text absent = grind (arith, absent_first)
 
 pub nowhere_any : (sought : ℕ) (text : Text) → IsAbsent sought text → list_any (λ b. b == sought) text ≡ false
 nowhere_any sought [] absent = refl
@@ -79,8 +67,7 @@ pub none_of : (test others : ℕ → Bool) (text : Text) → ((byte : ℕ) → t
 none_of test others text among none = λ k low within is. none k low within (among _ is)
 
 not_shown : (sought symbol byte : ℕ) → (32 == sought) ≡ false → (256 == sought) ≡ false → IsShown symbol byte → (byte == sought) ≡ false → (symbol == sought) ≡ false
-not_shown sought symbol byte space reference shown other =
-    ⊎_elim (λ (e : symbol ≡ byte). rw e other) (⊎_elim (λ (e : symbol ≡ 32). rw e space) (λ (e : symbol ≡ inside). rw e reference)) shown
+not_shown sought symbol byte space reference shown other = grind (arith, ⊎_elim)
 
 no_sign : (odd : Bool) (mask text : Text) → AreShown mask text → IsAbsent 35 text → before_comment odd mask ≡ length text
 unfolding before_comment
@@ -117,9 +104,7 @@ one_backslash : (run : ℕ) (text : Text) → backslashes (run + 1) ++ text ≡ 
 one_backslash run text = ap (λ t. t ++ text) (sym (replicate-append-replicate run 1 92)) ∙ append_assoc (backslashes run) (92 ∷ []) text
 
 own_backslash : (symbol byte : ℕ) → IsShown symbol byte → (symbol == 92) ≡ true → 92 ≡ byte
-own_backslash symbol byte shown h =
-    let is = eqb-true symbol 92 h in
-    ⊎_elim (λ (e : symbol ≡ byte). sym is ∙ e) (⊎_elim (λ (e : symbol ≡ 32). absurd (omega arith)) (λ (e : symbol ≡ inside). absurd (omega arith))) shown
+own_backslash symbol byte shown h = grind (arith, eqb-true, ⊎_elim)
 
 nothing_taken : (run : ℕ) (mask text : Text) → AreShown mask text → IsAbsent 35 text → uncommented run mask text ≡ backslashes run ++ text
 unfolding uncommented

@@ -1,7 +1,6 @@
 -- Any tree of a text's lines is that of their steps.
-use Rattle.std.proofs.Common.{◌≡◌, ℕ, zero, suc, ◌+◌, Bool, true, false, not, List, [], ◌∷◌, Option, Some, None, refl, sym, ap, subst, ◌∙◌}
+use Rattle.std.proofs.Common.{arith, ◌≡◌, ℕ, zero, suc, ◌+◌, Bool, true, false, not, List, [], ◌∷◌, Option, Some, None, refl, sym, ap, subst, ◌∙◌}
 use Rattle.kt_syntax.proofs.Common.{Missing, OpenConditional, Head, Role}
-use Rattle.kt_syntax.specs.declared.part.Missing.TheVariants as missing
 use Rattle.kt_syntax.specs.declared.part.Stray.TheVariants as stray
 use Rattle.kt_syntax.specs.declared.role.Role.TheVariants as role
 use Rattle.kt_syntax.specs.Parts.{Open, after, open_at_end, part_of, parts_from}
@@ -33,8 +32,7 @@ or_option None later = later
 or_option (Some found) later = Some found
 
 or-missing : (found : Option Missing) (outer_one : Missing) (later : Option Missing) → or_option found (Some outer_one) ≡ or_option (or_missing found outer_one) later
-or-missing None outer_one later = refl
-or-missing (Some found) outer_one later = refl
+or-missing found outer_one later = grind arith
 
 -- the blocks from a place on are these items and then the blocks from another on, of which the rest holds
 record Items_then (items : Items) (conditionals : List OpenConditional) (found : Option Missing) (place : ℕ) (heads : List Head) (Rest : Rests) : Type 0 where
@@ -75,18 +73,7 @@ record Endif_then (open_one : OpenConditional) (conditionals : List OpenConditio
 endif_then : (open_one : OpenConditional) (conditionals : List OpenConditional) (found : Option Missing) (place : ℕ) (heads : List Head) (Rest : Rests)
     → TakesEndif open_one.number found place heads Rest → Endif_then open_one conditionals found place heads Rest
 unfolding open_at_end parts_from part_of after steps_from step_of ahead_of places_after levels_from
-endif_then open_one conditionals found place [] Rest h = record {
-  all = or_missing found (missing.Endif open_one.number);
-  next = place;
-  more = [];
-  rest = h;
-  missing_is = or-missing found (missing.Endif open_one.number) (missing_from (outside conditionals) []);
-  nothing = refl;
-  outer_are = refl;
-}
-endif_then open_one conditionals found place (head ∷ heads) Rest h =
-    let P : Role → Type 0 = λ line. Endif_then open_one conditionals found place (record { role = line; number = head.number } ∷ heads) Rest in
-    subst P (sym h.0) (record { all = found; next = place + 1; more = heads; rest = h.1; missing_is = refl; nothing = refl; outer_are = refl })
+endif_then open_one conditionals found place heads Rest h = grind (arith, or-missing, missing_from)
 
 -- the body of a define
 record Body_then (number depth end : ℕ) (conditionals : List OpenConditional) (found : Option Missing) (place : ℕ) (heads : List Head) (Rest : Rests) : Type 0 where
@@ -101,15 +88,7 @@ record Body_then (number depth end : ℕ) (conditionals : List OpenConditional) 
 body_then : (heads : List Head) (number depth end : ℕ) (conditionals : List OpenConditional) (found : Option Missing) (place : ℕ) (Rest : Rests)
     → TakesBody number depth end found place heads Rest → Body_then number depth end conditionals found place heads Rest
 unfolding open_at_end parts_from part_of after steps_from step_of ahead_of places_after levels_from TakesBody
-body_then [] number depth end conditionals found place Rest h = record {
-  all = or_missing found (missing.Endef number);
-  next = place;
-  more = [];
-  rest = h.1;
-  missing_is = or-missing found (missing.Endef number) (missing_from (outside conditionals) []);
-  end_is = sym h.0;
-  levels_are = refl;
-}
+body_then [] number depth end conditionals found place Rest h = grind (arith, or-missing, missing_from)
 body_then (head ∷ heads) number depth end conditionals found place Rest h =
     by_role head.role depth h (λ (deeper : ℕ) (g : TakesBody number deeper end found (place + 1) heads Rest). body_then heads number deeper end conditionals found (place + 1) Rest g)
   where
@@ -128,78 +107,29 @@ body_then (head ∷ heads) number depth end conditionals found place Rest h =
 line_then : (at : ℕ) (next : Items) (conditionals : List OpenConditional) (found : Option Missing) (place number : ℕ) (heads : List Head) (Rest : Rests) → at ≡ place
     → Items_then next conditionals found (place + 1) heads Rest → Items_then (line at next) conditionals found place (record { role = role.Ordinary; number = number } ∷ heads) Rest
 unfolding open_at_end parts_from part_of after steps_from step_of ahead_of places_after levels_from
-line_then at next conditionals found place number heads Rest e d = record {
-  all = d.all;
-  missing_is = d.missing_is;
-  next = d.next;
-  more = d.more;
-  rest = d.rest;
-  items_are = ap (line place) d.items_are ∙ ap (λ (x : ℕ). line x (append next (innermost (levels_at (outside conditionals) d.next d.more)).items)) (sym e);
-  others_are = d.others_are;
-  outer_are = d.outer_are;
-}
+line_then at next conditionals found place number heads Rest e d = grind (arith, levels_at)
 
 endef_then : (at : ℕ) (next : Items) (conditionals : List OpenConditional) (found : Option Missing) (place number : ℕ) (heads : List Head) (Rest : Rests) → at ≡ place
     → Items_then next conditionals found (place + 1) heads Rest → Items_then (fault stray.Endef at next) conditionals found place (record { role = role.Endef; number = number } ∷ heads) Rest
 unfolding open_at_end parts_from part_of after steps_from step_of ahead_of places_after levels_from
-endef_then at next conditionals found place number heads Rest e d = record {
-  all = d.all;
-  missing_is = d.missing_is;
-  next = d.next;
-  more = d.more;
-  rest = d.rest;
-  items_are = ap (fault stray.Endef place) d.items_are ∙ ap (λ (x : ℕ). fault stray.Endef x (append next (innermost (levels_at (outside conditionals) d.next d.more)).items)) (sym e);
-  others_are = d.others_are;
-  outer_are = d.outer_are;
-}
+endef_then at next conditionals found place number heads Rest e d = grind (arith, levels_at)
 
 stray_endif_then : (at : ℕ) (next : Items) (found : Option Missing) (place number : ℕ) (heads : List Head) (Rest : Rests) → at ≡ place
     → Items_then next [] found (place + 1) heads Rest → Items_then (fault stray.Endif at next) [] found place (record { role = role.Endif; number = number } ∷ heads) Rest
 unfolding open_at_end parts_from part_of after steps_from step_of ahead_of places_after levels_from
-stray_endif_then at next found place number heads Rest e d = record {
-  all = d.all;
-  missing_is = d.missing_is;
-  next = d.next;
-  more = d.more;
-  rest = d.rest;
-  items_are = ap (fault stray.Endif place) d.items_are ∙ ap (λ (x : ℕ). fault stray.Endif x (append next (innermost (levels_at (outside []) d.next d.more)).items)) (sym e);
-  others_are = d.others_are;
-  outer_are = d.outer_are;
-}
+stray_endif_then at next found place number heads Rest e d = grind (arith, levels_at)
 
 stray_else_then : (condition : Bool) (at : ℕ) (next : Items) (found : Option Missing) (place number : ℕ) (heads : List Head) (Rest : Rests) → at ≡ place
     → Items_then next [] found (place + 1) heads Rest → Items_then (fault stray.Else at next) [] found place (record { role = role.Else condition; number = number } ∷ heads) Rest
 unfolding open_at_end parts_from part_of after steps_from step_of ahead_of places_after levels_from
-stray_else_then condition at next found place number heads Rest e d = record {
-  all = d.all;
-  missing_is = d.missing_is;
-  next = d.next;
-  more = d.more;
-  rest = d.rest;
-  items_are = ap (fault stray.Else place) d.items_are ∙ ap (λ (x : ℕ). fault stray.Else x (append next (innermost (levels_at (outside []) d.next d.more)).items)) (sym e);
-  others_are = d.others_are;
-  outer_are = d.outer_are;
-}
+stray_else_then condition at next found place number heads Rest e d = grind (arith, levels_at)
 
 define_then : (at end : ℕ) (next : Items) (conditionals : List OpenConditional) (found : Option Missing) (place number : ℕ) (heads : List Head) (Rest : Rests) → at ≡ place
     → (b : Body_then number 0 end conditionals found (place + 1) heads (λ all after more. TakesItems (is_inside conditionals) next all after more Rest))
     → Items_then next conditionals b.all b.next b.more Rest
     → Items_then (definition at end next) conditionals found place (record { role = role.Define; number = number } ∷ heads) Rest
 unfolding open_at_end parts_from part_of after steps_from step_of ahead_of places_after levels_from
-define_then at end next conditionals found place number heads Rest e b d =
-    let last : Items = append next (innermost (levels_at (outside conditionals) d.next d.more)).items in
-    let end_found : ℕ = (ahead_of (place + 1) (parts_from (record { define = Some (record { number = number; depth = 0 }); conditionals = conditionals }) heads)).body_end in
-    record {
-      all = d.all;
-      next = d.next;
-      more = d.more;
-      rest = d.rest;
-      missing_is = b.missing_is ∙ d.missing_is;
-      items_are = ap (λ (x : Items). definition place end_found x) (ap (λ (x : List Level). (innermost x).items) b.levels_are ∙ d.items_are)
-          ∙ ap (λ (x : ℕ). definition place x last) b.end_is ∙ ap (λ (x : ℕ). definition x end last) (sym e);
-      others_are = ap (λ (x : List Level). (innermost x).others) b.levels_are ∙ d.others_are;
-      outer_are = ap outer b.levels_are ∙ d.outer_are;
-    }
+define_then at end next conditionals found place number heads Rest e b d = grind (arith, levels_at)
 
 conditional_then : (at : ℕ) (first : Items) (others : Branches) (next : Items) (conditionals : List OpenConditional) (found : Option Missing) (place number : ℕ) (heads : List Head)
     (Rest Rest-1 Rest-2 Rest-3 : Rests) → at ≡ place
@@ -209,25 +139,7 @@ conditional_then : (at : ℕ) (first : Items) (others : Branches) (next : Items)
     → Items_then next conditionals x.all x.next x.more Rest
     → Items_then (conditional at first others next) conditionals found place (record { role = role.Conditional; number = number } ∷ heads) Rest
 unfolding open_at_end parts_from part_of after steps_from step_of ahead_of places_after levels_from
-conditional_then at first others next conditionals found place number heads Rest Rest-1 Rest-2 Rest-3 e f b x d =
-    let inner : List Level = levels_at (outside (record { number = number; plain_else = false } ∷ conditionals)) (place + 1) heads in
-    let last : Items = append next (innermost (levels_at (outside conditionals) d.next d.more)).items in
-    let firsts : (innermost inner).items ≡ first = f.items_are ∙ ap (append first) (b.items_are x.nothing) ∙ append-none first in
-    let branches : (innermost inner).others ≡ others = f.others_are ∙ b.others_are x.nothing in
-    let ends : outer inner ≡ levels_at (outside conditionals) x.next x.more = f.outer_are ∙ b.outer_are ∙ x.outer_are in
-    record {
-      all = d.all;
-      next = d.next;
-      more = d.more;
-      rest = d.rest;
-      missing_is = f.missing_is ∙ b.missing_is ∙ x.missing_is ∙ d.missing_is;
-      items_are = ap (λ (y : Items). conditional place y (innermost inner).others (innermost (outer inner)).items) firsts
-          ∙ ap (λ (y : Branches). conditional place first y (innermost (outer inner)).items) branches
-          ∙ ap (conditional place first others) (ap (λ (y : List Level). (innermost y).items) ends ∙ d.items_are)
-          ∙ ap (λ (y : ℕ). conditional y first others last) (sym e);
-      others_are = ap (λ (y : List Level). (innermost y).others) ends ∙ d.others_are;
-      outer_are = ap outer ends ∙ d.outer_are;
-    }
+conditional_then at first others next conditionals found place number heads Rest Rest-1 Rest-2 Rest-3 e f b x d = grind (arith, levels_at, append-none)
 
 -- a branch and those after it
 branch_then : (at : ℕ) (condition : Bool) (items : Items) (others : Branches) (opened : ℕ) (conditionals : List OpenConditional) (found : Option Missing) (place number : ℕ) (heads : List Head)
@@ -236,21 +148,7 @@ branch_then : (at : ℕ) (condition : Bool) (items : Items) (others : Branches) 
     → Branches_then others opened (not condition) conditionals f.all f.next f.more Rest
     → Branches_then (branch at condition items others) opened false conditionals found place (record { role = role.Else condition; number = number } ∷ heads) Rest
 unfolding open_at_end parts_from part_of after steps_from step_of ahead_of places_after levels_from
-branch_then at condition items others opened conditionals found place number heads Rest Rest-1 e f b =
-    let inner : List Level = levels_at (outside (record { number = opened; plain_else = not condition } ∷ conditionals)) (place + 1) heads in
-    record {
-      all = b.all;
-      next = b.next;
-      more = b.more;
-      plain_after = b.plain_after;
-      rest = b.rest;
-      missing_is = f.missing_is ∙ b.missing_is;
-      items_are = λ n. refl;
-      others_are = λ n.
-          ap (λ (y : Items). branch place condition y (innermost inner).others) (f.items_are ∙ ap (append items) (b.items_are n) ∙ append-none items)
-          ∙ ap (branch place condition items) (f.others_are ∙ b.others_are n) ∙ ap (λ (y : ℕ). branch y condition items others) (sym e);
-      outer_are = f.outer_are ∙ b.outer_are;
-    }
+branch_then at condition items others opened conditionals found place number heads Rest Rest-1 e f b = grind (arith, levels_at, not, append-none)
 
 late_then : (at : ℕ) (condition : Bool) (items : Items) (others : Branches) (opened : ℕ) (conditionals : List OpenConditional) (found : Option Missing) (place number : ℕ) (heads : List Head)
     (Rest Rest-1 : Rests) → at ≡ place
@@ -258,21 +156,7 @@ late_then : (at : ℕ) (condition : Bool) (items : Items) (others : Branches) (o
     → Branches_then others opened true conditionals f.all f.next f.more Rest
     → Branches_then (late at items others) opened true conditionals found place (record { role = role.Else condition; number = number } ∷ heads) Rest
 unfolding open_at_end parts_from part_of after steps_from step_of ahead_of places_after levels_from
-late_then at condition items others opened conditionals found place number heads Rest Rest-1 e f b =
-    let inner : List Level = levels_at (outside (record { number = opened; plain_else = true } ∷ conditionals)) (place + 1) heads in
-    record {
-      all = b.all;
-      next = b.next;
-      more = b.more;
-      plain_after = b.plain_after;
-      rest = b.rest;
-      missing_is = f.missing_is ∙ b.missing_is;
-      items_are = λ n. refl;
-      others_are = λ n.
-          ap (λ (y : Items). late place y (innermost inner).others) (f.items_are ∙ ap (append items) (b.items_are n) ∙ append-none items)
-          ∙ ap (late place items) (f.others_are ∙ b.others_are n) ∙ ap (λ (y : ℕ). late y items others) (sym e);
-      outer_are = f.outer_are ∙ b.outer_are;
-    }
+late_then at condition items others opened conditionals found place number heads Rest Rest-1 e f b = grind (arith, levels_at, append-none)
 
 -- by induction on the tree
 mutual
@@ -280,8 +164,7 @@ mutual
 
   items_then : (items : Items) (conditionals : List OpenConditional) (found : Option Missing) (place : ℕ) (heads : List Head) (Rest : Rests)
       → TakesItems (is_inside conditionals) items found place heads Rest → Items_then items conditionals found place heads Rest
-  items_then none conditionals found place heads Rest h =
-      record { all = found; next = place; more = heads; rest = h; missing_is = refl; items_are = refl; others_are = refl; outer_are = refl }
+  items_then none conditionals found place heads Rest h = grind arith
   items_then (line at next) conditionals found place [] Rest h = absurd h.1
   items_then (line at next) conditionals found place (head ∷ heads) Rest h =
       let P : Role → Type 0 = λ it. Items_then (line at next) conditionals found place (record { role = it; number = head.number } ∷ heads) Rest in

@@ -1,6 +1,6 @@
 -- Texts without an equals sign, which each operator ends in: they hold no assignment.
-use Rattle.std.proofs.Common.{◌≡◌, ◌==◌, ℕ, zero, suc, Bool, true, false, List, [], ◌∷◌, Option, Some, None, drop, refl, sym, ap, ◌∙◌, ⊎_elim, true≢false, codes, is_some, nat_eq}
-use Rattle.kt_syntax.proofs.Common.{and_right, cases_Bool, eqb-true, false_from_ne_true, or_parts, list_any, starts_with, Text, assigns_after, colon_place, is_target_specific, assignment_parts, name_end, operator_of, parts_after, past_blanks}
+use Rattle.std.proofs.Common.{arith, rules, ◌≡◌, ◌==◌, ℕ, zero, suc, Bool, true, false, List, [], ◌∷◌, Option, None, drop, refl, sym, ap, ◌∙◌, ⊎_elim, true≢false, codes, nat_eq}
+use Rattle.kt_syntax.proofs.Common.{and_right, cases_Bool, eqb-true, false_from_ne_true, or_parts, list_any, starts_with, Text, assigns_after, colon_place, is_target_specific, assignment_parts, name_end, operator_of, parts_after}
 
 abbrev is_sign : ℕ → Bool
 is_sign byte = byte == 61
@@ -23,16 +23,7 @@ beginless (byte ∷ needle) (first ∷ text) none some =
 
 pub no_sign_no_operator : (text : Text) → list_any is_sign text ≡ false → operator_of text ≡ None
 unfolding operator_of
-no_sign_no_operator text none =
-    rw (
-      beginless (codes "=") text none refl,
-      beginless (codes ":=") text none refl,
-      beginless (codes "::=") text none refl,
-      beginless (codes ":::=") text none refl,
-      beginless (codes "?=") text none refl,
-      beginless (codes "+=") text none refl,
-      beginless (codes "!=") text none refl,
-    ) refl
+no_sign_no_operator text none = search (rules, beginless, codes)
 
 none_dropped : (count : ℕ) (text : Text) → list_any is_sign text ≡ false → list_any is_sign (drop count text) ≡ false
 none_dropped zero text none = none
@@ -40,17 +31,14 @@ none_dropped (suc count) [] none = none
 none_dropped (suc count) (byte ∷ text) none = none_dropped count text (or_parts (is_sign byte) (list_any is_sign text) none).1
 
 no_parts : (text : Text) (mask : List ℕ) (name : Option ℕ) → list_any is_sign text ≡ false → parts_after text mask name ≡ None
-no_parts text mask None none = refl
-no_parts text mask (Some name) none =
-    rw (no_sign_no_operator (drop (past_blanks name mask) text) (none_dropped (past_blanks name mask) text none)) refl
+no_parts text mask name none = grind (arith, no_sign_no_operator, none_dropped)
 
 pub no_assignment : (text : Text) (mask : List ℕ) (begin : ℕ) → list_any is_sign text ≡ false → None ≡ assignment_parts text mask begin
 unfolding assignment_parts
 no_assignment text mask begin none = sym (no_parts text mask (name_end begin (drop begin mask) (drop begin text)) none)
 
 none_after : (text : Text) (mask : List ℕ) (colon : Option ℕ) → list_any is_sign text ≡ false → false ≡ assigns_after text mask colon
-none_after text mask None none = refl
-none_after text mask (Some colon) none = ap is_some (no_assignment text mask _ none)
+none_after text mask colon none = grind (arith, no_assignment)
 
 pub unsigned_is_unspecific : (text : Text) (mask : List ℕ) → list_any is_sign text ≡ false → false ≡ is_target_specific text mask
 unfolding is_target_specific

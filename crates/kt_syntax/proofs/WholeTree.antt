@@ -1,11 +1,11 @@
 -- At the first line of a text its whole tree is left.
-use Rattle.std.proofs.Common.{◌≡◌, ℕ, zero, suc, ◌+◌, Bool, true, false, not, List, [], ◌∷◌, Option, Some, None, refl, ap, ◌∙◌}
+use Rattle.std.proofs.Common.{arith, ◌≡◌, ℕ, ◌+◌, Bool, false, not, List, [], ◌∷◌, Option, Some, None, refl}
 use Rattle.kt_syntax.proofs.Common.{OpenConditional, OpenDefine, Head, Role}
 use Rattle.kt_syntax.specs.declared.role.Role.TheVariants as role
-use Rattle.kt_syntax.specs.Blocks.{Branches, Level, no_branch, blocks_of, innermost, levels_from, outer, tree_of}
+use Rattle.kt_syntax.specs.Blocks.{Level, no_branch, blocks_of, innermost, levels_from, outer, tree_of}
 use Rattle.kt_syntax.specs.Parts.{after, part_of, parts_from}
 use Rattle.kt_syntax.specs.Steps.{ahead_of, places_after, step_of, steps_from}
-use Rattle.kt_syntax.specs.Reading.{after_branches, append, left_at, left_of}
+use Rattle.kt_syntax.specs.Reading.{left_at, left_of}
 use Rattle.kt_syntax.proofs.Sound.{levels_at}
 use Rattle.kt_syntax.proofs.Unique.{append-none}
 
@@ -26,8 +26,7 @@ else_line : (condition : Bool) (number : ℕ) (heads : List Head) (place opened 
     → ((define : Option OpenDefine) (open_ones : List OpenConditional) → Rooted define open_ones (place + 1) heads)
     → Rooted None (record { number = opened; plain_else = plain_else } ∷ others) place (record { role = role.Else condition; number = number } ∷ heads)
 unfolding parts_from part_of after steps_from step_of ahead_of places_after levels_from
-else_line condition number heads place opened true others more = more None (record { number = opened; plain_else = true } ∷ others)
-else_line condition number heads place opened false others more = more None (record { number = opened; plain_else = not condition } ∷ others)
+else_line condition number heads place opened plain_else others more = grind (arith, not)
 
 -- a line outside defines
 outside : (line : Role) (number : ℕ) (heads : List Head) (place : ℕ) (conditionals : List OpenConditional)
@@ -52,13 +51,7 @@ inside : (line : Role) (number : ℕ) (heads : List Head) (place opened depth : 
     → ((define : Option OpenDefine) (open_ones : List OpenConditional) → Rooted define open_ones (place + 1) heads)
     → Rooted (Some (record { number = opened; depth = depth })) conditionals place (record { role = line; number = number } ∷ heads)
 unfolding parts_from part_of after steps_from step_of ahead_of places_after levels_from
-inside role.Ordinary number heads place opened depth conditionals more = more (Some (record { number = opened; depth = depth })) conditionals
-inside role.Conditional number heads place opened depth conditionals more = more (Some (record { number = opened; depth = depth })) conditionals
-inside (role.Else condition) number heads place opened depth conditionals more = more (Some (record { number = opened; depth = depth })) conditionals
-inside role.Endif number heads place opened depth conditionals more = more (Some (record { number = opened; depth = depth })) conditionals
-inside role.Define number heads place opened depth conditionals more = more (Some (record { number = opened; depth = depth + 1 })) conditionals
-inside role.Endef number heads place opened zero conditionals more = more None conditionals
-inside role.Endef number heads place opened (suc depth) conditionals more = more (Some (record { number = opened; depth = depth })) conditionals
+inside line number heads place opened depth conditionals more = grind arith
 
 rooted : (heads : List Head) (place : ℕ) (define : Option OpenDefine) (conditionals : List OpenConditional) → Rooted define conditionals place heads
 unfolding parts_from steps_from levels_from
@@ -70,11 +63,7 @@ rooted (head ∷ heads) place (Some define) conditionals =
 
 -- where only the text itself is left, its items are all that is
 root_items : (levels : List Level) → IsRooted [] levels → left_of levels ≡ (innermost levels).items
-root_items [] root = refl
-root_items (level ∷ levels) root =
-    ap (λ (others : Branches). append level.items (after_branches others (left_of levels))) root.0
-    ∙ ap (λ (round : List Level). append level.items (left_of round)) root.1
-    ∙ append-none level.items
+root_items levels root = grind (arith, append-none)
 
 pub whole_tree_is_left : (heads : List Head) → left_at (blocks_of heads).steps 0 ≡ tree_of (blocks_of heads).steps
 unfolding left_at
