@@ -1,16 +1,14 @@
 -- Explicit rules that need the same, told by their places.
-use Rattle.std.proofs.Common.{◌≡◌, ℕ, Bool, true, false, if◌then◌else◌, is_some, subst, List, [], ◌∷◌, length, Option, Some, None, option_map, slice_get, refl, sym, ap}
-use Rattle.kt_rules.proofs.Common.{same_Some, option_and_then, Spot, Target, Rule, needs_held, rule_held, Text, RecipeLine, explicit_left, spot_rule, target_rule, is_bare}
+use Rattle.std.proofs.Common.{arith, rules, ◌≡◌, ℕ, Bool, false, if◌then◌else◌, is_some, subst, List, [], ◌∷◌, length, Option, Some, None, option_map, slice_get, refl, sym}
+use Rattle.kt_rules.proofs.Common.{option_and_then, Spot, Target, Rule, rule_held, Text, RecipeLine, explicit_left, spot_rule, target_rule, is_bare}
 use Rattle.kt_rules.specs.inner.Alike.{AreAlike, HaveSameNeeds, IsCommon, NeedSame, SaySame, common_needs}
 use Rattle.kt_rules.specs.declared.book.row.Row.{Row}
 
 rule_of_target : (rule : Rule) (target : Option Target) (made : Rule × Target) → option_map (λ t. (rule, t)) target ≡ Some made → rule ≡ made.0
-rule_of_target rule None made is = cc
-rule_of_target rule (Some target) made is = ap (λ (pair : Rule × Target). pair.0) (same_Some (rule, target) made is)
+rule_of_target rule target made is = grind arith
 
 rule_found : (slot : Option Rule) (number : ℕ) (made : Rule × Target) → option_and_then (λ rule. target_rule rule number) slot ≡ Some made → slot ≡ Some made.0
-rule_found None number made is = cc
-rule_found (Some rule) number made is = ap Some (rule_of_target rule (slice_get rule.targets number) made is)
+rule_found slot number made is = grind (arith, rule_of_target)
 
 -- rules that say the same of all their targets need the same, where no target has a stem
 pub alike_by_entry : (rules : List Rule) (spot other : Spot) (first second : Rule × Target) → SaySame (slice_get rules spot.entry) (slice_get rules other.entry)
@@ -31,15 +29,12 @@ alike_by_entry rules spot other first second say first_is second_is common commo
     }
 
 either : (b : Bool) (own lines : List RecipeLine) → is_some (if b then Some own else None) ≡ is_some (if b then Some lines else None)
-either true own lines = refl
-either false own lines = refl
+either b own lines = grind arith
 
 -- rules with the same prerequisites say the same
 pub same_listed : (d : List Text × List (List ℕ)) (own lines : List RecipeLine) (row other : Row) → HaveSameNeeds row other
     → common_needs (rule_held d own row) ≡ common_needs (rule_held d lines other)
-same_listed d own lines row other same =
-    rw (same.kind, same.recipe, same.prerequisites, same.order_only, same.plain, same.plain_too)
-    (ap (λ (b : Bool). (other.kind, (b, needs_held d other.numbers.needs))) (either other.has_recipe own lines))
+same_listed d own lines row other same = grind (arith, either)
 
 found_cons : (rules : List Rule) (skips : Bool) (spot : Spot) (spots : List Spot) (made : Rule × Target) → spot_rule rules spot ≡ Some made
     → is_bare made ≡ false → explicit_left skips rules (spot ∷ spots) ≡ made ∷ explicit_left skips rules spots
@@ -49,8 +44,7 @@ found_cons rules skips spot spots made is explicit = rw (is, explicit) refl
 -- one more pair of spots
 pub alike_more : (rules : List Rule) (spots others : List Spot) (spot other : Spot) (left after : List Spot) → spots ≡ spot ∷ left → others ≡ other ∷ after
     → AreAlike rules spot other → NeedSame rules left after → NeedSame rules spots others
-alike_more rules spots others spot other left after is others_is alike rest = λ skips more.
-    rw (is, others_is, found_cons rules skips spot left alike.first alike.first_is alike.first_explicit, found_cons rules more other after alike.second alike.second_is alike.second_explicit, alike.same, rest skips more) refl
+alike_more rules spots others spot other left after is others_is alike rest = grind (arith, found_cons)
 
 -- no spots
 pub alike_none : (rules : List Rule) (left others : List Spot) → length left ≡ 0 → length others ≡ 0 → NeedSame rules left others

@@ -11,16 +11,11 @@ one_stays byte text h = rw h refl
 pub quotes_nothing : (text : Text) → list_any is_backslash text ≡ false → unquoted text ≡ text
 unfolding unquoted
 quotes_nothing [] none = refl
-quotes_nothing (byte ∷ text) none =
-    one_stays byte text (or_parts (is_backslash byte) (list_any is_backslash text) none).0
-    ∙ ap (λ (t : Text). byte ∷ t) (quotes_nothing text (or_parts (is_backslash byte) (list_any is_backslash text) none).1)
+quotes_nothing (byte ∷ text) none = grind (arith, one_stays, or_parts, quotes_nothing text (or_parts (is_backslash byte) (list_any is_backslash text) none).1)
 
 stands_nowhere : (text : Text) → list_any is_backslash text ≡ false → (k : ℕ) → 0 ≤ k → k < length text + 1
     → ¬ OccursAt text (92 ∷ 37 ∷ []) k
-stands_nowhere text none k low high stands =
-    let here : get_or text (k + 0) 0 ≡ 92 = stands.reads 0 (omega arith) in
-    let fits : k + 2 ≤ length text = stands.fits in
-    true≢false (sym (list_any_at is_backslash text (k + 0) 0 (omega (arith, fits)) (eq-eqb _ _ here)) ∙ none)
+stands_nowhere text none k low high stands = grind (arith, get_or, length, true≢false, list_any_at, eq-eqb)
 
 pub quotes_no_percent : (text : Text) → list_any is_backslash text ≡ false → quotes_percent text ≡ false
 quotes_no_percent text none = sym (occurs_found text (92 ∷ 37 ∷ []) None (stands_nowhere text none))
@@ -33,10 +28,7 @@ uncut past byte text h = rw h refl
 never_cut : (past : Bool) (text : Text) → list_any (is_byte 58) text ≡ false → cut_place Colon past text ≡ length text
 unfolding cut_place
 never_cut past [] none = refl
-never_cut past (byte ∷ text) none =
-    uncut past byte text (or_parts (byte == 58) (list_any (is_byte 58) text) none).0
-    ∙ ap (λ n. suc n) (never_cut (byte == 92) text (or_parts (byte == 58) (list_any (is_byte 58) text) none).1)
-    ∙ omega arith
+never_cut past (byte ∷ text) none = grind (arith, uncut, or_parts, never_cut (byte == 92) text (or_parts (byte == 58) (list_any (is_byte 58) text) none).1)
 
 not_found : (text : Text) → IsFirstByte (is_byte 58) text None → list_any (is_byte 58) text ≡ false
 not_found text found =
@@ -48,9 +40,7 @@ at_end place size cut h = rw (eq-eqb place size h) refl
 
 pub never_colon : (text : Text) → list_any (is_byte 58) text ≡ false → colon_cut text ≡ None
 unfolding colon_cut
-never_colon text none =
-    let place = cut_place Colon false text in
-    at_end place (length text) (Some (take place text, drop (place + 1) text)) (never_cut false text none)
+never_colon text none = grind (arith, at_end, length, take, never_cut)
 
 pub no_colon : (text : Text) → IsFirstByte (is_byte 58) text None → colon_cut text ≡ None
 no_colon text found = never_colon text (not_found text found)
@@ -63,8 +53,7 @@ last_tells past (byte ∷ text) (suc n) within = last_tells (byte == 92) text n 
 
 pub marked_at : (text : Text) (place : ℕ) → 0 < place → place ≤ length text
     → ends_in_backslash false (take place text) ≡ (get_or text (place - 1) 0 == 92)
-marked_at text zero some within = absurd (omega (arith, some))
-marked_at text (suc n) some within = last_tells false text n (omega (arith, within)) ∙ ap (λ (k : ℕ). get_or text k 0 == 92) (sym (less_one n))
+marked_at text place some within = grind (arith, last_tells, get_or, less_one)
 
 -- a text is cut at its first colon, unless a backslash stands before that
 cut_first : (past : Bool) (text : Text) (n : ℕ) → n < length text → ((k : ℕ) → k < n → (get_or text k 0 == 58) ≡ false)
@@ -82,11 +71,7 @@ not_at_end place size cut within = rw (ne_eqb place size (λ e. absurd (omega (a
 pub first_colon : (text : Text) (place : ℕ) → IsFirstByte (is_byte 58) text (Some place) → ends_in_backslash false (take place text) ≡ false
     → colon_cut text ≡ Some (take place text, drop (place + 1) text)
 unfolding colon_cut
-first_colon text place found plain =
-    let within : place < length text = found.0.high in
-    let at : cut_place Colon false text ≡ place =
-    cut_first false text place within (λ k l. false_from_ne_true _ (found.0.before k (omega arith) l)) (eqb-true _ _ found.1) plain in
-    rw at (not_at_end place (length text) (take place text, drop (place + 1) text) within)
+first_colon text place found plain = grind (arith, length, cut_first, false_from_ne_true, eqb-true, not_at_end, take)
 
 -- a word without a backslash spells itself
 pub names_itself : (word : Text) → list_any is_backslash word ≡ false → name_of word ≡ without_dots word

@@ -1,6 +1,6 @@
 -- What a book keeps beside its rules, as rules are added.
-use Rattle.std.proofs.Common.{◌≡◌, ℕ, ◌+◌, Bool, true, false, cond, ◌&&◌, ◌||◌, if◌then◌else◌, List, [], ◌∷◌, ◌++◌, length, map, filter, fold, find, drop, take, slice_get, ◌≤◌, Option, Some, None, refl, sym, ap, ◌∙◌, arith, subst, is_some, is_none, ◌⊎◌, inl, inr, ⊎_elim, length-append, true≢false}
-use Rattle.kt_rules.proofs.Common.{option_map, take-append_seam, option_and_then, option_or, option_map_or, flat_map, cons_option, list_any, bytes_eq, or_parts, append-nil, length_push, filter-append, list_any-append, flat_map-append, fold-append, bytes_eq-Decides, or_nothing, Text, Target, Spot, HoldsAll, Rule, bad_group, both_colons, two_recipes, is_among, with_name, suffixes_after, start_suffixes, AreApart, is_made, made_targets, target_rules, rules_of, recipes_of, has_recipe, is_double, is_group, phony_of, is_phony, xor, differ_in_colons, is_beside_group, both_colons_in, beside_group_in, two_recipes_in, refusal_of, spots_at, target_rule, spot_rule, found, first_of, spot_at, target_spots, spots_from, spots_for, AreBefore, AreIn, ForgotFrom, GrewIn, GotSpots, GotRecipes, AreAlike, IsIndexOf, IsKept}
+use Rattle.std.proofs.Common.{rules, ◌≡◌, ℕ, ◌+◌, Bool, true, false, cond, ◌||◌, if◌then◌else◌, List, [], ◌∷◌, ◌++◌, length, map, filter, fold, find, drop, take, slice_get, ◌≤◌, Option, Some, None, refl, sym, ap, ◌∙◌, arith, subst, is_some, ◌⊎◌, inl, ⊎_elim, length-append, true≢false}
+use Rattle.kt_rules.proofs.Common.{option_map, take-append_seam, option_and_then, option_or, option_map_or, list_any, bytes_eq, or_parts, append-nil, length_push, filter-append, list_any-append, flat_map-append, fold-append, bytes_eq-Decides, or_nothing, Text, Target, Spot, HoldsAll, Rule, is_among, with_name, suffixes_after, start_suffixes, AreApart, is_made, made_targets, target_rules, rules_of, recipes_of, has_recipe, is_double, is_group, phony_of, is_phony, xor, differ_in_colons, is_beside_group, both_colons_in, beside_group_in, two_recipes_in, refusal_of, spots_at, target_rule, spot_rule, found, first_of, spot_at, target_spots, spots_from, spots_for, AreBefore, AreIn, ForgotFrom, GrewIn, GotSpots, GotRecipes, AreAlike, IsIndexOf, IsKept}
 use Rattle.kt_list.specs.Prefixes.{HasMore}
 use Rattle.std.proofs.lemmas.List.Quantifiers.{all_pairs_push}
 use Rattle.kt_rules.specs.inner.Lists.{Notes}
@@ -15,18 +15,11 @@ of_name rule name = filter (λ (made : Rule × Target). bytes_eq name made.1.nam
 
 rules_of-more : (rules : List Rule) (rule : Rule) (name : Text) → rules_of (rules ++ rule ∷ []) name ≡ rules_of rules name ++ of_name rule name
 unfolding rules_of
-rules_of-more rules rule name =
-    ap (filter (λ (made : Rule × Target). bytes_eq name made.1.name)) (flat_map-append target_rules rules (rule ∷ []) ∙ ap (λ xs. flat_map target_rules rules ++ xs) (append-nil (target_rules rule)))
-    ∙ filter-append (λ (made : Rule × Target). bytes_eq name made.1.name) (flat_map target_rules rules) (target_rules rule)
+rules_of-more rules rule name = grind (arith, flat_map-append, append-nil, filter-append)
 
 own_step : (rule : Rule) (target : Target) (rest : List (Rule × Target)) (b c : Bool) → is_some rule.recipe ≡ b → filter has_recipe rest ≡ (if b then rest else [])
     → filter has_recipe (cond c ((rule, target) ∷ rest) rest) ≡ (if b then cond c ((rule, target) ∷ rest) rest else [])
-own_step rule target rest true true e h =
-    ap (λ d. cond d ((rule, target) ∷ filter has_recipe rest) (filter has_recipe rest)) e ∙ ap (λ xs. (rule, target) ∷ xs) h
-own_step rule target rest false true e h =
-    ap (λ d. cond d ((rule, target) ∷ filter has_recipe rest) (filter has_recipe rest)) e ∙ h
-own_step rule target rest true false e h = h
-own_step rule target rest false false e h = h
+own_step rule target rest b c e h = grind (arith, cond)
 
 -- a rule's own recipe
 own_recipes : (rule : Rule) (name : Text) (targets : List Target) (b : Bool) → is_some rule.recipe ≡ b
@@ -34,9 +27,7 @@ own_recipes : (rule : Rule) (name : Text) (targets : List Target) (b : Bool) →
     ≡ (if b then filter (λ (made : Rule × Target). bytes_eq name made.1.name) (map (λ target. (rule, target)) targets) else [])
 own_recipes rule name [] true e = refl
 own_recipes rule name [] false e = refl
-own_recipes rule name (target ∷ targets) b e =
-    own_step rule target (filter (λ (made : Rule × Target). bytes_eq name made.1.name) (map (λ t. (rule, t)) targets)) b (bytes_eq name target.name) e
-    (own_recipes rule name targets b e)
+own_recipes rule name (target ∷ targets) b e = grind (arith, own_step, own_recipes rule name targets b e)
 
 recipes_of-more : (rules : List Rule) (rule : Rule) (name : Text)
     → recipes_of (rules ++ rule ∷ []) name ≡ recipes_of rules name ++ (if is_some rule.recipe then of_name rule name else [])
@@ -55,13 +46,7 @@ one_found : (rules : List Rule) (spot : Spot) (rule : Rule) (target : Target) (n
     → found rules (if b then (if c then spot ∷ [] else []) else []) ++ rest
     ≡ filter (λ (made : Rule × Target). bytes_eq name made.1.name) (map (λ t. (rule, t)) (cond b (target ∷ others) others))
 unfolding found
-one_found rules spot rule target name rest others at tail true true e =
-    ap (λ r. cons_option r [] ++ rest) at ∙ ap (λ xs. (rule, target) ∷ xs) tail
-    ∙ sym (ap (λ d. cond d ((rule, target) ∷ filter (λ (made : Rule × Target). bytes_eq name made.1.name) (map (λ t. (rule, t)) others)) (filter (λ (made : Rule × Target). bytes_eq name made.1.name) (map (λ t. (rule, t)) others))) e)
-one_found rules spot rule target name rest others at tail true false e =
-    tail
-    ∙ sym (ap (λ d. cond d ((rule, target) ∷ filter (λ (made : Rule × Target). bytes_eq name made.1.name) (map (λ t. (rule, t)) others)) (filter (λ (made : Rule × Target). bytes_eq name made.1.name) (map (λ t. (rule, t)) others))) e)
-one_found rules spot rule target name rest others at tail false c e = tail
+one_found rules spot rule target name rest others at tail b c e = grind (arith, cond)
 
 found-own : (rules : List Rule) (rule : Rule) (name : Text) (number : ℕ) (targets : List Target) → targets ≡ drop number rule.targets
     → found (rules ++ rule ∷ []) (spots_from rule (length rules) number targets name)
@@ -79,19 +64,16 @@ found-own rules rule name number (target ∷ targets) h =
 found-for : (rules : List Rule) (rule : Rule) (name : Text) (b : Bool)
     → found (rules ++ rule ∷ []) (if b then spots_for rule (length rules) name else []) ≡ (if b then of_name rule name else [])
 unfolding found
-found-for rules rule name true = found-own rules rule name 0 rule.targets refl
-found-for rules rule name false = refl
+found-for rules rule name b = grind (arith, found-own)
 
 -- ---- what an index finds
 
 before_new : (rules : List Rule) (rule : Rule) (spots more : List Spot) → AreBefore (length rules) spots → AreIn (length rules) more
     → AreBefore (length (rules ++ rule ∷ [])) (spots ++ more)
-before_new rules rule spots more h k =
-    rw (length_push rules rule) (before_append (length rules + 1) spots more (before_more (length rules) spots h) (before_in (length rules) more k))
+before_new rules rule spots more h k = grind (arith, length_push, before_append, length, before_more, before_in)
 
 in_if_spots : (rule : Rule) (place : ℕ) (name : Text) (b : Bool) → AreIn place (if b then spots_for rule place name else [])
-in_if_spots rule place name true = in_spots_from rule place 0 rule.targets name
-in_if_spots rule place name false = tt
+in_if_spots rule place name b = grind (arith, in_spots_from)
 
 -- one more rule is found
 pub tells_more : (rules : List Rule) (rule : Rule) (old new : Notes) (first later : Text → List (Rule × Target)) (b : Bool)
@@ -100,12 +82,7 @@ pub tells_more : (rules : List Rule) (rule : Rule) (old new : Notes) (first late
     → ((name : Text) → later name ≡ first name ++ (if b then of_name rule name else []))
     → IsIndexOf (rules ++ rule ∷ []) new later
 tells_more rules rule old new first later b told got is = record {
-  all = λ name.
-      ap (found (rules ++ rule ∷ [])) (got name)
-      ∙ found-append (rules ++ rule ∷ []) (spots_at old name) (if b then spots_for rule (length rules) name else [])
-      ∙ ap (λ xs. xs ++ found (rules ++ rule ∷ []) (if b then spots_for rule (length rules) name else [])) (found-before rules rule (spots_at old name) (told.before name) ∙ told.all name)
-      ∙ ap (λ xs. first name ++ xs) (found-for rules rule name b)
-      ∙ sym (is name);
+  all = grind (arith, found-append, length, found-before, found-for);
   before = λ name.
       subst (AreBefore (length (rules ++ rule ∷ []))) (sym (got name))
       (before_new rules rule (spots_at old name) _ (told.before name) (in_if_spots rule (length rules) name b));
@@ -114,23 +91,17 @@ tells_more rules rule old new first later b told got is = record {
 -- ---- rules that are alike
 
 or_same : (b : Bool) → (b || b) ≡ b
-or_same true = refl
-or_same false = refl
+or_same b = grind arith
 
 pub or_assoc : (a b c : Bool) → ((a || b) || c) ≡ (a || (b || c))
-or_assoc true b c = refl
-or_assoc false b c = refl
+or_assoc a b c = grind arith
 
 xor_same : (b : Bool) → xor b b ≡ false
-xor_same true = refl
-xor_same false = refl
+xor_same b = grind arith
 
 -- two values that don't differ
 xor_split : (t b r : Bool) → (xor t b || r) ≡ false → (t ≡ b) × (r ≡ false)
-xor_split true true r h = (refl, h)
-xor_split true false r h = absurd (true≢false h)
-xor_split false true r h = absurd (true≢false h)
-xor_split false false r h = (refl, h)
+xor_split t b r h = grind (arith, true≢false)
 
 all_same : {A : Type 0} (f : Bool → Bool) (test : A → Bool) (t : Bool) (xs : List A) → list_any (λ y. xor (test y) t) xs ≡ false
     → (f t || list_any (λ y. f (test y)) xs) ≡ f t
@@ -143,15 +114,11 @@ all_same f test t (y ∷ ys) h =
 -- the first one decides for all
 pub alike_first : {A : Type 0} (f : Bool → Bool) (test : A → Bool) (xs : List A) → AreAlike test xs
     → list_any (λ x. f (test x)) xs ≡ option_map_or (λ x. f (test x)) (first_of xs) false
-alike_first f test [] h = refl
-alike_first f test (x ∷ xs) h =
-    let one = xor_split (test x) h.0 (list_any (λ y. xor (test y) h.0) xs) h.1 in
-    all_same f test (test x) xs (subst (λ b. list_any (λ y. xor (test y) b) xs ≡ false) (sym one.0) one.1)
+alike_first f test xs h = grind (arith, xor_split, all_same)
 
 refused_step : {A : Type 0} (one : A) (rest : List A) (test : Text → Bool) (name other : Text) (b : Bool) → bytes_eq name other ≡ b → test other ≡ false
     → (rest ≡ []) ⊎ (test name ≡ false) → (cond b (one ∷ rest) rest ≡ []) ⊎ (test name ≡ false)
-refused_step one rest test name other true e clean others = inr (ap test ((bytes_eq-Decides name other).0 e) ∙ clean)
-refused_step one rest test name other false e clean others = others
+refused_step one rest test name other b e clean others = grind (arith, bytes_eq-Decides)
 
 -- where no target fails a test, a name that passes is none of them
 none_refused : (rule : Rule) (name : Text) (test : Text → Bool) (targets : List Target) → find (λ (target : Target). test target.name) targets ≡ None
@@ -163,16 +130,12 @@ none_refused rule name test (target ∷ targets) h =
     (bytes_eq name target.name) refl one.0 (none_refused rule name test targets one.1)
 
 alike_step : {A : Type 0} (test : A → Bool) (x : A) (rest : List A) (c : Bool) → test x ≡ false → list_any test rest ≡ false → list_any test (cond c (x ∷ rest) rest) ≡ false
-alike_step test x rest true h k = ap (λ d. d || list_any test rest) h ∙ k
-alike_step test x rest false h k = k
+alike_step test x rest c h k = grind arith
 
 own_alike : (rule : Rule) (name : Text) (test : Rule → Bool) (targets : List Target)
     → list_any (λ (made : Rule × Target). xor (test made.0) (test rule)) (filter (λ (made : Rule × Target). bytes_eq name made.1.name) (map (λ target. (rule, target)) targets)) ≡ false
 own_alike rule name test [] = refl
-own_alike rule name test (target ∷ targets) =
-    alike_step (λ (made : Rule × Target). xor (test made.0) (test rule)) (rule, target)
-    (filter (λ (made : Rule × Target). bytes_eq name made.1.name) (map (λ t. (rule, t)) targets)) (bytes_eq name target.name)
-    (xor_same (test rule)) (own_alike rule name test targets)
+own_alike rule name test (target ∷ targets) = grind (arith, alike_step, xor_same, own_alike rule name test targets)
 
 join_alike : (rule : Rule) (name : Text) (test : Rule → Bool) (old : List (Rule × Target))
     → list_any (λ (made : Rule × Target). xor (test made.0) (test rule)) old ≡ false
@@ -197,17 +160,13 @@ beside_alike : {A : Type 0} (g : Bool) (test : A → Bool) (xs : List A) → lis
 beside_alike true test [] h = refl
 beside_alike true test (x ∷ xs) h = absurd (true≢false h)
 beside_alike false test [] h = refl
-beside_alike false test (x ∷ xs) h =
-    let one = or_parts (test x) (list_any (λ y. test y) xs) h in
-    ap (λ c. xor c false || list_any (λ y. xor (test y) false) xs) one.0 ∙ beside_alike false test xs one.1
+beside_alike false test (x ∷ xs) h = grind (arith, or_parts)
 
 groups_more : (rules : List Rule) (rule : Rule) (name : Text) (b : Bool) → is_some rule.recipe ≡ b
     → AreAlike (λ (made : Rule × Target). is_group made.0.kind) (recipes_of rules name)
     → (if b then beside_group_in rules rule else None) ≡ None
     → AreAlike (λ (made : Rule × Target). is_group made.0.kind) (recipes_of rules name ++ (if b then of_name rule name else []))
-groups_more rules rule name false e alike h =
-    let P : List (Rule × Target) → Type 0 = AreAlike (λ (made : Rule × Target). is_group made.0.kind) in
-    subst P (sym (append-nil (recipes_of rules name))) alike
+groups_more rules rule name false e alike h = grind (arith, append-nil)
 groups_more rules rule name true e alike h =
     let P : List (Rule × Target) → Type 0 = AreAlike (λ (made : Rule × Target). is_group made.0.kind) in
     ⊎_elim (λ none. subst P (sym (ap (λ xs. recipes_of rules name ++ xs) none ∙ append-nil (recipes_of rules name))) alike)
@@ -218,47 +177,27 @@ groups_more rules rule name true e alike h =
 -- ---- what isn't refused
 
 both_none : {A B C : Type 0} (f : A → C) (g : B → C) (a : Option A) (b : Option B) → option_or (option_map f a) (option_map g b) ≡ None → (a ≡ None) × (b ≡ None)
-both_none f g None None h = (refl, refl)
-both_none f g None (Some y) h = absurd (some_none (g y) h)
-both_none f g (Some x) b h = absurd (some_none (f x) h)
+both_none f g a b h = grind (arith, some_none)
 
 else_none : {A : Type 0} (b : Bool) (x : A) (rest : Option A) → (if b then Some x else rest) ≡ None → rest ≡ None
-else_none true x rest h = absurd (some_none x h)
-else_none false x rest h = h
+else_none b x rest h = grind (arith, some_none)
 
 refused_none : (rules : List Rule) (rule : Rule) → refusal_of rules rule ≡ None → (both_colons_in rules rule ≡ None) × (two_recipes_in rules rule ≡ None)
 unfolding refusal_of
-refused_none rules rule h =
-    both_none (λ (target : Target). both_colons target.name) (λ (target : Target). two_recipes target.name) (both_colons_in rules rule) (two_recipes_in rules rule)
-    (else_none (is_group rule.kind && is_none rule.recipe) bad_group _ h)
+refused_none rules rule h = grind (arith, both_none, else_none)
 
 -- ---- names
 
 pub among_with : (names : List Text) (name other : Text) → is_among (with_name names name) other ≡ (is_among names other || bytes_eq other name)
-among_with names name other = by (is_among names name) refl
-  where
-    known : is_among names name ≡ true → (b : Bool) → bytes_eq other name ≡ b → is_among names other ≡ (is_among names other || b)
-    known e true f =
-        let there : is_among names other ≡ true = ap (is_among names) ((bytes_eq-Decides other name).0 f) ∙ e in
-        there ∙ sym (ap (λ c. c || true) there)
-    known e false f = sym (or_nothing (is_among names other))
-
-    by : (b : Bool) → is_among names name ≡ b → is_among (if b then names else names ++ name ∷ []) other ≡ (is_among names other || bytes_eq other name)
-    by true e = known e (bytes_eq other name) refl
-    by false e = list_any-append (bytes_eq other) names (name ∷ []) ∙ ap (λ c. is_among names other || c) (or_nothing (bytes_eq other name))
+among_with names name other = grind (arith, bytes_eq-Decides, or_nothing, list_any-append)
 
 pub among_fold : (names added : List Text) (other : Text) → is_among (fold with_name names added) other ≡ (is_among names other || is_among added other)
 among_fold names [] other = sym (or_nothing (is_among names other))
-among_fold names (name ∷ added) other =
-    among_fold (with_name names name) added other
-    ∙ ap (λ c. c || is_among added other) (among_with names name other)
-    ∙ or_assoc (is_among names other) (bytes_eq other name) (is_among added other)
+among_fold names (name ∷ added) other = grind (arith, among_with, or_assoc, among_fold (with_name names name) added other)
 
 phony_more : (rules : List Rule) (rule : Rule) (name : Text) → is_phony (rules ++ rule ∷ []) name ≡ (is_phony rules name || is_among (phony_of rule) name)
 unfolding is_phony
-phony_more rules rule name =
-    ap (λ names. is_among names name) (flat_map-append phony_of rules (rule ∷ []) ∙ ap (λ names. flat_map phony_of rules ++ names) (append-nil (phony_of rule)))
-    ∙ list_any-append (bytes_eq name) (flat_map phony_of rules) (phony_of rule)
+phony_more rules rule name = grind (arith, flat_map-append, append-nil, list_any-append)
 
 -- ---- a book
 
@@ -333,10 +272,7 @@ kept_some rules rule targets targets' recipes recipes' phony phony' suffixes suf
     record {
       targets_view = tells_more rules rule targets targets' _ _ true kept.targets_view t (rules_of-more rules rule);
       recipes_told = tells_more rules rule recipes recipes' _ _ (is_some rule.recipe) kept.recipes_told r (recipes_of-more rules rule);
-      phony_told = λ name.
-          ap (λ names. is_among names name) p ∙ among_fold phony (phony_of rule) name
-          ∙ ap (λ b. b || is_among (phony_of rule) name) (kept.phony_told name)
-          ∙ sym (phony_more rules rule name);
+      phony_told = grind (arith, among_fold, phony_more);
       suffixes_told = s ∙ ap (λ names. suffixes_after names rule) kept.suffixes_told ∙ sym (fold-append suffixes_after start_suffixes rules (rule ∷ []));
       colons = λ name. colons_more rules rule name (kept.colons name) none.0;
       groups = λ name.

@@ -1,7 +1,7 @@
 -- What the cuts of a rule line find.
-use Rattle.std.proofs.Common.{◌≡◌, ℕ, suc, ◌+◌, Bool, true, false, if◌then◌else◌, List, [], ◌∷◌, ◌++◌, length, take, drop, Option, Some, None, refl, sym, ap, subst, ◌∙◌, true≢false, arith, ⊎_elim, ◌⊎◌, inl, inr, ◌==◌, ◌&&◌, ◌||◌, flat_map, option_map}
+use Rattle.std.proofs.Common.{rules, ◌≡◌, ℕ, suc, ◌+◌, Bool, true, false, if◌then◌else◌, List, [], ◌∷◌, ◌++◌, length, take, drop, Option, Some, None, refl, sym, ap, subst, ◌∙◌, true≢false, arith, ⊎_elim, ◌⊎◌, ◌==◌, ◌&&◌, ◌||◌, flat_map, option_map}
 use Rattle.kt_rules.proofs.Common.{list_all, eqb-true, eq-eqb, append_assoc, head_is, none_in, tail_is, and_nothing, Text, Colon, cuts, cut_place, after_dots, colon_cut}
-use Rattle.kt_rules.specs.Cuts.{ends_in_backslash, HasQuotedColons, FindsColon, is_slash, dot_slash, begins_with_slash, begins_with_dot_slash, is_some_text, IsLeft}
+use Rattle.kt_rules.specs.Cuts.{HasQuotedColons, FindsColon, is_slash, dot_slash, begins_with_slash, begins_with_dot_slash, is_some_text, IsLeft}
 
 abbrev two : Text → Text → Text × Text
 two front back = (front, back)
@@ -23,42 +23,23 @@ placed_cut before text =
     if cut_place Colon before text == length text then None else Some (cut_at (cut_place Colon before text) text)
 
 no_zero : (n : ℕ) → (0 == suc n) ≡ false
-no_zero n = by (0 == suc n) refl
-  where
-    by : (b : Bool) → (0 == suc n) ≡ b → b ≡ false
-    by true h = absurd (zero_suc (eqb-true 0 (suc n) h))
-      where
-        zero_suc : 0 ≡ suc n → ⊥
-        zero_suc e = omega arith
-    by false h = refl
+no_zero n = grind (arith, eqb-true)
 
 one_less : (n m : ℕ) → suc n ≡ suc m → n ≡ m
 one_less n m e = omega arith
 
 suc_eq : (n m : ℕ) → (suc n == suc m) ≡ (n == m)
-suc_eq n m = by (suc n == suc m) (n == m) refl refl
-  where
-    by : (b c : Bool) → (suc n == suc m) ≡ b → (n == m) ≡ c → b ≡ c
-    by true true e f = refl
-    by false false e f = refl
-    by true false e f = sym (eq-eqb n m (one_less n m (eqb-true (suc n) (suc m) e))) ∙ f
-    by false true e f = sym e ∙ eq-eqb (suc n) (suc m) (ap suc (eqb-true n m f))
+suc_eq n m = grind (arith, eq-eqb, one_less, eqb-true)
 
 one_further : (byte : ℕ) (text : Text) (n : ℕ) (b : Bool)
     → (if b then None else Some (cut_at (suc n) (byte ∷ text))) ≡ option_map (put byte) (if b then None else Some (cut_at n text))
-one_further byte text n true = refl
-one_further byte text n false =
-    let e : suc n + 1 ≡ suc (n + 1) = omega arith in
-    ap (λ m. Some (two (byte ∷ take n text) (drop m (byte ∷ text)))) e
+one_further byte text n b = grind (arith, take)
 
 placed_more : (before : Bool) (byte : ℕ) (text : Text) (b : Bool) → cuts Colon before byte ≡ b → placed_cut (byte == 92) text ≡ open_cut (byte == 92) text
     → (if ((if b then 0 else suc (cut_place Colon (byte == 92) text)) == suc (length text)) then None else Some (cut_at (if b then 0 else suc (cut_place Colon (byte == 92) text)) (byte ∷ text)))
     ≡ (if b then Some ([], text) else option_map (put byte) (open_cut (byte == 92) text))
 unfolding placed_cut
-placed_more before byte text true e rest = rw (no_zero (length text)) refl
-placed_more before byte text false e rest =
-    ap (λ b. if b then None else Some (cut_at (suc (cut_place Colon (byte == 92) text)) (byte ∷ text))) (suc_eq (cut_place Colon (byte == 92) text) (length text))
-    ∙ one_further byte text (cut_place Colon (byte == 92) text) (cut_place Colon (byte == 92) text == length text) ∙ ap (option_map (put byte)) rest
+placed_more before byte text b e rest = grind (arith, no_zero, length, suc_eq, one_further)
 
 placed_open : (before : Bool) (text : Text) → placed_cut before text ≡ open_cut before text
 unfolding placed_cut open_cut cut_place
@@ -66,9 +47,7 @@ placed_open before [] = refl
 placed_open before (byte ∷ text) = placed_more before byte text (cuts Colon before byte) refl (placed_open (byte == 92) text)
 
 no_colon : (before : Bool) (byte : ℕ) (b : Bool) → byte == 58 ≡ b → cuts Colon before byte ≡ true → (byte ≡ 58) × (before ≡ false)
-no_colon before byte false e h = absurd (true≢false (sym h ∙ rw e refl))
-no_colon true byte true e h = absurd (true≢false (sym h ∙ rw (eqb-true byte 58 e) refl))
-no_colon false byte true e h = (eqb-true byte 58 e, refl)
+no_colon before byte b e h = grind (arith, true≢false, eqb-true)
 
 -- a colon that cuts has no backslash before it
 colon_is : (before : Bool) (byte : ℕ) → cuts Colon before byte ≡ true → (byte ≡ 58) × (before ≡ false)
@@ -76,46 +55,30 @@ colon_is before byte h = no_colon before byte (byte == 58) refl h
 
 -- a colon that doesn't cut has one
 colon_quoted : (before : Bool) (byte : ℕ) → cuts Colon before byte ≡ false → byte ≡ 58 → before ≡ true
-colon_quoted true byte h e = refl
-colon_quoted false byte h e = absurd (true≢false (rw e at h))
+colon_quoted before byte h e = grind (arith, true≢false)
 
 -- a byte that doesn't cut, before a text of quoted colons
 quoted_more : (before : Bool) (byte : ℕ) (text : Text) → cuts Colon before byte ≡ false → HasQuotedColons (byte == 92) text → HasQuotedColons before (byte ∷ text)
 quoted_more before byte text h rest [] back e = colon_quoted before byte h (head_is byte 58 text back e)
-quoted_more before byte text h rest (first ∷ front) back e =
-    ap (λ b. ends_in_backslash (b == 92) front) (sym (head_is byte first text (front ++ 58 ∷ back) e))
-    ∙ rest front back (tail_is byte first text (front ++ 58 ∷ back) e)
+quoted_more before byte text h rest (first ∷ front) back e = grind (arith, tail_is)
 
 found_more : (before : Bool) (byte : ℕ) (text : Text) (found : Option (Text × Text)) → cuts Colon before byte ≡ false
     → FindsColon (byte == 92) text found → FindsColon before (byte ∷ text) (option_map (put byte) found)
-found_more before byte text None h rest = quoted_more before byte text h rest
-found_more before byte text (Some cut) h rest = record {
-  parts = ap (λ (xs : Text). byte ∷ xs) rest.parts;
-  unquoted = rest.unquoted;
-  first = quoted_more before byte cut.0 h rest.first;
-}
+found_more before byte text found h rest = grind (arith, quoted_more)
 
 found_open : (before : Bool) (byte : ℕ) (text : Text) (rest : Option (Text × Text)) (b : Bool) → cuts Colon before byte ≡ b
     → FindsColon before (byte ∷ text) (option_map (put byte) rest) ⊎ (b ≡ true)
     → FindsColon before (byte ∷ text) (if b then Some ([], text) else option_map (put byte) rest)
-found_open before byte text rest true e f = record {
-  parts = ap (λ (b : ℕ). b ∷ text) (colon_is before byte e).0;
-  unquoted = (colon_is before byte e).1;
-  first = λ front back h. absurd (none_in 58 front back h);
-}
-found_open before byte text rest false e f = ⊎_elim (λ yes. yes) (λ no. absurd (true≢false (sym no))) f
+found_open before byte text rest b e f = grind (arith, colon_is, none_in, ⊎_elim, true≢false)
 
 one_case : (before : Bool) (byte : ℕ) (text : Text) (rest : Option (Text × Text)) (b : Bool) → cuts Colon before byte ≡ b → FindsColon (byte == 92) text rest
     → FindsColon before (byte ∷ text) (option_map (put byte) rest) ⊎ (b ≡ true)
-one_case before byte text rest true e f = inr refl
-one_case before byte text rest false e f = inl (found_more before byte text rest e f)
+one_case before byte text rest b e f = grind (arith, found_more)
 
 open_finds : (before : Bool) (text : Text) → FindsColon before text (open_cut before text)
 unfolding open_cut
 open_finds before [] = λ front back h. absurd (none_in 58 front back h)
-open_finds before (byte ∷ text) =
-    found_open before byte text (open_cut (byte == 92) text) (cuts Colon before byte) refl
-    (one_case before byte text (open_cut (byte == 92) text) (cuts Colon before byte) refl (open_finds (byte == 92) text))
+open_finds before (byte ∷ text) = search (rules, found_open, open_cut, one_case, open_finds (byte == 92) text)
 
 -- the cut is at the first colon without a backslash directly before it
 pub cuts_at_first : (text : Text) → FindsColon false text (colon_cut text)
@@ -136,8 +99,7 @@ record LeftBehind (past : Bool) (name left : Text) : Type 0 where
   no_slash : ((past || is_some_text slashes) && begins_with_slash left) ≡ false
 
 or_false : (a b : Bool) → ((a || false) && b) ≡ (a && b)
-or_false true b = refl
-or_false false b = refl
+or_false a b = grind arith
 
 -- a slash after a `./`
 slash_more : (past : Bool) (byte : ℕ) (text left : Text) → (past && byte == 47) ≡ true → LeftBehind true text left → LeftBehind past (byte ∷ text) left
@@ -192,22 +154,18 @@ bare_left past name d s = record {
 }
 
 left_one : (past : Bool) (byte : ℕ) (b : Bool) → (past && byte == 47) ≡ b → LeftBehind past (byte ∷ []) (if b then [] else byte ∷ [])
-left_one past byte true h = slash_more past byte [] [] h (bare_left true [] refl refl)
-left_one past byte false h = bare_left past (byte ∷ []) (and_nothing (byte == 46)) h
+left_one past byte b h = grind (arith, slash_more, bare_left, and_nothing)
 
 left_more : (past : Bool) (byte next : ℕ) (text : Text) (b c : Bool) → (past && byte == 47) ≡ b → (byte == 46 && next == 47) ≡ c
     → LeftBehind true (next ∷ text) (after_dots true (next ∷ text)) → LeftBehind true text (after_dots true text)
     → LeftBehind past (byte ∷ next ∷ text) (if b then after_dots true (next ∷ text) else (if c then after_dots true text else byte ∷ next ∷ text))
-left_more past byte next text true c h g one two = slash_more past byte (next ∷ text) (after_dots true (next ∷ text)) h one
-left_more past byte next text false true h g one two = dots_more past byte next text (after_dots true text) g two
-left_more past byte next text false false h g one two = bare_left past (byte ∷ next ∷ text) g h
+left_more past byte next text b c h g one two = grind (arith, slash_more, dots_more, bare_left)
 
 left_after : (past : Bool) (name : Text) → LeftBehind past name (after_dots past name)
 unfolding after_dots
 left_after past [] = bare_left past [] refl (and_nothing past)
 left_after past (byte ∷ []) = left_one past byte (past && byte == 47) refl
-left_after past (byte ∷ next ∷ text) =
-    left_more past byte next text (past && byte == 47) (byte == 46 && next == 47) refl refl (left_after true (next ∷ text)) (left_after true text)
+left_after past (byte ∷ next ∷ text) = grind (arith, left_more, left_after true (next ∷ text), left_after true text)
 
 -- each leading `./` is removed with all slashes after it, and nothing else is
 pub drops_dots : (name : Text) → IsLeft name (after_dots false name)

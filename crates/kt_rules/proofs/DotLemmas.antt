@@ -1,19 +1,15 @@
 -- Names without leading `./`.
-use Rattle.std.proofs.Common.{◌≡◌, ℕ, ◌-◌, Bool, true, false, [], ◌∷◌, length, drop, take, refl, sym, ◌∙◌, ap, ⊎_elim, ◌&&◌, ◌==◌, nat_eq}
+use Rattle.std.proofs.Common.{arith, ◌≡◌, ℕ, ◌-◌, Bool, true, false, [], ◌∷◌, length, drop, take, refl, sym, ◌∙◌, ⊎_elim, ◌&&◌, ◌==◌, nat_eq}
 use Rattle.kt_rules.proofs.Common.{prefix_len, pointwise, cases_Bool, false≢true, take_rest, and_nothing, drop-prefix_len, Text, after_dots}
 
 -- a last test that passes changes nothing
 both : (a b v : Bool) → (a && (b && true)) ≡ v → (a && b) ≡ v
-both true true v h = h
-both true false v h = h
-both false b v h = h
+both a b v h = grind arith
 
 -- a name that doesn't begin with `./` stays
 pub no_dots : (name : Text) → pointwise nat_eq (take 2 name) (46 ∷ 47 ∷ []) ≡ false → after_dots false name ≡ name
 unfolding after_dots
-no_dots [] h = refl
-no_dots (byte ∷ []) h = refl
-no_dots (byte ∷ next ∷ text) h = rw (both (byte == 46) (next == 47) false h) refl
+no_dots name h = grind (arith, both)
 
 -- a leading `./` is removed with the slashes after it
 pub one_dot : (name : Text) → pointwise nat_eq (take 2 name) (46 ∷ 47 ∷ []) ≡ true → after_dots false name ≡ after_dots true (drop 2 name)
@@ -33,6 +29,4 @@ no_slashes (byte ∷ next ∷ text) =
 -- a leading `./` is removed with the slashes after it, however many there are
 pub past_slashes : (name after : Text) (slashes : ℕ) → pointwise nat_eq (take 2 name) (46 ∷ 47 ∷ []) ≡ true → after ≡ drop 2 name
     → slashes ≡ prefix_len (λ byte. byte == 47) after → after_dots false name ≡ after_dots false (take (length after - slashes) (drop slashes after))
-past_slashes name after slashes h a s =
-    one_dot name h ∙ ap (after_dots true) (sym a) ∙ no_slashes after ∙ ap (λ n. after_dots false (drop n after)) (sym s)
-    ∙ ap (after_dots false) (sym (take_rest after slashes))
+past_slashes name after slashes h a s = grind (arith, one_dot, no_slashes, take_rest)

@@ -1,6 +1,6 @@
 -- Searches, and names added after others.
-use Rattle.std.proofs.Common.{◌≡◌, ℕ, ◌+◌, ◌<◌, Bool, true, false, cond, if◌then◌else◌, List, [], ◌∷◌, ◌++◌, fold, find, filter, map, take, drop, length, get_or, ◌&&◌, Option, Some, None, refl, sym, ap, ◌∙◌}
-use Rattle.kt_rules.proofs.Common.{append-nil, append_assoc, drop_more, Text, is_among, with_name}
+use Rattle.std.proofs.Common.{arith, ◌≡◌, ℕ, ◌+◌, ◌<◌, Bool, true, false, cond, if◌then◌else◌, List, [], ◌∷◌, ◌++◌, fold, find, filter, map, take, drop, length, get_or, ◌&&◌, Option, Some, None, refl, sym, ap, ◌∙◌}
+use Rattle.kt_rules.proofs.Common.{append-nil, append_assoc, drop_more, Text, with_name}
 
 one_grows : (names : List Text) (name : Text) (b : Bool) → (more : List Text) × ((if b then names else names ++ name ∷ []) ≡ names ++ more)
 one_grows names name true = ([], sym (append-nil names))
@@ -9,10 +9,7 @@ one_grows names name false = (name ∷ [], refl)
 -- added names are after the others
 pub names_grow : (names added : List Text) → (more : List Text) × (fold with_name names added ≡ names ++ more)
 names_grow names [] = ([], sym (append-nil names))
-names_grow names (name ∷ added) =
-    let one : (more : List Text) × (with_name names name ≡ names ++ more) = one_grows names name (is_among names name) in
-    let rest = names_grow (with_name names name) added in
-    (one.0 ++ rest.0, rest.1 ∙ ap (λ (xs : List Text). xs ++ rest.0) one.1 ∙ append_assoc names one.0 rest.0)
+names_grow names (name ∷ added) = grind (arith, one_grows, append_assoc, names_grow (with_name names name) added)
 
 take_front : (xs ys : List Text) → take (length xs) (xs ++ ys) ≡ xs
 take_front [] ys = refl
@@ -27,39 +24,20 @@ take_grown names added new count e grown =
 -- the first of two filters of a list, from a place on
 pub find_at : {A : Type 0} (made test : A → Bool) (xs : List A) (i : ℕ) (x : A) → i < length xs → x ≡ get_or xs i x
     → find test (filter made (drop i xs)) ≡ cond (made x && test x) (Some x) (find test (filter made (drop (i + 1) xs)))
-find_at made test xs i x h e =
-    ap (λ ys. find test (filter made ys)) (drop_more xs i x h)
-    ∙ ap (λ y. find test (filter made (y ∷ drop (i + 1) xs))) (sym e)
-    ∙ by (made x) (test x) refl
-  where
-    by : (a b : Bool) → test x ≡ b → find test (cond a (x ∷ filter made (drop (i + 1) xs)) (filter made (drop (i + 1) xs))) ≡ cond (a && b) (Some x) (find test (filter made (drop (i + 1) xs)))
-    by true b f = ap (λ c. cond c (Some x) (find test (filter made (drop (i + 1) xs)))) f
-    by false b f = refl
+find_at made test xs i x h e = grind (arith, drop_more, cond)
 
 -- the same for the rest of a list
 pub find_left : {A : Type 0} (made test : A → Bool) (left rest : List A) (x : A) (b : Bool) → left ≡ x ∷ rest → b ≡ (made x && test x)
     → find test (filter made left) ≡ cond b (Some x) (find test (filter made rest))
-find_left made test left rest x b is told =
-    ap (λ ys. find test (filter made ys)) is ∙ by (made x) (test x) refl ∙ ap (λ c. cond c (Some x) (find test (filter made rest))) (sym told)
-  where
-    by : (a c : Bool) → test x ≡ c → find test (cond a (x ∷ filter made rest) (filter made rest)) ≡ cond (a && c) (Some x) (find test (filter made rest))
-    by true c f = ap (λ d. cond d (Some x) (find test (filter made rest))) f
-    by false c f = refl
+find_left made test left rest x b is told = grind (arith, cond)
 
 pub filter_left : {A B : Type 0} (made test : A → Bool) (f : A → B) (left rest : List A) (x : A) → left ≡ x ∷ rest
     → map f (filter test (filter made left)) ≡ (if made x && test x then f x ∷ [] else []) ++ map f (filter test (filter made rest))
-filter_left made test f left rest x is = ap (λ ys. map f (filter test (filter made ys))) is ∙ by (made x) (test x) refl
-  where
-    by : (a b : Bool) → test x ≡ b → map f (filter test (cond a (x ∷ filter made rest) (filter made rest)))
-        ≡ (if a && b then f x ∷ [] else []) ++ map f (filter test (filter made rest))
-    by true true g = ap (λ c. map f (cond c (x ∷ filter test (filter made rest)) (filter test (filter made rest)))) g
-    by true false g = ap (λ c. map f (cond c (x ∷ filter test (filter made rest)) (filter test (filter made rest)))) g
-    by false b g = refl
+filter_left made test f left rest x is = grind (arith, cond)
 
 pub some_none : {A : Type 0} (x : A) → Some x ≡ None → ⊥
 some_none x h = cc
 
 -- where nothing is found
 pub find_none : {A : Type 0} (b : Bool) (x : A) (rest : Option A) → cond b (Some x) rest ≡ None → (b ≡ false) × (rest ≡ None)
-find_none true x rest h = absurd (some_none x h)
-find_none false x rest h = (refl, h)
+find_none b x rest h = grind (arith, some_none)

@@ -1,13 +1,12 @@
 -- Explicit rules and goals, rule by rule.
-use Rattle.std.proofs.Common.{◌≡◌, Bool, true, false, cond, not, ◌&&◌, ◌||◌, if◌then◌else◌, List, [], ◌∷◌, ◌++◌, filter, find, Option, Some, None, refl, sym, ap, ◌∙◌, is_some}
+use Rattle.std.proofs.Common.{arith, rules, ◌≡◌, Bool, false, cond, not, ◌&&◌, ◌||◌, if◌then◌else◌, List, [], ◌∷◌, ◌++◌, filter, find, Option, Some, None, refl, sym, ap, ◌∙◌, is_some}
 use Rattle.kt_rules.proofs.Common.{false≢true, or_parts, option_map, option_or, option_map_or, All, filter_map, flat_map, cons_option, list_any, bytes_eq, All-append, All-filter, All-head, All-map, All-nil, All-tail, All-weaker, list_any_none, Text, Kind, Target, Spot, Rule, is_bare_at, is_bare, suffix_patterns, suffixes_of, goal_in, has_recipe, is_goal, made_targets, first_goal_by, target_rules, explicit_rules, rules_of, recipes_of, is_double, is_group, xor, differ_in_colons, is_beside_group, spots_at, found, first_of, first_found, spot_rule, unless, explicit_left, IsKept}
 use Rattle.kt_rules.specs.inner.Lists.{Notes}
 use Rattle.kt_rules.proofs.BookLemmas.{alike_first}
 
 goal_step : {A B : Type 0} (f : A → B) (x : A) (both one other : Option A) (b : Bool) → option_map f both ≡ option_or (option_map f one) (option_map f other)
     → option_map f (cond b (Some x) both) ≡ option_or (option_map f (cond b (Some x) one)) (option_map f other)
-goal_step f x both one other true h = refl
-goal_step f x both one other false h = h
+goal_step f x both one other b h = grind arith
 
 goal_append : {A B : Type 0} (test : A → Bool) (f : A → B) (xs ys : List A)
     → option_map f (find test (xs ++ ys)) ≡ option_or (option_map f (find test xs)) (option_map f (find test ys))
@@ -18,9 +17,7 @@ goal_append test f (x ∷ xs) ys = goal_step f x (find test (xs ++ ys)) (find te
 pub goal_left : (suffixes : List Text) (left rest : List Rule) (rule : Rule) → left ≡ rule ∷ rest
     → first_goal_by suffixes left ≡ option_or (goal_in suffixes rule) (first_goal_by suffixes rest)
 unfolding first_goal_by
-goal_left suffixes left rest rule is =
-    ap (λ rules. option_map (λ (made : Rule × Target). made.1.name) (find (is_goal suffixes) (flat_map target_rules rules))) is
-    ∙ goal_append (is_goal suffixes) (λ (made : Rule × Target). made.1.name) (target_rules rule) (flat_map target_rules rest)
+goal_left suffixes left rest rule is = grind (arith, goal_append)
 
 pub goal_none : (suffixes : List Text) (left : List Rule) → left ≡ [] → first_goal_by suffixes left ≡ None
 unfolding first_goal_by
@@ -28,13 +25,11 @@ goal_none suffixes left is = ap (λ rules. option_map (λ (made : Rule × Target
 
 unless_kept : {B : Type 0} (test : B → Bool) (y : B) (rest : List B) (b : Bool)
     → cons_option (if b then None else Some y) rest ≡ cond (not b) (y ∷ rest) rest
-unless_kept test y rest true = refl
-unless_kept test y rest false = refl
+unless_kept test y rest b = grind arith
 
 unless_one : {B : Type 0} (test : B → Bool) (o : Option B) (left rest : List B) → left ≡ filter (λ y. not (test y)) rest
     → cons_option (unless test o) left ≡ filter (λ y. not (test y)) (cons_option o rest)
-unless_one test None left rest h = h
-unless_one test (Some y) left rest h = unless_kept test y left (test y) ∙ ap (λ xs. cond (not (test y)) (y ∷ xs) xs) h
+unless_one test o left rest h = grind (arith, unless_kept, cond, not)
 
 filter_unless : {A B : Type 0} (test : B → Bool) (f : A → Option B) (xs : List A)
     → filter_map (λ x. unless test (f x)) xs ≡ filter (λ y. not (test y)) (filter_map f xs)
@@ -102,8 +97,7 @@ module _ (held : List Rule) (targets recipes : Notes) (phony suffixes : List Tex
 
 bare_cons : (one : Option (Rule × Target)) (rest : List (Rule × Target)) (b : Bool) → b ≡ list_any is_bare rest
     → (option_map_or is_bare one false || b) ≡ list_any is_bare (cons_option one rest)
-bare_cons None rest b h = h
-bare_cons (Some made) rest b h = ap (λ c. is_bare made || c) h
+bare_cons one rest b h = grind arith
 
 -- testing the rules at spots is testing the rules found there
 bare_found : (held : List Rule) (spots : List Spot) → list_any (is_bare_at held) spots ≡ list_any is_bare (found held spots)
@@ -113,21 +107,17 @@ bare_found held (spot ∷ spots) = bare_cons (spot_rule held spot) (found held s
 
 keep_one : (made : Rule × Target) (rest one other : List (Rule × Target)) (skips a b : Bool) → is_bare made ≡ a → (a || b) ≡ false → one ≡ other
     → cond (not (a && false)) (made ∷ one) one ≡ cond (not (a && skips)) (made ∷ other) other
-keep_one made rest one other skips true b e h same = absurd (false≢true (sym h))
-keep_one made rest one other skips false b e h same = ap (λ xs. made ∷ xs) same
+keep_one made rest one other skips a b e h same = grind (arith, false≢true)
 
 -- if no rule has the form of a suffix rule, none is skipped
 none_bare : (skips : Bool) (rules : List (Rule × Target)) → list_any is_bare rules ≡ false
     → filter (λ made. not (is_bare made && false)) rules ≡ filter (λ made. not (is_bare made && skips)) rules
 none_bare skips [] h = refl
-none_bare skips (made ∷ rules) h =
-    keep_one made rules (filter (λ (other : Rule × Target). not (is_bare other && false)) rules) (filter (λ (other : Rule × Target). not (is_bare other && skips)) rules) skips
-    (is_bare made) (list_any is_bare rules) refl h (none_bare skips rules (or_parts (is_bare made) (list_any is_bare rules) h).1)
+none_bare skips (made ∷ rules) h = grind (arith, keep_one, not, or_parts, none_bare skips rules (or_parts (is_bare made) (list_any is_bare rules) h).1)
 
 guarded : (skips any : Bool) (rules : List (Rule × Target)) → list_any is_bare rules ≡ any
     → filter (λ made. not (is_bare made && (any && skips))) rules ≡ filter (λ made. not (is_bare made && skips)) rules
-guarded skips true rules h = refl
-guarded skips false rules h = none_bare skips rules h
+guarded skips any rules h = grind (arith, none_bare)
 
 module _ (held : List Rule) (targets recipes : Notes) (phony suffixes : List Text) (kept : IsKept held targets recipes phony suffixes)
     (rules : List Rule) (view : held ≡ rules) (name : Text) where

@@ -1,6 +1,6 @@
 -- Groups share no target with other rules that have a recipe.
-use Rattle.std.proofs.Common.{◌≡◌, ℕ, zero, suc, ◌<◌, Bool, true, false, cond, ◌||◌, if◌then◌else◌, List, [], ◌∷◌, length, map, filter, find, get_or, None, refl, sym, ap, ◌∙◌, arith, is_some}
-use Rattle.kt_rules.proofs.Common.{or_parts, flat_map, list_any, bytes_eq, filter-append, list_any-append, Text, Target, Rule, AreApart, beside_group_in, has_recipe, is_beside_group, is_group, made_targets, makes, recipes_of, rules_of, target_rules, two_recipes_in}
+use Rattle.std.proofs.Common.{rules, ◌≡◌, ℕ, zero, suc, ◌<◌, Bool, true, false, cond, ◌||◌, List, [], ◌∷◌, length, map, filter, find, get_or, None, refl, sym, ap, ◌∙◌, arith, is_some}
+use Rattle.kt_rules.proofs.Common.{or_parts, list_any, bytes_eq, filter-append, list_any-append, Text, Target, Rule, AreApart, has_recipe, is_beside_group, is_group, made_targets, makes, recipes_of, rules_of, two_recipes_in}
 use Rattle.kt_rules.proofs.FindLemmas.{find_none}
 
 -- if none passes a test, none passes a stricter one
@@ -18,36 +18,24 @@ own_recipes rule name targets =
 
 beside_step : (later : Rule) (made : Rule × Target) (rest : List (Rule × Target)) (c b : Bool) → has_recipe made ≡ true → is_beside_group later made ≡ true
     → list_any (is_beside_group later) (filter has_recipe rest) ≡ b → list_any (is_beside_group later) (filter has_recipe (cond c (made ∷ rest) rest)) ≡ (c || b)
-beside_step later made rest false b r g h = h
-beside_step later made rest true b r g h =
-    ap (λ d. list_any (is_beside_group later) (cond d (made ∷ filter has_recipe rest) (filter has_recipe rest))) r
-    ∙ ap (λ d. d || list_any (is_beside_group later) (filter has_recipe rest)) g
+beside_step later made rest c b r g h = grind (arith, cond)
 
 beside_made : (later rule : Rule) (name : Text) (targets : List Target) → is_some rule.recipe ≡ true → (is_group later.kind || is_group rule.kind) ≡ true
     → list_any (is_beside_group later) (own_recipes rule name targets) ≡ list_any (λ (target : Target). bytes_eq name target.name) targets
 beside_made later rule name [] r g = refl
-beside_made later rule name (target ∷ targets) r g =
-    beside_step later (rule, target) (filter (λ (made : Rule × Target). bytes_eq name made.1.name) (map (λ t. (rule, t)) targets)) (bytes_eq name target.name)
-    (list_any (λ (t : Target). bytes_eq name t.name) targets) r g (beside_made later rule name targets r g)
+beside_made later rule name (target ∷ targets) r g = grind (arith, beside_step, beside_made later rule name targets r g)
 
 -- the recipes of a name are those of the first rule and those of the others
 any_recipe : (test : Rule × Target → Bool) (name : Text) (rule : Rule) (rules : List Rule)
     → list_any test (recipes_of (rule ∷ rules) name) ≡ (list_any test (own_recipes rule name (made_targets rule)) || list_any test (recipes_of rules name))
 unfolding recipes_of rules_of
-any_recipe test name rule rules =
-    let named = λ (made : Rule × Target). bytes_eq name made.1.name in
-    ap (λ made. list_any test (filter has_recipe made)) (filter-append named (target_rules rule) (flat_map target_rules rules))
-    ∙ ap (list_any test) (filter-append has_recipe (filter named (target_rules rule)) (filter named (flat_map target_rules rules)))
-    ∙ list_any-append test (filter has_recipe (filter named (target_rules rule))) (filter has_recipe (filter named (flat_map target_rules rules)))
+any_recipe test name rule rules = grind (arith, filter-append, list_any-append)
 
 -- what has no second recipe beside a group isn't made by one of the rules
 not_made : (later : Rule) (name : Text) (rules : List Rule) (k : ℕ) (d : Rule) → k < length rules → is_some (get_or rules k d).recipe ≡ true
     → (is_group later.kind || is_group (get_or rules k d).kind) ≡ true → list_any (is_beside_group later) (recipes_of rules name) ≡ false → makes (get_or rules k d) name ≡ false
 not_made later name [] k d h r g e = absurd (omega arith)
-not_made later name (rule ∷ rules) zero d h r g e =
-    let both = sym (any_recipe (is_beside_group later) name rule rules) ∙ e in
-    sym (beside_made later rule name (made_targets rule) r g)
-    ∙ (or_parts (list_any (is_beside_group later) (own_recipes rule name (made_targets rule))) (list_any (is_beside_group later) (recipes_of rules name)) both).0
+not_made later name (rule ∷ rules) zero d h r g e = grind (arith, any_recipe, beside_made, or_parts)
 not_made later name (rule ∷ rules) (suc k) d h r g e =
     let both = sym (any_recipe (is_beside_group later) name rule rules) ∙ e in
     not_made later name rules k d (omega arith) r g
@@ -55,7 +43,4 @@ not_made later name (rule ∷ rules) (suc k) d h r g e =
 
 -- a rule that gives no target a second recipe beside a group is apart from all before it
 pub apart_last : (rules : List Rule) (last : Rule) → two_recipes_in rules last ≡ None → (k : ℕ) (d : Rule) → k < length rules → AreApart (get_or rules k d) last
-apart_last rules last h k d within earlier later group =
-    none_left (λ target. list_any (is_beside_group last) (recipes_of rules target.name)) (λ target. makes (get_or rules k d) target.name)
-    (λ target. not_made last target.name rules k d within earlier group) (made_targets last)
-    (sym (ap (λ b. if b then beside_group_in rules last else None) later) ∙ h)
+apart_last rules last h k d within earlier later group = grind (arith, none_left, get_or, not_made)

@@ -1,5 +1,5 @@
 -- The words of a head: each text is cut into words and separators, in one way.
-use Rattle.std.proofs.Common.{◌≡◌, ℕ, suc, Bool, true, false, List, [], ◌∷◌, ◌++◌, length, take, map, filter, flat_map, All, refl, sym, ap, subst, ◌∙◌, true≢false, arith, ⊎_elim, ◌⊎◌, inl, inr, append_assoc, append-nil, ◌==◌}
+use Rattle.std.proofs.Common.{rules, ◌≡◌, ℕ, suc, Bool, true, false, List, [], ◌∷◌, ◌++◌, length, take, map, filter, flat_map, All, refl, sym, ap, subst, ◌∙◌, true≢false, arith, ⊎_elim, ◌⊎◌, inl, inr, append_assoc, append-nil, ◌==◌}
 use Rattle.kt_rules.proofs.Common.{onto_first, All-cons, All-head, All-nil, All-tail, less_one, none_in, and_nothing, Text, is_nonempty, is_separator, Separator, pieces_of, written_words}
 use Rattle.kt_rules.specs.Cuts.{ends_in_backslash}
 use Rattle.kt_rules.specs.HeadWords.{separates, HoldsNoSeparator, HeadWord, part_text, part_word, IsPart, HasGap, AreSeparated, AreWords, WrittenWordsLaw}
@@ -30,14 +30,11 @@ one_skipped byte text h = rw h refl
 
 gap_skipped : (gap rest : Text) → AreSeparators gap → written_words (gap ++ rest) ≡ written_words rest
 gap_skipped [] rest h = refl
-gap_skipped (byte ∷ gap) rest h =
-    one_skipped byte (gap ++ rest) (first_is byte gap h)
-    ∙ gap_skipped gap rest (others_are byte gap h)
+gap_skipped (byte ∷ gap) rest h = grind (arith, one_skipped, first_is, others_are, gap_skipped gap rest (others_are byte gap h))
 
 word_kept : (word : Text) (words : List Text) → is_nonempty word ≡ true
     → filter is_nonempty (word ∷ words) ≡ word ∷ filter is_nonempty words
-word_kept [] words h = absurd (true≢false (sym h))
-word_kept (byte ∷ word) words h = refl
+word_kept word words h = grind (arith, true≢false)
 
 -- where there is no separator, nothing follows
 abbrev Goes : {A : Type 0} → Text → List A → Type 0
@@ -48,23 +45,12 @@ one_word : (word gap rest : Text) → is_nonempty word ≡ true → HoldsNoSepar
     → QuotesNone false word gap → Goes gap rest
     → written_words ((word ++ gap) ++ rest) ≡ word ∷ written_words rest
 unfolding pieces_of written_words
-one_word word [] rest some holds gaps q end =
-    ⊎_elim (λ h. absurd (true≢false (sym h)))
-    (λ h. rw h (ap written_words (append-nil (word ++ []) ∙ append-nil word)
-    ∙ ap (filter is_nonempty) (word_alone false word holds) ∙ word_kept word [] some)) end
-one_word word (byte ∷ gap) rest some holds gaps q end =
-    let one = first_is byte gap gaps in
-    ap written_words (append_assoc word (byte ∷ gap) rest)
-    ∙ ap (filter is_nonempty)
-    (word_ends false word (gap ++ rest) byte holds (separates_too (ends_in_backslash false word) byte one q))
-    ∙ word_kept word (pieces_of Separator false (gap ++ rest)) some
-    ∙ ap (λ (words : List Text). word ∷ words) (gap_skipped gap rest (others_are byte gap gaps))
+one_word word [] rest some holds gaps q end = grind (arith, ⊎_elim, true≢false, append-nil, word_alone, word_kept)
+one_word word (byte ∷ gap) rest some holds gaps q end = grind (arith, first_is, append_assoc, word_ends, separates_too, word_kept, gap_skipped, others_are)
 
 -- the gaps of parts, without the first, and with one more
 apart_first : (part next : HeadWord) (parts : List HeadWord) → AreSeparated (part ∷ next ∷ parts) → HasGap part
-apart_first part next parts h =
-    All-head HasGap part (take (length parts) (next ∷ parts))
-    (subst (λ n. All HasGap (take n (part ∷ next ∷ parts))) (less_one (suc (length parts))) h)
+apart_first part next parts h = grind (arith, All-head, take, length, less_one)
 
 apart_less : (part next : HeadWord) (parts : List HeadWord) → AreSeparated (part ∷ next ∷ parts)
     → AreSeparated (next ∷ parts)
@@ -75,21 +61,14 @@ apart_less part next parts h =
 
 apart_more : (part : HeadWord) (parts : List HeadWord) → Goes part.gap parts → AreSeparated parts
     → AreSeparated (part ∷ parts)
-apart_more part [] g h = subst (λ n. All HasGap (take n (part ∷ []))) (sym (less_one 0)) (All-nil HasGap)
-apart_more part (next ∷ parts) g h =
-    let has : HasGap part = ⊎_elim (λ yes. yes) (λ no. absurd (none_in next [] parts (sym no))) g in
-    subst (λ n. All HasGap (take n (part ∷ next ∷ parts))) (sym (less_one (suc (length parts))))
-    (All-cons HasGap part (take (length parts) (next ∷ parts)) has
-    (subst (λ n. All HasGap (take n (next ∷ parts))) (less_one (length parts)) h))
+apart_more part parts g h = grind (arith, take, less_one, All-nil, ⊎_elim, none_in, length, All-cons)
 
 -- parts that are put together are cut again
 words_of_parts : (parts : List HeadWord) → All IsPart parts → AreSeparated parts
     → written_words (flat_map part_text parts) ≡ map part_word parts
 unfolding written_words pieces_of
 words_of_parts [] each apart = refl
-words_of_parts (part ∷ []) each apart =
-    let one = All-head IsPart part [] each in
-    one_word part.word part.gap [] one.some one.whole one.past.separators one.past.unquoted (inr refl)
+words_of_parts (part ∷ []) each apart = search (rules, All-head, one_word)
 words_of_parts (part ∷ next ∷ parts) each apart =
     let one = All-head IsPart part (next ∷ parts) each in
     one_word part.word part.gap (flat_map part_text (next ∷ parts))
@@ -101,8 +80,7 @@ words_of_parts (part ∷ next ∷ parts) each apart =
 are_written : (text leading : Text) (parts : List HeadWord) → text ≡ leading ++ flat_map part_text parts
     → AreSeparators leading
     → All IsPart parts → AreSeparated parts → written_words text ≡ map part_word parts
-are_written text leading parts e gap each apart =
-    ap written_words e ∙ gap_skipped leading (flat_map part_text parts) gap ∙ words_of_parts parts each apart
+are_written text leading parts e gap each apart = grind (arith, gap_skipped, words_of_parts)
 
 -- a text cut up after a byte: the rest of a word, separators, and parts
 record CutUp (before : Bool) (text : Text) : Type 0 where
@@ -122,8 +100,7 @@ part_of word gap = record { word = word; gap = gap }
 
 is_part : (byte : ℕ) (word gap : Text) → HoldsNoSeparator false (byte ∷ word) → AreSeparators gap
     → QuotesNone false (byte ∷ word) gap → IsPart (part_of (byte ∷ word) gap)
-is_part byte word gap holds gaps q =
-    record { some = refl; whole = holds; past = record { separators = gaps; unquoted = q } }
+is_part byte word gap holds gaps q = grind arith
 
 -- a byte that separates, before a word or before separators
 cut_gap : (before : Bool) (byte : ℕ) (text first gap : Text) (parts : List HeadWord) → separates before byte ≡ true
@@ -157,12 +134,7 @@ cut_gap before byte text (letter ∷ word) gap parts s e holds gaps q each apart
 
 cut_more : (before : Bool) (byte : ℕ) (text : Text) → CutUp (byte == 92) text → (b : Bool) → separates before byte ≡ b
     → CutUp before (byte ∷ text)
-cut_more before byte text rest true s =
-    let no : (byte == 92) ≡ false = no_backslash byte (is_one before byte s) in
-    cut_gap before byte text rest.first rest.gap rest.parts s rest.together
-    (subst (λ b. HoldsNoSeparator b rest.first) no rest.holds) rest.separators
-    (subst (λ b. QuotesNone b rest.first rest.gap) no rest.unquoted)
-    rest.each rest.apart rest.between
+cut_more before byte text rest true s = grind (arith, no_backslash, is_one, cut_gap)
 cut_more before byte text rest false s = record {
   first = byte ∷ rest.first;
   gap = rest.gap;
@@ -193,15 +165,7 @@ cut_up before (byte ∷ text) = cut_more before byte text (cut_up (byte == 92) t
 
 from_all : (text leading : Text) (parts : List HeadWord) → text ≡ leading ++ flat_map part_text parts
     → AreSeparators leading → All IsPart parts → AreSeparated parts → AreWords text (written_words text)
-from_all text leading parts e gap each apart = record {
-  leading = leading;
-  parts = parts;
-  together = e;
-  are_words = are_written text leading parts e gap each apart;
-  before = record { separators = gap; unquoted = refl };
-  each = each;
-  apart = apart;
-}
+from_all text leading parts e gap each apart = grind (arith, are_written)
 
 -- from the start: the first word may be missing
 from_parts : (text first gap : Text) (parts : List HeadWord) → text ≡ first ++ (gap ++ flat_map part_text parts)
@@ -221,8 +185,7 @@ some_words text =
     cut.apart cut.between
 
 only_words : (text : Text) (words : List Text) → AreWords text words → words ≡ written_words text
-only_words text words are =
-    are.are_words ∙ sym (are_written text are.leading are.parts are.together are.before.separators are.each are.apart)
+only_words text words are = grind (arith, are_written)
 
 pub written_words_law : WrittenWordsLaw
 written_words_law = record { some = some_words; only = only_words }

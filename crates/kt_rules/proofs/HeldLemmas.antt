@@ -1,5 +1,5 @@
 -- Rules whose names are held as numbers.
-use Rattle.std.proofs.Common.{◌≡◌, ℕ, zero, suc, ◌+◌, min, Bool, true, false, if◌then◌else◌, List, [], ◌∷◌, ◌++◌, length, take, get_or, slice_get, Option, Some, None, is_some, option_map, unwrap_or, refl, sym, ap, ◌∙◌, subst, arith, length-append}
+use Rattle.std.proofs.Common.{rules, ◌≡◌, ℕ, zero, suc, ◌+◌, min, Bool, true, false, if◌then◌else◌, List, [], ◌∷◌, ◌++◌, length, take, get_or, slice_get, Option, Some, None, is_some, option_map, unwrap_or, refl, sym, ap, ◌∙◌, subst, arith, length-append}
 use Rattle.kt_rules.proofs.Common.{All, length-take, All-cons, All-head, All-nil, All-push, All-tail, All-take, All-weaker, Text, Kinds, Kind, Needs, RecipeLine, Rule, rule_by, is_double, is_group, AreHeld, AreNeeds, AreRuleNumbers, Grows, IsKnown, IsLast, needs_held, rule_held, rules_held, sees}
 use Rattle.kt_rules.proofs.DictionaryLemmas.{list_stays, number_named_if, number_stays_if, numbers_named}
 use Rattle.kt_rules.specs.declared.book.row.NeedsNumbers.{NeedsNumbers}
@@ -11,10 +11,7 @@ use Rattle.kt_rules.specs.declared.entry.Kind.TheVariants.{SingleColon, DoubleCo
 -- ---- a rule by its numbers
 
 needs_named : (d : List Text × List (List ℕ)) (needs : Needs) (numbers : NeedsNumbers) → AreNeeds d needs numbers → needs_held d numbers ≡ needs
-needs_named d needs numbers are =
-    let first = numbers_named d.0 (get_or d.1 numbers.prerequisites []) needs.prerequisites are.0.numbers in
-    let second = numbers_named d.0 (get_or d.1 numbers.order_only []) needs.order_only are.1.numbers in
-    λ j. record { prerequisites = first j; order_only = second j }
+needs_named d needs numbers are = grind (arith, numbers_named, get_or)
 
 -- the rule that has these names
 pub rule_named : (d : List Text × List (List ℕ)) (lines : List RecipeLine) (row : Row) (targets : List Text) (pattern : Option Text) (needs : Needs)
@@ -29,20 +26,14 @@ rule_named d lines row targets pattern needs are =
 -- ---- what is held, when the dictionary grows
 
 pub needs_stay : (old new : List Text × List (List ℕ)) (needs : Needs) (numbers : NeedsNumbers) → Grows old new → AreNeeds old needs numbers → AreNeeds new needs numbers
-needs_stay old new needs numbers grew are =
-    (list_stays old new numbers.prerequisites needs.prerequisites grew are.0, list_stays old new numbers.order_only needs.order_only grew are.1)
+needs_stay old new needs numbers grew are = search (rules, list_stays)
 
 rule_stays : (old new : List Text × List (List ℕ)) (targets : List Text) (pattern : Option Text) (needs : Needs) (numbers : RuleNumbers) → Grows old new
     → AreRuleNumbers old targets pattern needs numbers → AreRuleNumbers new targets pattern needs numbers
-rule_stays old new targets pattern needs numbers grew are = record {
-  of_targets = list_stays old new numbers.targets targets grew are.of_targets;
-  of_pattern = number_stays_if old.0 new.0 numbers.pattern pattern grew.0 are.of_pattern;
-  of_needs = needs_stay old new needs numbers.needs grew are.of_needs;
-}
+rule_stays old new targets pattern needs numbers grew are = search (rules, list_stays, number_stays_if, needs_stay)
 
 pub last_stays : (old new : List Text × List (List ℕ)) (last : Option LastNeeds) → Grows old new → IsLast old last → IsLast new last
-last_stays old new None grew is = tt
-last_stays old new (Some last) grew is = needs_stay old new last.needs.value.1 last.numbers grew is
+last_stays old new last grew is = grind (arith, needs_stay)
 
 known_more : (old new : List Text × List (List ℕ)) (kinds kinds' : Kinds) → Grows old new → ((other : Kind) → sees kinds other ≡ true → sees kinds' other ≡ true)
     → (row : Row) → IsKnown kinds old row → IsKnown kinds' new row
@@ -74,11 +65,7 @@ module _ (old new : List Text × List (List ℕ)) (recipes : List (List RecipeLi
   grown_rules = rules_more old new grew kinds recipes rows held.known
 
   pub grown_held : AreHeld new recipes rows kinds last
-  grown_held = record {
-    many = held.many;
-    known = All-weaker (IsKnown kinds old) (IsKnown kinds new) (known_more old new kinds kinds grew (λ other seen. seen)) rows held.known;
-    remembered = last_stays old new last grew held.remembered;
-  }
+  grown_held = grind (arith, All-weaker, known_more, last_stays)
 
 -- ---- places
 
@@ -101,9 +88,7 @@ rules_many d (lines ∷ recipes) (row ∷ rows) many = let others = rules_many d
 pub rule_told : (told : List Text × List Rule) (d : List Text × List (List ℕ)) (recipes : List (List RecipeLine)) (rows : List Row) (place : ℕ) (row : Option Row)
     → (d.0, rules_held d recipes rows) ≡ told → length recipes ≡ length rows → row ≡ slice_get rows place
     → option_map (rule_held d (get_or recipes place [])) row ≡ slice_get told.1 place
-rule_told told d recipes rows place row view many is =
-    ap (option_map (rule_held d (get_or recipes place []))) is ∙ sym (rule_found d recipes rows place many)
-    ∙ ap (λ (all : List Text × List Rule). slice_get all.1 place) view
+rule_told told d recipes rows place row view many is = grind (arith, get_or, rule_found)
 
 -- one more
 rules_push : (d : List Text × List (List ℕ)) (recipes : List (List RecipeLine)) (rows : List Row) (lines : List RecipeLine) (row : Row) → length recipes ≡ length rows
@@ -141,9 +126,7 @@ none_held : (test : Kind → Bool) (d : List Text × List (List ℕ)) (recipes :
     → All (λ rule. test rule.kind ≡ false) (rules_held d recipes rows)
 none_held test d [] rows kinds none known = All-nil (λ rule. test rule.kind ≡ false)
 none_held test d (lines ∷ recipes) [] kinds none known = All-nil (λ rule. test rule.kind ≡ false)
-none_held test d (lines ∷ recipes) (row ∷ rows) kinds none known =
-    All-cons (λ rule. test rule.kind ≡ false) (rule_held d lines row) (rules_held d recipes rows)
-    (none row.kind (All-head (IsKnown kinds d) row rows known).seen) (none_held test d recipes rows kinds none (All-tail (IsKnown kinds d) row rows known))
+none_held test d (lines ∷ recipes) (row ∷ rows) kinds none known = grind (arith, All-cons, All-head, All-tail, none_held test d recipes rows kinds none (All-tail (IsKnown kinds d) row rows known))
 
 module _ (told : List Text × List Rule) (d : List Text × List (List ℕ)) (recipes : List (List RecipeLine)) (rows : List Row)
     (kinds : Kinds) (last : Option LastNeeds) (view : (d.0, rules_held d recipes rows) ≡ told) (held : AreHeld d recipes rows kinds last) where
@@ -175,8 +158,7 @@ module _ (told : List Text × List Rule) (d : List Text × List (List ℕ)) (rec
 -- ---- one more rule
 
 recipe_back : (recipe : Option (List RecipeLine)) → (if is_some recipe then Some (unwrap_or recipe []) else None) ≡ recipe
-recipe_back None = refl
-recipe_back (Some lines) = refl
+recipe_back recipe = grind arith
 
 module _ (old new : List Text × List (List ℕ)) (recipes recipes' : List (List RecipeLine)) (rows rows' : List Row)
     (kinds : Kinds) (last : Option LastNeeds) (lines : List RecipeLine) (row : Row) (targets : List Text) (pattern : Option Text) (needs : Needs)

@@ -1,6 +1,6 @@
 -- Lists at names, as the map that holds them changes.
-use Rattle.std.proofs.Common.{◌≡◌, Bool, true, false, if◌then◌else◌, List, [], ◌++◌, Option, Some, None, Vec, Global, refl, sym, ap, ◌∙◌, subst}
-use Rattle.kt_rules.proofs.Common.{bytes_eq, unwrap_or, option_map, nat_list_eq_equiv, bytes_eq-Decides, append-nil, Text}
+use Rattle.std.proofs.Common.{arith, rules, ◌≡◌, Bool, true, false, if◌then◌else◌, List, [], ◌++◌, Option, Some, Vec, Global, sym, ◌∙◌}
+use Rattle.kt_rules.proofs.Common.{bytes_eq, unwrap_or, option_map, bytes_eq-Decides, append-nil, Text}
 use Rattle.std.specs.Map.{lookup, KeepsOthers}
 use Rattle.kt_rules.specs.Indexes.{noted_in}
 
@@ -14,10 +14,7 @@ items_of {A} found = unwrap_or (option_map (λ (items : Vec A Global). items.ite
 
 -- if two names differ, no key is both
 pub apart : (name other : Text) → bytes_eq other name ≡ false → (key : Text) → bytes_eq name key ≡ true → bytes_eq other key ≡ false
-apart name other differ key is =
-    nat_list_eq_equiv.symm other key
-    ∙ sym (nat_list_eq_equiv.congr name key other is)
-    ∙ nat_list_eq_equiv.symm name other ∙ differ
+apart name other differ key is = search rules
 
 -- more was noted at one name, and all others keep theirs
 pub noted : {A : Type 0} (old new : Entries A) (name : Text) (items : Vec A Global) (more : List A)
@@ -26,19 +23,7 @@ pub noted : {A : Type 0} (old new : Entries A) (name : Text) (items : Vec A Glob
     → items.items ≡ noted_in old name ++ more
     → (other : Text) → noted_in new other ≡ noted_in old other ++ (if bytes_eq other name then more else [])
 unfolding KeepsOthers
-noted {A} old new name items more others found grown other = by (bytes_eq other name) refl
-  where
-    by : (b : Bool) → bytes_eq other name ≡ b → noted_in new other ≡ noted_in old other ++ (if b then more else [])
-    by true e =
-        let same : other ≡ name = (bytes_eq-Decides other name).0 e in
-        let P : Text → Type 0 = λ n. noted_in new n ≡ noted_in old n ++ more in
-        subst P (sym same) (ap (λ o. unwrap_or (option_map (λ (s : Vec A Global). s.items) o) []) found ∙ grown)
-    by false e =
-        ap (λ o. unwrap_or (option_map (λ (s : Vec A Global). s.items) o) [])
-        (others (λ (key : Text). bytes_eq other key)
-        (λ x y h. nat_list_eq_equiv.congr other x y h)
-        (λ key h. apart name other e key h))
-        ∙ sym (append-nil _)
+noted {A} old new name items more others found grown other = grind (arith, bytes_eq-Decides, apart, append-nil)
 
 -- nothing was noted at a name, and all others keep theirs
 pub kept : {A : Type 0} (old new : Entries A) (name : Text) (items : Vec A Global)
@@ -59,11 +44,8 @@ pub noted_by : {A : Type 0} (old new : Entries A) (key name : Text) (items : Vec
     → lookup (λ (k : Text). bytes_eq key k) new ≡ Some items
     → items.items ≡ noted_in old key ++ more
     → (other : Text) → noted_in new other ≡ noted_in old other ++ (if bytes_eq other name then more else [])
-noted_by old new key name items more is others found grown other =
-    subst (λ n. noted_in new other ≡ noted_in old other ++ (if bytes_eq other n then more else [])) is
-    (noted old new key items more others found grown other)
+noted_by old new key name items more is others found grown other = grind (arith, noted)
 
 -- what a look-up found, or an empty list
 pub found_or_none : {A : Type 0} (found : Option (Vec A Global)) (none : Vec A Global) → none.items ≡ [] → (unwrap_or found none).items ≡ items_of found
-found_or_none (Some items) none h = refl
-found_or_none None none h = h
+found_or_none found none h = grind arith

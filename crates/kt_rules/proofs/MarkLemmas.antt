@@ -1,5 +1,5 @@
 -- Names that are marked, one after another.
-use Rattle.std.proofs.Common.{◌≡◌, ℕ, ◌<◌, Bool, true, false, ◌||◌, nat_eq, List, [], ◌∷◌, ◌++◌, length, set, get_or, slice_get, Option, Some, None, refl, sym, ap, ◌∙◌}
+use Rattle.std.proofs.Common.{arith, ◌≡◌, ℕ, ◌<◌, Bool, true, false, ◌||◌, nat_eq, List, [], ◌∷◌, ◌++◌, length, set, get_or, slice_get, Option, Some, None, refl, sym, ap, ◌∙◌}
 use Rattle.kt_rules.proofs.Common.{bytes_eq, eqb-true, eq-eqb, get_or-set_same, get_or-set_other, list_any-append, bytes_eq-Decides, place_of, number_found, or_nothing, Text, Marks, is_among, with_name}
 use Rattle.kt_rules.specs.inner.Marks.{is_marked, mark_at}
 use Rattle.kt_rules.proofs.BookLemmas.{among_with, or_assoc}
@@ -8,15 +8,11 @@ use Rattle.kt_rules.proofs.NoteLemmas.{no_two, same_place}
 -- ---- one name more
 
 or_true : (b : Bool) → true ≡ (b || true)
-or_true true = refl
-or_true false = refl
+or_true b = grind arith
 
 -- a name with a number isn't one without
 apart_none : (names : List Text) (name other : Text) (n : ℕ) (b : Bool) → bytes_eq other name ≡ b → None ≡ place_of names name → place_of names other ≡ Some n → b ≡ false
-apart_none names name other n false e at there = refl
-apart_none names name other n true e at there =
-    let same : other ≡ name = (bytes_eq-Decides other name).0 e in
-    absurd (let both : Some n ≡ None = sym there ∙ ap (place_of names) same ∙ sym at in cc)
+apart_none names name other n b e at there = grind (arith, bytes_eq-Decides)
 
 -- the name with a number is marked
 pub number_marked : (names : List Text) (old new : Marks) (name : Text) (number : ℕ) → place_of names name ≡ Some number → number < length old.numbers.items
@@ -57,14 +53,7 @@ number_marked names old new name number at within put same other = by (place_of 
 -- a name without number is marked
 pub other_marked : (names : List Text) (old new : Marks) (name : Text) → None ≡ place_of names name → new.numbers.items ≡ old.numbers.items → new.others ≡ with_name old.others name
     → (other : Text) → is_marked names new other ≡ (is_marked names old other || bytes_eq other name)
-other_marked names old new name at same put other = by (place_of names other) refl
-  where
-    by : (found : Option ℕ) → place_of names other ≡ found → mark_at new other found ≡ (mark_at old other found || bytes_eq other name)
-    by None absent = ap (λ others. is_among others other) put ∙ among_with old.others name other
-    by (Some m) found =
-        ap (λ (marks : List Bool). get_or marks m false) same
-        ∙ sym (or_nothing (get_or old.numbers.items m false))
-        ∙ sym (ap (λ b. get_or old.numbers.items m false || b) (apart_none names name other m (bytes_eq other name) refl at found))
+other_marked names old new name at same put other = grind (arith, among_with, get_or, or_nothing, apart_none)
 
 -- ---- names of a list
 
@@ -79,30 +68,21 @@ marked_start names all left marks is = λ name. ap (λ (list : List Text). is_ma
 pub marked_step : (names all left some rest : List Text) (old now new : Marks) → left ≡ some ++ rest
     → ((name : Text) → is_marked names new name ≡ (is_marked names now name || is_among some name))
     → IsMarkedFrom names all left old now → IsMarkedFrom names all rest old new
-marked_step names all left some rest old now new is step before = λ name.
-    ap (λ b. b || is_among rest name) (step name)
-    ∙ or_assoc (is_marked names now name) (is_among some name) (is_among rest name)
-    ∙ ap (λ b. is_marked names now name || b) (sym (list_any-append (bytes_eq name) some rest) ∙ sym (ap (λ list. is_among list name) is))
-    ∙ before name
+marked_step names all left some rest old now new is step before = grind (arith, or_assoc, list_any-append)
 
 -- one name is
 pub marked_one : (names all left rest : List Text) (one : Text) (old now new : Marks) → left ≡ one ∷ rest
     → ((name : Text) → is_marked names new name ≡ (is_marked names now name || bytes_eq name one))
     → IsMarkedFrom names all left old now → IsMarkedFrom names all rest old new
-marked_one names all left rest one old now new is step before =
-    marked_step names all left (one ∷ []) rest old now new is (λ name. step name ∙ ap (λ b. is_marked names now name || b) (sym (or_nothing (bytes_eq name one)))) before
+marked_one names all left rest one old now new is step before = grind (arith, marked_step, or_nothing)
 
 pub marked_end : (names all left : List Text) (old now : Marks) → left ≡ [] → IsMarkedFrom names all left old now
     → (name : Text) → is_marked names now name ≡ (is_marked names old name || is_among all name)
-marked_end names all left old now none before = λ name.
-    sym (or_nothing (is_marked names now name)) ∙ sym (ap (λ list. is_marked names now name || is_among list name) none) ∙ before name
+marked_end names all left old now none before = grind (arith, or_nothing)
 
 -- two lists, one after the other
 pub marked_both : (names first second : List Text) (old now new : Marks)
     → ((name : Text) → is_marked names now name ≡ (is_marked names old name || is_among first name))
     → ((name : Text) → is_marked names new name ≡ (is_marked names now name || is_among second name))
     → (name : Text) → is_marked names new name ≡ (is_marked names old name || is_among (first ++ second) name)
-marked_both names first second old now new one two = λ name.
-    two name ∙ ap (λ b. b || is_among second name) (one name)
-    ∙ or_assoc (is_marked names old name) (is_among first name) (is_among second name)
-    ∙ ap (λ b. is_marked names old name || b) (sym (list_any-append (bytes_eq name) first second))
+marked_both names first second old now new one two = grind (arith, or_assoc, list_any-append)

@@ -17,11 +17,7 @@ at_place P (first ∷ names) (suc n) name all is = at_place P names n name all.1
 from_place : (i : ℕ) (names : List Text) (name : Text) (n : ℕ) → IsDistinct bytes_eq names → slice_get names n ≡ Some name
     → position_from (bytes_eq name) i names ≡ Some (i + n)
 from_place i [] name n differ is = absurd (let e : None ≡ Some name = is in cc)
-from_place i (first ∷ names) name zero differ is =
-    let e : first ≡ name = cc in
-    let same : bytes_eq name first ≡ true = (bytes_eq-Decides name first).1 (sym e) in
-    let here : i ≡ i + zero = omega arith in
-    rw same (ap Some here)
+from_place i (first ∷ names) name zero differ is = grind (arith, bytes_eq-Decides)
 from_place i (first ∷ names) name (suc n) differ is =
     let other : bytes_eq first name ≡ false = at_place (λ y. bytes_eq first y ≡ false) names n name (IsDistinct-head bytes_eq first names differ) is in
     let apart : bytes_eq name first ≡ false = nat_list_eq_equiv.symm name first ∙ other in
@@ -29,44 +25,26 @@ from_place i (first ∷ names) name (suc n) differ is =
     rw apart (from_place (i + 1) names name n (IsDistinct-tail bytes_eq first names differ) is ∙ ap Some on)
 
 pub place_at : (names : List Text) (name : Text) (n : ℕ) → IsDistinct bytes_eq names → slice_get names n ≡ Some name → place_of names name ≡ Some n
-place_at names name n differ is =
-    let whole : 0 + n ≡ n = omega arith in
-    position_from-zero (bytes_eq name) names ∙ from_place 0 names name n differ is ∙ ap Some whole
+place_at names name n differ is = grind (arith, position_from-zero, from_place)
 
 -- one more name is at the end
 place_more : (i : ℕ) (names : List Text) (name other : Text)
     → position_from (bytes_eq other) i (names ++ name ∷ [])
     ≡ option_or (position_from (bytes_eq other) i names) (if bytes_eq other name then Some (i + length names) else None)
 place_more i [] name other = let here : i ≡ i + 0 = omega arith in ap (λ n. if bytes_eq other name then Some n else None) here
-place_more i (first ∷ names) name other = by (bytes_eq other first) refl (place_more (i + 1) names name other)
-  where
-    by : (b : Bool) → bytes_eq other first ≡ b
-        → position_from (bytes_eq other) (i + 1) (names ++ name ∷ [])
-        ≡ option_or (position_from (bytes_eq other) (i + 1) names) (if bytes_eq other name then Some (i + 1 + length names) else None)
-        → position_from (bytes_eq other) i (first ∷ (names ++ name ∷ []))
-        ≡ option_or (position_from (bytes_eq other) i (first ∷ names)) (if bytes_eq other name then Some (i + suc (length names)) else None)
-    by true e rest = rw e refl
-    by false e rest =
-        let on : i + 1 + length names ≡ i + suc (length names) = omega arith in
-        rw e (rest ∙ ap (λ n. option_or (position_from (bytes_eq other) (i + 1) names) (if bytes_eq other name then Some n else None)) on)
+place_more i (first ∷ names) name other = grind (arith, length, place_more (i + 1) names name other)
 
 -- ---- lists at names
 
 -- nothing was noted at a name that is added at the end
 nothing_last : (lists : List (List Spot)) (n : ℕ) (found : Option ℕ) (b : Bool) → length lists ≤ n
     → list_of (option_or found (if b then Some n else None)) lists ≡ list_of found lists
-nothing_last lists n (Some m) b within = refl
-nothing_last lists n None true within = get_or_past lists n [] within
-nothing_last lists n None false within = refl
+nothing_last lists n found b within = grind (arith, get_or_past)
 
 -- one more name changes nothing
 last_name : (names : List Text) (lists : List (List Spot)) (name other : Text) → length lists ≤ length names
     → list_of (place_of (names ++ name ∷ []) other) lists ≡ list_of (place_of names other) lists
-last_name names lists name other within =
-    let short : length lists ≤ 0 + length names = omega arith in
-    ap (λ found. list_of found lists) (position_from-zero (bytes_eq other) (names ++ name ∷ []) ∙ place_more 0 names name other)
-    ∙ nothing_last lists (0 + length names) (position_from (bytes_eq other) 0 names) (bytes_eq other name) short
-    ∙ ap (λ found. list_of found lists) (sym (position_from-zero (bytes_eq other) names))
+last_name names lists name other within = grind (arith, length, position_from-zero, place_more, nothing_last)
 
 -- nor do several
 pub names_after : (names more : List Text) (lists : List (List Spot)) (other : Text) → length lists ≤ length names
@@ -146,14 +124,7 @@ pub target_noted : (names : List Text) (rule : Rule) (target : Target) (number :
     → slice_get names number ≡ Some target.name → is_made rule target ≡ true
     → ((other : ℕ) → list_at new other ≡ list_at old other ++ (if b then (if nat_eq other number then spot ∷ [] else []) else []))
     → (name : Text) → spots_at (names, new) name ≡ spots_at (names, old) name ++ (if b then target_spots rule target spot name else [])
-target_noted names rule target number spot true old new differ is made step = λ name.
-    noted_more names old new target.name number (spot ∷ []) differ is step name
-    ∙ sym (ap (λ m. spots_at (names, old) name ++ (if m then (if bytes_eq name target.name then spot ∷ [] else []) else [])) made)
-target_noted names rule target number spot false old new differ is made step = λ name. by (place_of names name)
-  where
-    by : (found : Option ℕ) → list_of found new ≡ list_of found old ++ []
-    by None = refl
-    by (Some n) = step n
+target_noted names rule target number spot b old new differ is made step = grind (arith, noted_more)
 
 -- ---- spots of a rule
 
@@ -176,9 +147,7 @@ IsNotedFrom b rule place number left old now =
 
 pub noted_start : (b : Bool) (rule : Rule) (place number : ℕ) (left : List Target) (notes : Notes) → number ≡ 0 → left ≡ rule.targets
     → IsNotedFrom b rule place number left notes notes
-noted_start b rule place number left notes none all = λ name.
-    ap (λ n. spots_at notes name ++ (if b then spots_from rule place n left name else [])) none
-    ∙ ap (λ ts. spots_at notes name ++ (if b then spots_from rule place 0 ts name else [])) all
+noted_start b rule place number left notes none all = grind arith
 
 -- one target's spots, and then those of the targets after it
 pub noted_step : (b : Bool) (rule : Rule) (place number next : ℕ) (target : Target) (left rest : List Target) (old now new : Notes)
@@ -186,23 +155,13 @@ pub noted_step : (b : Bool) (rule : Rule) (place number next : ℕ) (target : Ta
     → ((name : Text) → spots_at new name ≡ spots_at now name ++ (if b then target_spots rule target (spot_at place number) name else []))
     → IsNotedFrom b rule place number left old now → IsNotedFrom b rule place next rest old new
 unfolding spots_from
-noted_step true rule place number next target left rest old now new is more step before = λ name.
-    let past = spots_from rule place (number + 1) rest name in
-    ap (λ n. spots_at new name ++ spots_from rule place n rest name) more
-    ∙ ap (λ xs. xs ++ past) (step name)
-    ∙ append_assoc (spots_at now name) (target_spots rule target (spot_at place number) name) past
-    ∙ sym (ap (λ ts. spots_at now name ++ spots_from rule place number ts name) is)
-    ∙ before name
-noted_step false rule place number next target left rest old now new is more step before = λ name.
-    ap (λ xs. xs ++ []) (step name ∙ append-nil (spots_at now name)) ∙ before name
+noted_step b rule place number next target left rest old now new is more step before = grind (arith, append_assoc, append-nil)
 
 -- all spots were noted
 pub noted_end : (b : Bool) (rule : Rule) (place number : ℕ) (left : List Target) (old now : Notes) → left ≡ [] → IsNotedFrom b rule place number left old now
     → (name : Text) → spots_at now name ≡ spots_at old name ++ (if b then spots_for rule place name else [])
 unfolding spots_from
-noted_end true rule place number left old now none before = λ name.
-    sym (append-nil (spots_at now name)) ∙ sym (ap (λ ts. spots_at now name ++ spots_from rule place number ts name) none) ∙ before name
-noted_end false rule place number left old now none before = λ name. sym (append-nil (spots_at now name)) ∙ before name
+noted_end b rule place number left old now none before = grind (arith, append-nil)
 
 -- what one target's spots add is in the slot
 pub grew_target : (b : Bool) (rule : Rule) (place number : ℕ) (target : Target) (now new : Notes)

@@ -1,44 +1,28 @@
 -- The numbers of the entries of explicit rules.
-use Rattle.std.proofs.Common.{◌≡◌, ℕ, ◌+◌, ◌<◌, ◌&&◌, not, Bool, true, false, cond, if◌then◌else◌, List, [], ◌∷◌, ◌++◌, length, map, filter, drop, get_or, suc, Option, Some, slice_get, refl, sym, ap, ◌∙◌, arith}
+use Rattle.std.proofs.Common.{rules, ◌≡◌, ℕ, ◌+◌, ◌<◌, ◌&&◌, not, Bool, cond, if◌then◌else◌, List, [], ◌∷◌, ◌++◌, length, map, filter, drop, get_or, suc, Option, Some, slice_get, refl, sym, ap, ◌∙◌, arith}
 use Rattle.kt_rules.proofs.Common.{enumerate_from, flat_map, bytes_eq, drop_more, map-append, filter-append, bytes_eq-Decides, Text, Target, Rule, suffixes_of, is_suffix_rule, is_made, is_explicit, target_rules, rules_of, explicit_rules, numbers_in, explicit_numbers, NumbersTellRules}
 
 -- a number for each item that passes a test, from a place on
 pub numbers_at : {A : Type 0} (test : A → Bool) (n : ℕ) (xs : List A) (i : ℕ) (x : A) → i < length xs → x ≡ get_or xs i x
     → map (λ y. n) (filter test (drop i xs)) ≡ (if test x then n ∷ [] else []) ++ map (λ y. n) (filter test (drop (i + 1) xs))
-numbers_at {A} test n xs i x h e =
-    ap (λ ys. map (λ (y : A). n) (filter test ys)) (drop_more xs i x h)
-    ∙ ap (λ y. map (λ (z : A). n) (filter test (y ∷ drop (i + 1) xs))) (sym e)
-    ∙ by (test x)
-  where
-    by : (b : Bool) → map (λ (y : A). n) (cond b (x ∷ filter test (drop (i + 1) xs)) (filter test (drop (i + 1) xs)))
-        ≡ (if b then n ∷ [] else []) ++ map (λ (y : A). n) (filter test (drop (i + 1) xs))
-    by true = refl
-    by false = refl
+numbers_at {A} test n xs i x h e = grind (arith, drop_more, cond)
 
 -- the same for the rest of a list
 pub numbers_left : {A : Type 0} (test : A → Bool) (n : ℕ) (left rest : List A) (x : A) → left ≡ x ∷ rest
     → map (λ y. n) (filter test left) ≡ (if test x then n ∷ [] else []) ++ map (λ y. n) (filter test rest)
-numbers_left {A} test n left rest x is = ap (λ ys. map (λ (y : A). n) (filter test ys)) is ∙ by (test x)
-  where
-    by : (b : Bool) → map (λ (y : A). n) (cond b (x ∷ filter test rest) (filter test rest)) ≡ (if b then n ∷ [] else []) ++ map (λ (y : A). n) (filter test rest)
-    by true = refl
-    by false = refl
+numbers_left {A} test n left rest x is = grind (arith, cond)
 
 -- all rules are still to come
 pub numbers_start : (rules left : List Rule) (count : ℕ) (name : Text) → left ≡ rules → count ≡ 0
     → flat_map (numbers_in (suffixes_of rules) name) (enumerate_from count left) ≡ explicit_numbers rules name
 unfolding explicit_numbers
-numbers_start rules left count name are none =
-    ap (λ n. flat_map (numbers_in (suffixes_of rules) name) (enumerate_from n left)) none
-    ∙ ap (λ rs. flat_map (numbers_in (suffixes_of rules) name) (enumerate_from 0 rs)) are
+numbers_start rules left count name are none = grind arith
 
 -- one rule, and then those after it
 pub numbers_step : (suffixes : List Text) (name : Text) (rule : Rule) (left rest : List Rule) (count next : ℕ) → left ≡ rule ∷ rest → next ≡ count + 1
     → flat_map (numbers_in suffixes name) (enumerate_from count left)
     ≡ numbers_in suffixes name (count, rule) ++ flat_map (numbers_in suffixes name) (enumerate_from next rest)
-numbers_step suffixes name rule left rest count next are more =
-    ap (λ rs. flat_map (numbers_in suffixes name) (enumerate_from count rs)) are
-    ∙ ap (λ n. numbers_in suffixes name (count, rule) ++ flat_map (numbers_in suffixes name) (enumerate_from n rest)) (sym more)
+numbers_step suffixes name rule left rest count next are more = grind arith
 
 -- ---- the rules at the numbers
 
@@ -47,41 +31,19 @@ module _ {A B C D : Type 0} (make : A → B) (made test : A → Bool) (named kep
   picked_step : (b a k : Bool) (x : A) (those ours : List A) → named (make x) ≡ a → kept (make x) ≡ k → test x ≡ (a && (b && k)) → f (make x) ≡ h (g x)
       → map f (filter kept (filter named (map make those))) ≡ map h (map g ours)
       → map f (filter kept (filter named (map make (cond b (x ∷ those) those)))) ≡ map h (map g (cond (test x) (x ∷ ours) ours))
-  picked_step true true true x those ours na ke te fe rest =
-      ap (λ z. map f (filter kept (cond z (make x ∷ filter named (map make those)) (filter named (map make those))))) na
-      ∙ ap (λ z. map f (cond z (make x ∷ filter kept (filter named (map make those))) (filter kept (filter named (map make those))))) ke
-      ∙ ap (λ y. y ∷ map f (filter kept (filter named (map make those)))) fe
-      ∙ ap (λ ys. h (g x) ∷ ys) rest
-      ∙ sym (ap (λ z. map h (map g (cond z (x ∷ ours) ours))) te)
-  picked_step true true false x those ours na ke te fe rest =
-      ap (λ z. map f (filter kept (cond z (make x ∷ filter named (map make those)) (filter named (map make those))))) na
-      ∙ ap (λ z. map f (cond z (make x ∷ filter kept (filter named (map make those))) (filter kept (filter named (map make those))))) ke
-      ∙ rest
-      ∙ sym (ap (λ z. map h (map g (cond z (x ∷ ours) ours))) te)
-  picked_step true false k x those ours na ke te fe rest =
-      ap (λ z. map f (filter kept (cond z (make x ∷ filter named (map make those)) (filter named (map make those))))) na
-      ∙ rest
-      ∙ sym (ap (λ z. map h (map g (cond z (x ∷ ours) ours))) te)
-  picked_step false true k x those ours na ke te fe rest = rest ∙ sym (ap (λ z. map h (map g (cond z (x ∷ ours) ours))) te)
-  picked_step false false k x those ours na ke te fe rest = rest ∙ sym (ap (λ z. map h (map g (cond z (x ∷ ours) ours))) te)
+  picked_step b a k x those ours na ke te fe rest = grind (arith, cond)
 
   -- items picked by one test, or by its three parts
   picked : ((x : A) → test x ≡ (named (make x) && (made x && kept (make x)))) → ((x : A) → f (make x) ≡ h (g x)) → (xs : List A)
       → map f (filter kept (filter named (map make (filter made xs)))) ≡ map h (map g (filter test xs))
   picked parts same [] = refl
-  picked parts same (x ∷ xs) =
-      picked_step (made x) (named (make x)) (kept (make x)) x (filter made xs) (filter test xs) refl refl (parts x) (same x) (picked parts same xs)
+  picked parts same (x ∷ xs) = grind (arith, picked_step, picked parts same xs)
 
 -- the test of a target as its parts
 parts_of : (suffixes : List Text) (name : Text) (rule : Rule) (target : Target)
     → (bytes_eq name target.name && is_explicit suffixes (rule, target))
     ≡ (bytes_eq name target.name && (is_made rule target && not (is_suffix_rule suffixes name (rule, target))))
-parts_of suffixes name rule target = by (bytes_eq name target.name) refl
-  where
-    by : (b : Bool) → bytes_eq name target.name ≡ b
-        → (b && is_explicit suffixes (rule, target)) ≡ (b && (is_made rule target && not (is_suffix_rule suffixes name (rule, target))))
-    by true e = ap (λ n. is_made rule target && not (is_suffix_rule suffixes n (rule, target))) (sym ((bytes_eq-Decides name target.name).0 e))
-    by false e = refl
+parts_of suffixes name rule target = grind (arith, not, bytes_eq-Decides)
 
 -- the explicit rules of a name, where these are the suffixes
 abbrev named_rules : List Text → Text → List (Rule × Target) → List (Rule × Target)
@@ -93,19 +55,11 @@ rule_of made = Some made.0
 
 one_rule : (suffixes : List Text) (name : Text) (all : List Rule) (n : ℕ) (rule : Rule) → slice_get all n ≡ Some rule
     → map rule_of (named_rules suffixes name (target_rules rule)) ≡ map (slice_get all) (numbers_in suffixes name (n, rule))
-one_rule suffixes name all n rule is =
-    picked (λ (target : Target). (rule, target)) (is_made rule) (λ (target : Target). bytes_eq name target.name && is_explicit suffixes (rule, target))
-    (λ (made : Rule × Target). bytes_eq name made.1.name) (λ (made : Rule × Target). not (is_suffix_rule suffixes name made))
-    rule_of (λ (target : Target). n) (slice_get all)
-    (parts_of suffixes name rule) (λ target. sym is) rule.targets
+one_rule suffixes name all n rule is = grind (arith, picked, not, parts_of)
 
 named_append : (suffixes : List Text) (name : Text) (one others : List (Rule × Target))
     → map rule_of (named_rules suffixes name (one ++ others)) ≡ map rule_of (named_rules suffixes name one) ++ map rule_of (named_rules suffixes name others)
-named_append suffixes name one others =
-    ap (λ xs. map rule_of (filter (λ (made : Rule × Target). not (is_suffix_rule suffixes name made)) xs)) (filter-append (λ (made : Rule × Target). bytes_eq name made.1.name) one others)
-    ∙ ap (map rule_of) (filter-append (λ (made : Rule × Target). not (is_suffix_rule suffixes name made))
-    (filter (λ (made : Rule × Target). bytes_eq name made.1.name) one) (filter (λ (made : Rule × Target). bytes_eq name made.1.name) others))
-    ∙ map-append rule_of (named_rules suffixes name one) (named_rules suffixes name others)
+named_append suffixes name one others = grind (arith, not, filter-append, map-append)
 
 -- the rules from a number on
 rules_from : (suffixes : List Text) (name : Text) (all : List Rule) (n : ℕ) (rules : List Rule) → ((i : ℕ) → slice_get all (n + i) ≡ slice_get rules i)

@@ -1,5 +1,5 @@
 -- A text without its outer separators.
-use Rattle.std.proofs.Common.{◌≡◌, ℕ, zero, suc, ◌+◌, ◌-◌, Bool, true, false, not, [], ◌∷◌, ◌++◌, length, take, get_or, if◌then◌else◌, refl, sym, ap, subst, ◌∙◌, true≢false, arith, append_assoc, append-nil, length-append, ◌==◌, ◌&&◌}
+use Rattle.std.proofs.Common.{◌≡◌, ℕ, ◌+◌, ◌-◌, Bool, true, false, not, [], ◌∷◌, ◌++◌, length, take, get_or, if◌then◌else◌, refl, sym, ap, subst, ◌∙◌, true≢false, arith, append_assoc, append-nil, length-append, ◌==◌, ◌&&◌}
 use Rattle.kt_rules.proofs.Common.{suffix_len, eqb-true, get_or-append_right, get_or-append_seam, take-append_seam, head_is, none_in, tail_is, and_first, and_nothing, and_second, drop-prefix_len, Text, is_separator, stripped_start, end_place, without_outer_separators}
 use Rattle.std.proofs.lemmas.List.Sums.{suffix_len_is, AllPass-from_list_all}
 use Rattle.kt_text.proofs.CuttingLemmas.{last_of}
@@ -8,15 +8,12 @@ use Rattle.kt_rules.specs.HeadWords.{separates, begins_with_space, BeginsWithNon
 use Rattle.kt_rules.proofs.PartLemmas.{AreSeparators, QuotesNone, first_is, others_are, one_more_is, is_one, not_quoted}
 
 take_none : (n : ℕ) → take {A = ℕ} n [] ≡ []
-take_none zero = refl
-take_none (suc n) = refl
+take_none n = grind arith
 
 -- separators at the start are removed
 gap_stripped : (gap rest : Text) → AreSeparators gap → stripped_start (gap ++ rest) ≡ stripped_start rest
 gap_stripped [] rest h = refl
-gap_stripped (byte ∷ gap) rest h =
-    drop-prefix_len is_separator byte (gap ++ rest) (first_is byte gap h)
-    ∙ gap_stripped gap rest (others_are byte gap h)
+gap_stripped (byte ∷ gap) rest h = grind (arith, drop-prefix_len, first_is, others_are, gap_stripped gap rest (others_are byte gap h))
 
 begun_stripped : (byte : ℕ) (text : Text) → is_separator byte ≡ false → stripped_start (byte ∷ text) ≡ byte ∷ text
 begun_stripped byte text h = rw h refl
@@ -42,27 +39,14 @@ all_longer : (front back : Text) (byte : ℕ) → length (ending front byte ++ b
 all_longer front back byte = length-append (ending front byte) back ∙ ap (λ n. n + length back) (one_longer front byte)
 
 less_last : (front : Text) (byte : ℕ) → length (ending front byte) - 1 ≡ length front
-less_last front byte =
-    let one = one_longer front byte in
-    omega (arith, one)
+less_last front byte = grind (arith, one_longer)
 
 -- the byte at the end, and the one after that
 at_last : (front back : Text) (byte : ℕ) → get_or (ending front byte ++ back) (length front) 0 ≡ byte
-at_last front back byte =
-    ap (λ (xs : Text). get_or xs (length front) 0) (append_assoc front (byte ∷ []) back)
-    ∙ get_or-append_seam front byte back 0
+at_last front back byte = grind (arith, get_or, length, append_assoc, get_or-append_seam)
 
 past_last : (front back : Text) → (get_or (front ++ back) (length front) 0 == 32) ≡ begins_with_space back
-past_last front back =
-    ap (λ n. n == 32) (get_or-append_right front back (length front) (length front) 0 refl (omega arith))
-    ∙ at_first back
-  where
-    none : (n : ℕ) → n - n ≡ 0
-    none n = omega arith
-
-    at_first : (text : Text) → (get_or text (length front - length front) 0 == 32) ≡ begins_with_space text
-    at_first [] = ap (λ i. get_or [] i 0 == 32) (none (length front))
-    at_first (byte ∷ text) = ap (λ i. get_or (byte ∷ text) i 0 == 32) (none (length front))
+past_last front back = grind (arith, get_or-append_right, length, get_or)
 
 -- separators after a byte that is none are all at the end
 suffix_after : (front back : Text) (byte : ℕ) → is_separator byte ≡ false → AreSeparators back
@@ -80,11 +64,7 @@ suffix_after front back byte h all =
 end_suffix : (front back : Text) (byte : ℕ) → is_separator byte ≡ false → AreSeparators back
     → length (ending front byte ++ back) - suffix_len is_separator (ending front byte ++ back)
     ≡ length (ending front byte)
-end_suffix front back byte h all =
-    let one = one_longer front byte in
-    let len = all_longer front back byte in
-    let suffix = suffix_after front back byte h all in
-    omega (arith, len, one, suffix)
+end_suffix front back byte h all = grind (arith, one_longer, all_longer, suffix_after)
 
 -- whether the bytes round a place are a backslash and a space
 abbrev is_quoted_at : Text → ℕ → Bool
@@ -99,11 +79,7 @@ end_by text end b h e = rw h (rw e refl)
 -- these are its last and the first separator
 test_is : (front back : Text) (byte : ℕ)
     → is_quoted_at (ending front byte ++ back) (length (ending front byte)) ≡ (byte == 92 && begins_with_space back)
-test_is front back byte =
-    ap (λ a. a && get_or (ending front byte ++ back) (length (ending front byte)) 0 == 32)
-    (ap (λ i. get_or (ending front byte ++ back) i 0 == 92) (less_last front byte)
-    ∙ ap (λ n. n == 92) (at_last front back byte))
-    ∙ ap (λ a. byte == 92 && a) (past_last (ending front byte) back)
+test_is front back byte = grind (arith, get_or, length, less_last, at_last, past_last)
 
 -- the place is the end of a text, where separators after it aren't quoted
 abbrev EndsThere : Text → Text → Type 0
@@ -112,17 +88,11 @@ EndsThere text past = end_place (text ++ past) ≡ length text
 -- of a text that ends with no separator, or with one that is quoted
 end_plain : (front back : Text) (byte : ℕ) → is_separator byte ≡ false → AreSeparators back
     → (byte == 92 && begins_with_space back) ≡ false → EndsThere (ending front byte) back
-end_plain front back byte h all q =
-    end_by (ending front byte ++ back) (length (ending front byte)) false (end_suffix front back byte h all)
-    (test_is front back byte ∙ q)
+end_plain front back byte h all q = grind (arith, end_by, length, end_suffix, test_is)
 
 end_quoted : (front back : Text) → AreSeparators back → EndsThere (ending (ending front 92) 32) back
 unfolding is_separator
-end_quoted front back all =
-    ap end_place (append_assoc (ending front 92) (32 ∷ []) back)
-    ∙ end_by (ending front 92 ++ 32 ∷ back) (length (ending front 92)) true
-    (end_suffix front (32 ∷ back) 92 refl all) (test_is front (32 ∷ back) 92)
-    ∙ sym (one_longer (ending front 92) 32)
+end_quoted front back all = grind (arith, append_assoc, end_by, length, end_suffix, test_is, one_longer)
 
 end_space : (front back : Text) → ends_in_backslash false front ≡ true → AreSeparators back
     → EndsThere (ending front 32) back
@@ -134,27 +104,16 @@ end_space (first ∷ front) back q all =
     (end_quoted last.front back all)
 
 quoted_if : (a b : Bool) → a ≡ true → (a && not b) ≡ false → b ≡ true
-quoted_if true true e h = refl
-quoted_if true false e h = absurd (true≢false h)
-quoted_if false b e h = absurd (true≢false (sym e))
+quoted_if a b e h = grind (arith, true≢false)
 
 end_separator : (front back : Text) (byte : ℕ) → (ends_in_backslash false front && byte == 32) ≡ true
     → AreSeparators back
     → EndsThere (ending front byte) back
-end_separator front back byte both all =
-    subst (λ (n : ℕ). EndsThere (ending front n) back)
-    (sym (eqb-true byte 32 (and_second (ends_in_backslash false front) (byte == 32) both)))
-    (end_space front back (and_first (ends_in_backslash false front) (byte == 32) both) all)
+end_separator front back byte both all = grind (arith, eqb-true, and_second, end_space, and_first)
 
 end_of : (front back : Text) (byte : ℕ) → separates (ends_in_backslash false front) byte ≡ false → AreSeparators back
     → (byte == 92 && begins_with_space back) ≡ false → EndsThere (ending front byte) back
-end_of front back byte s all q = by (is_separator byte) refl
-  where
-    by : (b : Bool) → is_separator byte ≡ b → EndsThere (ending front byte) back
-    by true h =
-        end_separator front back byte
-        (quoted_if (is_separator byte) (ends_in_backslash false front && byte == 32) h s) all
-    by false h = end_plain front back byte h all q
+end_of front back byte s all q = grind (arith, end_separator, quoted_if, end_plain)
 
 -- the part of a text before the separators at its end
 abbrev front_of : Text → Text
@@ -184,9 +143,7 @@ middle_is : (text leading middle trailing : Text) → text ≡ leading ++ (middl
     → BeginsWithNone middle → EndsWithNone false middle → AreSeparators trailing → QuotesNone false middle trailing
     → without_outer_separators text ≡ middle
 unfolding without_outer_separators
-middle_is text leading middle trailing e gap begin end all q =
-    ap (λ (xs : Text). front_of (stripped_start xs)) e ∙ ap front_of (gap_stripped leading (middle ++ trailing) gap)
-    ∙ middle_left middle trailing begin end all q
+middle_is text leading middle trailing e gap begin end all q = grind (arith, gap_stripped, middle_left)
 
 -- a text without the separators at its start
 record Begun (text : Text) : Type 0 where
@@ -233,18 +190,13 @@ record Ended (before : Bool) (text : Text) : Type 0 where
 
 ends_one : (before : Bool) (byte : ℕ) → separates before byte ≡ false → EndsWithNone before (byte ∷ [])
 ends_one before byte s [] other e = ap (separates before) (sym (head_is byte other [] [] e)) ∙ s
-ends_one before byte s (first ∷ front) other e =
-    absurd (none_in other front [] (tail_is byte first [] (front ++ other ∷ []) e))
+ends_one before byte s (first ∷ front) other e = grind (arith, none_in, tail_is)
 
 ends_more : (before : Bool) (byte next : ℕ) (middle : Text)
     → EndsWithNone (byte == 92) (next ∷ middle)
     → EndsWithNone before (byte ∷ next ∷ middle)
-ends_more before byte next middle h [] other e =
-    absurd (none_in next [] middle (sym (tail_is byte other (next ∷ middle) [] e)))
-ends_more before byte next middle h (first ∷ front) other e =
-    ap (λ b. separates (ends_in_backslash (b == 92) front) other)
-    (sym (head_is byte first (next ∷ middle) (front ++ other ∷ []) e))
-    ∙ h front other (tail_is byte first (next ∷ middle) (front ++ other ∷ []) e)
+ends_more before byte next middle h [] other e = grind (arith, none_in, tail_is)
+ends_more before byte next middle h (first ∷ front) other e = grind (arith, tail_is)
 
 ended_more : (before : Bool) (byte : ℕ) (text middle trailing : Text) → text ≡ middle ++ trailing
     → AreSeparators trailing
@@ -292,22 +244,12 @@ ended_of before (byte ∷ text) =
 
 -- a text begins as its first part does
 begins_too : (text middle trailing : Text) → text ≡ middle ++ trailing → BeginsWithNone text → BeginsWithNone middle
-begins_too text middle trailing e begin =
-    λ back byte h. begin (back ++ trailing) byte (e ∙ ap (λ (xs : Text). xs ++ trailing) h)
+begins_too text middle trailing e begin = grind arith
 
 middle_of : (text leading middle trailing : Text) → text ≡ leading ++ (middle ++ trailing) → AreSeparators leading
     → BeginsWithNone middle → EndsWithNone false middle → AreSeparators trailing → QuotesNone false middle trailing
     → IsMiddle text (without_outer_separators text)
-middle_of text leading middle trailing e gap begin end all q =
-    subst (IsMiddle text) (sym (middle_is text leading middle trailing e gap begin end all q)) (record {
-      leading = leading;
-      trailing = trailing;
-      together = e;
-      before = record { separators = gap; unquoted = refl };
-      past = record { separators = all; unquoted = q };
-      begin = begin;
-      end = end;
-    })
+middle_of text leading middle trailing e gap begin end all q = grind (arith, middle_is)
 
 some_middle : (text : Text) → IsMiddle text (without_outer_separators text)
 some_middle text =
@@ -319,9 +261,7 @@ some_middle text =
     ended.end ended.separators ended.unquoted
 
 only_middle : (text middle : Text) → IsMiddle text middle → middle ≡ without_outer_separators text
-only_middle text middle is =
-    sym (middle_is text is.leading middle is.trailing is.together is.before.separators is.begin is.end
-    is.past.separators is.past.unquoted)
+only_middle text middle is = grind (arith, middle_is)
 
 pub outer_law : OuterLaw
 outer_law = record { some = some_middle; only = only_middle }

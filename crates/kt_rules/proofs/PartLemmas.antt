@@ -1,5 +1,5 @@
 -- What separates the words of a head.
-use Rattle.std.proofs.Common.{◌≡◌, ℕ, Bool, true, false, not, [], ◌∷◌, ◌++◌, refl, sym, ap, ◌∙◌, true≢false, ◌==◌, ◌&&◌, ◌||◌}
+use Rattle.std.proofs.Common.{arith, ◌≡◌, ℕ, Bool, true, false, not, [], ◌∷◌, sym, ap, ◌∙◌, true≢false, ◌==◌, ◌&&◌}
 use Rattle.kt_rules.proofs.Common.{and_from, eqb-true, not-true, list_all, head_is, none_in, tail_is, and_first, and_second, Text, is_separator, Separator, cuts, is_quotable}
 use Rattle.kt_rules.specs.Cuts.{ends_in_backslash}
 use Rattle.kt_rules.specs.HeadWords.{separates, HoldsNoSeparator, begins_with_space}
@@ -23,33 +23,16 @@ one_more_is byte text h all = and_from (is_separator byte) (list_all is_separato
 -- a separator that can be quoted is a space
 space_only : (byte : ℕ) → is_separator byte ≡ true → is_quotable byte ≡ (byte == 32)
 unfolding is_separator
-space_only byte h = by (byte == 32) (byte == 9) (byte == 10) refl refl refl h
-  where
-    by : (a b c : Bool) → byte == 32 ≡ a → byte == 9 ≡ b → byte == 10 ≡ c → (a || b || c) ≡ true → (a || byte == 58) ≡ a
-    by true b c e f g k = refl
-    by false true c e f g k = rw (eqb-true byte 9 f) refl
-    by false false true e f g k = rw (eqb-true byte 10 g) refl
-    by false false false e f g k = absurd (true≢false (sym k))
+space_only byte h = grind (arith, eqb-true, true≢false)
 
 -- and none of them is a backslash
 pub no_backslash : (byte : ℕ) → is_separator byte ≡ true → (byte == 92) ≡ false
 unfolding is_separator
-no_backslash byte h = by (byte == 32) (byte == 9) (byte == 10) refl refl refl h
-  where
-    by : (a b c : Bool) → byte == 32 ≡ a → byte == 9 ≡ b → byte == 10 ≡ c → (a || b || c) ≡ true → (byte == 92) ≡ false
-    by true b c e f g k = rw (eqb-true byte 32 e) refl
-    by false true c e f g k = rw (eqb-true byte 9 f) refl
-    by false false true e f g k = rw (eqb-true byte 10 g) refl
-    by false false false e f g k = absurd (true≢false (sym k))
+no_backslash byte h = grind (arith, eqb-true, true≢false)
 
 -- words are cut at the bytes that separate
 pub cuts_is : (past : Bool) (byte : ℕ) → cuts Separator past byte ≡ separates past byte
-cuts_is past byte = by (is_separator byte) refl
-  where
-    by : (b : Bool) → is_separator byte ≡ b
-        → (b && not (past && is_quotable byte)) ≡ (b && not (past && byte == 32))
-    by true h = ap (λ q. not (past && q)) (space_only byte h)
-    by false h = refl
+cuts_is past byte = grind (arith, not, space_only)
 
 -- what a byte that separates is
 pub is_one : (past : Bool) (byte : ℕ) → separates past byte ≡ true → is_separator byte ≡ true
@@ -73,7 +56,4 @@ holds_none before = λ front back byte e. absurd (none_in byte front back e)
 pub holds_more : (before : Bool) (byte : ℕ) (text : Text) → separates before byte ≡ false
     → HoldsNoSeparator (byte == 92) text → HoldsNoSeparator before (byte ∷ text)
 holds_more before byte text s h [] back other e = ap (separates before) (sym (head_is byte other text back e)) ∙ s
-holds_more before byte text s h (first ∷ front) back other e =
-    ap (λ b. separates (ends_in_backslash (b == 92) front) other)
-    (sym (head_is byte first text (front ++ other ∷ back) e))
-    ∙ h front back other (tail_is byte first text (front ++ other ∷ back) e)
+holds_more before byte text s h (first ∷ front) back other e = grind (arith, tail_is)

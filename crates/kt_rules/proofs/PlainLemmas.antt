@@ -1,6 +1,6 @@
 -- The words and names of a text without a backslash, in which no separator is quoted.
-use Rattle.std.proofs.Common.{◌≡◌, false, List, [], ◌∷◌, map, filter, refl, sym, ap, ◌∙◌, ⊎_elim, ◌==◌}
-use Rattle.kt_rules.proofs.Common.{after_first, before_first, list_any, onto_first, slice_split, cases_Bool, or_parts, Text, is_nonempty, is_separator, words_of, Separator, name_of, pieces_of, without_dots, written_words, is_bar, needs_of}
+use Rattle.std.proofs.Common.{arith, ◌≡◌, false, List, [], ◌∷◌, map, filter, refl, ap, ⊎_elim, ◌==◌}
+use Rattle.kt_rules.proofs.Common.{list_any, onto_first, slice_split, cases_Bool, or_parts, Text, is_nonempty, is_separator, words_of, Separator, name_of, pieces_of, without_dots, written_words, needs_of}
 use Rattle.kt_rules.specs.inner.Telling.{is_backslash}
 use Rattle.kt_rules.proofs.BackslashLemmas.{names_itself}
 use Rattle.kt_rules.proofs.NeedsLemmas.{before_all, needs_from}
@@ -29,16 +29,9 @@ names_themselves (word ∷ words) none =
 
 -- its words spell themselves
 pub plain_names : (text : Text) → list_any is_backslash text ≡ false → map without_dots (words_of text) ≡ map name_of (written_words text)
-plain_names text none =
-    ap (map without_dots) (sym (plain_words text none)) ∙ names_themselves (written_words text) (none_in_words is_backslash text none)
+plain_names text none = grind (arith, plain_words, names_themselves, none_in_words)
 
 -- also where they are cut at the bar
 pub plain_needs_from : (text : Text) → list_any is_backslash text ≡ false → needs_from without_dots false [] [] (words_of text) ≡ needs_of (written_words text)
 unfolding needs_of
-plain_needs_from text none =
-    let words = none_in_words is_backslash text none in
-    ap (needs_from without_dots false [] []) (sym (plain_words text none)) ∙ before_all without_dots [] (written_words text)
-    ∙ rw (
-      names_themselves (before_first is_bar (written_words text)) (none_taken (list_any is_backslash) _ (written_words text) words),
-      names_themselves (after_first is_bar (written_words text)) (none_left (list_any is_backslash) _ (written_words text) words),
-    ) refl
+plain_needs_from text none = grind (arith, none_in_words, needs_from, plain_words, before_all, names_themselves, none_taken, none_left)

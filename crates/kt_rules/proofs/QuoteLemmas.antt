@@ -1,6 +1,6 @@
 -- Unquoting: which backslashes are removed, and that every other byte stays.
-use Rattle.std.proofs.Common.{◌≡◌, ℕ, Bool, true, false, List, [], ◌∷◌, ◌++◌, flat_map, All, refl, sym, ap, ◌∙◌, true≢false, ◌==◌, ◌&&◌}
-use Rattle.kt_rules.proofs.Common.{list_all, and_from, eqb-true, All-cons, All-head, All-nil, All-tail, head_is, none_in, tail_is, and_first, and_nothing, and_second, Text, is_quotable, begins_quotable, unquoted}
+use Rattle.std.proofs.Common.{arith, ◌≡◌, ℕ, Bool, true, false, List, [], ◌∷◌, ◌++◌, flat_map, All, refl, ap, ◌∙◌, true≢false, ◌==◌, ◌&&◌}
+use Rattle.kt_rules.proofs.Common.{list_all, and_from, eqb-true, All-cons, All-head, All-nil, All-tail, none_in, tail_is, and_first, and_nothing, and_second, Text, is_quotable, begins_quotable, unquoted}
 use Rattle.kt_rules.specs.HeadWords.{HoldsNoQuote, quoted_text, piece_text, IsUnquoted, UnquotedLaw}
 
 -- a text that holds no backslash that quotes, without its first byte
@@ -30,9 +30,7 @@ one_goes text h = rw h refl
 piece_stays : (piece rest : Text) → HoldsNoQuote piece → begins_quotable rest ≡ false
     → unquoted (piece ++ rest) ≡ piece ++ unquoted rest
 piece_stays [] rest h r = refl
-piece_stays (byte ∷ piece) rest h r =
-    one_stays byte (piece ++ rest) (first_stays byte piece rest h r)
-    ∙ ap (λ (xs : Text). byte ∷ xs) (piece_stays piece rest (holds_less byte piece h) r)
+piece_stays (byte ∷ piece) rest h r = grind (arith, one_stays, first_stays, holds_less, piece_stays piece rest (holds_less byte piece h) r)
 
 -- pieces with backslashes before them begin with a backslash
 pieces_begin : (pieces : List Text) → begins_quotable (flat_map quoted_text pieces) ≡ false
@@ -40,8 +38,7 @@ pieces_begin [] = refl
 pieces_begin (piece ∷ pieces) = refl
 
 begins_too : (piece rest : Text) → begins_quotable piece ≡ true → begins_quotable (piece ++ rest) ≡ true
-begins_too [] rest h = absurd (true≢false (sym h))
-begins_too (byte ∷ piece) rest h = h
+begins_too piece rest h = grind (arith, true≢false)
 
 -- a backslash is removed before a piece whose first byte it quotes
 one_quoted : (piece rest : Text) → begins_quotable piece ≡ true
@@ -78,21 +75,13 @@ holds_none = λ front back byte e. absurd (none_in 92 front (byte ∷ back) e)
 holds_more : (byte : ℕ) (piece rest : Text) → (byte == 92 && begins_quotable (piece ++ rest)) ≡ false
     → HoldsNoQuote piece → HoldsNoQuote (byte ∷ piece)
 holds_more byte [] rest s h [] back other e = absurd (none_in other [] back (tail_is byte 92 [] (other ∷ back) e))
-holds_more byte (next ∷ piece) rest s h [] back other e =
-    ap is_quotable (sym (head_is next other piece back (tail_is byte 92 (next ∷ piece) (other ∷ back) e)))
-    ∙ by (byte == 92) (is_quotable next) (ap (λ n. n == 92) (head_is byte 92 (next ∷ piece) (other ∷ back) e)) s
-  where
-    by : (a b : Bool) → a ≡ true → (a && b) ≡ false → b ≡ false
-    by true b f g = g
-    by false b f g = absurd (true≢false (sym f))
-holds_more byte piece rest s h (first ∷ front) back other e =
-    h front back other (tail_is byte first piece (front ++ 92 ∷ other ∷ back) e)
+holds_more byte (next ∷ piece) rest s h [] back other e = grind (arith, tail_is, true≢false)
+holds_more byte piece rest s h (first ∷ front) back other e = grind (arith, tail_is)
 
 -- a first piece begins as its text does, where that begins with a byte that is quoted
 begins_first : (first : Text) (pieces : List Text) → begins_quotable (first ++ flat_map quoted_text pieces) ≡ true
     → begins_quotable first ≡ true
-begins_first [] pieces h = absurd (true≢false (sym h ∙ pieces_begin pieces))
-begins_first (byte ∷ first) pieces h = h
+begins_first first pieces h = grind (arith, true≢false, pieces_begin)
 
 pieces_more : (byte : ℕ) (text : Text) → InPieces text → (b : Bool) → (byte == 92 && begins_quotable text) ≡ b
     → InPieces (byte ∷ text)
@@ -103,8 +92,7 @@ pieces_more byte text rest true h =
       first = [];
       pieces = rest.first ∷ rest.pieces;
       together = ap (λ n. n ∷ text) slash ∙ ap (λ (xs : Text). 92 ∷ xs) rest.together;
-      quoted = and_from (begins_quotable rest.first) (list_all begins_quotable rest.pieces)
-          (begins_first rest.first rest.pieces (ap begins_quotable (sym rest.together) ∙ begins)) rest.quoted;
+      quoted = grind (arith, and_from, begins_first);
       no_first = holds_none;
       no_other = All-cons HoldsNoQuote rest.first rest.pieces rest.no_first rest.no_other;
     }
@@ -113,8 +101,7 @@ pieces_more byte text rest false h = record {
   pieces = rest.pieces;
   together = ap (λ (xs : Text). byte ∷ xs) rest.together;
   quoted = rest.quoted;
-  no_first = holds_more byte rest.first (flat_map quoted_text rest.pieces)
-      (ap (λ (xs : Text). byte == 92 && begins_quotable xs) (sym rest.together) ∙ h) rest.no_first;
+  no_first = grind (arith, holds_more);
   no_other = rest.no_other;
 }
 
@@ -143,8 +130,7 @@ some_unquoted text =
     }
 
 only_unquoted : (text left : Text) → IsUnquoted text left → left ≡ unquoted text
-only_unquoted text left is =
-    is.stays ∙ sym (ap unquoted is.together ∙ pieces_stay is.first is.pieces is.quoted is.no_other)
+only_unquoted text left is = grind (arith, pieces_stay)
 
 pub unquoted_law : UnquotedLaw
 unquoted_law = record { some = some_unquoted; only = only_unquoted }

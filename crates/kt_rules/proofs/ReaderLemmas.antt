@@ -1,6 +1,6 @@
 -- What reading a line with plain prerequisites comes down to.
-use Rattle.std.proofs.Common.{◌≡◌, Bool, true, false, true≢false, [], ◌∷◌, drop, None, refl, sym, ap, ◌∙◌, ⊎_elim, ◌||◌, nat_eq}
-use Rattle.kt_rules.proofs.Common.{list_any, starts_with, cases_Bool, starts_is, has_percent, Text, is_colon, Needs, Line, read_line, tested_line, Head, after_double, head_of, line_of}
+use Rattle.std.proofs.Common.{arith, ◌≡◌, Bool, false, true≢false, None, ap, ⊎_elim, ◌||◌, nat_eq}
+use Rattle.kt_rules.proofs.Common.{list_any, cases_Bool, starts_is, has_percent, Text, is_colon, Needs, Line, read_line, Head, after_double, head_of, line_of}
 use Rattle.std.proofs.lemmas.Bool.Decides.{Decides-eqb}
 use Rattle.kt_rules.specs.declared.head.Separator.TheVariants.{Single}
 use Rattle.kt_rules.specs.inner.Remembered.{IsLongCut, Names, ReadsAsLong, long_line}
@@ -11,14 +11,10 @@ use Rattle.kt_rules.proofs.SignLemmas.{signs_tell}
 -- without a colon there is no second one
 single : (after : Text) → list_any is_colon after ≡ false → after_double after ≡ None
 unfolding after_double
-single after none =
-    ⊎_elim (λ h.
-    let begins : after ≡ 58 ∷ drop 1 after = (starts_is Decides-eqb after (58 ∷ []) true (sym h)).0 refl in
-    absurd (true≢false (sym (ap (list_any is_colon) begins) ∙ none))) (λ h. rw h refl) (cases_Bool (starts_with nat_eq after (58 ∷ [])))
+single after none = grind (arith, ⊎_elim, starts_is, Decides-eqb, true≢false, cases_Bool, nat_eq)
 
 alone : (b : Bool) → b ≡ (b || false)
-alone true = refl
-alone false = refl
+alone b = grind arith
 
 pub reads_long : (text targets after : Text) (needs : Needs) → IsLongCut text targets after → Names after needs
     → ReadsAsLong text (long_line targets needs)
@@ -30,7 +26,6 @@ reads_long text targets after needs cut names =
     let quiet : (long_line targets needs).signs ≡ signs_of head
     = rw names.plain.quiet (ap (λ b. record { telling = b; percent = has_percent targets }) (alone (list_any is_telling targets))) in
     record {
-      read = rw cut.filled (rw cut.cut (rw (cut.ungrouped, single after names.plain.uncut) (rw (never_colon after names.plain.uncut)
-          (ap tested_line (sym named)))));
+      read = grind (arith, single, never_colon);
       told = signs_tell head (long_line targets needs).signs line quiet named;
     }

@@ -1,13 +1,12 @@
 -- The rule of a line, from the results of the steps that read it.
-use Rattle.std.proofs.Common.{◌≡◌, ℕ, true, false, List, [], ◌∷◌, filter, refl, sym, ◌∙◌, ap, ⊎_elim, Option, Result, Ok, Err}
-use Rattle.kt_rules.proofs.Common.{list_all, onto_first, slice_split, cases_Bool, Text, is_nonempty, is_separator, words_of, RuleFault, Memory, Refused, Line, Refusal, Fault, GivesExpected, ReportsFault, fault_at, faults_at, Head, head_of, line_of, Rule, empty_line, is_nil, read_line, rule_of, rule_with, rules_with, tested_line}
+use Rattle.std.proofs.Common.{arith, ◌≡◌, ℕ, true, false, List, [], ◌∷◌, filter, refl, sym, ◌∙◌, ap, ⊎_elim, Option, Result, Ok, Err}
+use Rattle.kt_rules.proofs.Common.{list_all, onto_first, slice_split, cases_Bool, Text, is_nonempty, is_separator, words_of, RuleFault, Line, Refusal, Fault, GivesExpected, ReportsFault, fault_at, faults_at, Head, head_of, line_of, Rule, empty_line, is_nil, read_line, rule_of, rule_with, rules_with, tested_line}
 use Rattle.kt_text.proofs.WordLemmas.{words_of-nil, words_of-skip}
 use Rattle.kt_rules.specs.declared.place.Place.{Place}
 
 -- a text of which each byte is a separator has no word
 some_first : (byte : ℕ) (parts : List Text) → is_nil (filter is_nonempty (onto_first byte parts)) ≡ false
-some_first byte [] = refl
-some_first byte (part ∷ parts) = refl
+some_first byte parts = grind arith
 
 word_begun : (byte : ℕ) (text : Text) → is_separator byte ≡ false → is_nil (words_of (byte ∷ text)) ≡ false
 unfolding words_of
@@ -15,15 +14,12 @@ word_begun byte text h = rw h (some_first byte (slice_split is_separator text))
 
 pub blank_words : (text : Text) → list_all is_separator text ≡ is_nil (words_of text)
 blank_words [] = sym (ap is_nil words_of-nil)
-blank_words (byte ∷ text) =
-    ⊎_elim (λ h. rw h (blank_words text) ∙ ap is_nil (sym (words_of-skip byte text h))) (λ h. rw h refl ∙ sym (word_begun byte text h))
-    (cases_Bool (is_separator byte))
+blank_words (byte ∷ text) = grind (arith, ⊎_elim, words_of-skip, word_begun, cases_Bool, blank_words text)
 
 -- a reported fault is the expected result
 pub told_fault : {A : Type 0} (told : RuleFault) (fault : Fault) (expected : Result A Fault)
     → ReportsFault told fault → expected ≡ Err fault → GivesExpected (Err told) expected
-told_fault Memory fault expected tells is = tt
-told_fault (Refused number place words) fault expected tells is = is ∙ ap Err (sym tells)
+told_fault told fault expected tells is = grind arith
 
 module _ (text : Text) (recipe : Option Text) (place : Place) where
   -- a head without a word

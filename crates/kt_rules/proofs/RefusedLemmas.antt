@@ -1,5 +1,5 @@
 -- A name without a telling byte is accepted.
-use Rattle.std.proofs.Common.{◌≡◌, ◌==◌, ◌||◌, ◌-◌, ◌<◌, ◌≤◌, ℕ, false, [], ◌∷◌, length, drop, refl, sym, ap, ◌∙◌, arith, nat_eq}
+use Rattle.std.proofs.Common.{◌≡◌, ◌==◌, ◌-◌, ◌<◌, ◌≤◌, ℕ, false, [], ◌∷◌, length, drop, refl, arith, nat_eq}
 use Rattle.kt_rules.proofs.Common.{ne_eqb, or_parts, pointwise, list_any, starts_with, Text, differ_turned, is_member, is_refused_name, is_wildcard}
 use Rattle.std.proofs.Math.Bool.{or-false}
 use Rattle.kt_rules.proofs.BackslashLemmas.{quotes_no_percent}
@@ -14,11 +14,7 @@ pub record IsNoneOf (byte : ℕ) : Type 0 where
   closing : (byte == 41) ≡ false
 
 pub none_of : (byte : ℕ) → is_telling byte ≡ false → IsNoneOf byte
-none_of byte none =
-    let last = or_parts (tells_early byte) (byte == 126) none in
-    let later = or_parts (is_wildcard byte || byte == 92) (byte == 41) last.0 in
-    let parts = or_parts (is_wildcard byte) (byte == 92) later.0 in
-    record { wildcard = parts.0; backslash = parts.1; tilde = last.1; closing = later.1 }
+none_of byte none = grind (arith, or_parts)
 
 below : (byte other : ℕ) → other < byte → (byte == other) ≡ false
 below byte other low = ne_eqb byte other (λ e. absurd (omega (arith, e, low)))
@@ -26,31 +22,18 @@ below byte other low = ne_eqb byte other (λ e. absurd (omega (arith, e, low)))
 -- above the backslash only the tilde is a telling byte
 pub last_tells : (byte : ℕ) → 92 < byte → (byte == 126) ≡ is_telling byte
 unfolding is_wildcard
-last_tells byte high =
-    rw (
-      below byte 42 (omega (arith, high)),
-      below byte 63 (omega (arith, high)),
-      below byte 91 (omega (arith, high)),
-      below byte 92 high,
-      below byte 41 (omega (arith, high)),
-    ) refl
+last_tells byte high = grind (arith, below)
 
 -- up to the backslash all telling bytes are the others
 pub others_tell : (byte : ℕ) → byte ≤ 92 → tells_early byte ≡ is_telling byte
-others_tell byte within =
-    let none : (byte == 126) ≡ false = ne_eqb byte 126 (λ e. absurd (omega (arith, e, within))) in
-    sym (ap (λ b. tells_early byte || b) none ∙ or-false (tells_early byte))
+others_tell byte within = grind (arith, ne_eqb, or-false)
 
 -- a text without a byte doesn't begin with it
 begins_otherwise : (byte : ℕ) (text : Text) → list_any (λ b. b == byte) text ≡ false → pointwise nat_eq (byte ∷ []) text ≡ false
-begins_otherwise byte [] none = refl
-begins_otherwise byte (first ∷ text) none =
-    rw (differ_turned first byte (or_parts (first == byte) (list_any (λ b. b == byte) text) none).0) refl
+begins_otherwise byte text none = grind (arith, differ_turned, or_parts)
 
 tilde_first : (text : Text) → list_any (λ b. b == 126) text ≡ false → starts_with nat_eq text (126 ∷ []) ≡ false
-tilde_first [] none = refl
-tilde_first (first ∷ text) none =
-    rw (differ_turned first 126 (or_parts (first == 126) (list_any (λ b. b == 126) text) none).0) refl
+tilde_first text none = grind (arith, differ_turned, or_parts)
 
 no_member : (text : Text) → list_any (λ b. b == 41) text ≡ false → is_member text ≡ false
 unfolding is_member
@@ -58,10 +41,4 @@ no_member text none = rw (begins_otherwise 41 (drop (length text - 1) text) (non
 
 pub plain_name_taken : (name : Text) → list_any is_telling name ≡ false → is_refused_name name ≡ false
 unfolding is_refused_name
-plain_name_taken name none =
-    rw (
-      none_of_fewer is_telling is_wildcard name (λ byte quiet. (none_of byte quiet).wildcard) none,
-      quotes_no_percent name (none_of_fewer is_telling (λ b. b == 92) name (λ byte quiet. (none_of byte quiet).backslash) none),
-      tilde_first name (none_of_fewer is_telling (λ b. b == 126) name (λ byte quiet. (none_of byte quiet).tilde) none),
-      no_member name (none_of_fewer is_telling (λ b. b == 41) name (λ byte quiet. (none_of byte quiet).closing) none),
-    ) refl
+plain_name_taken name none = grind (arith, none_of_fewer, none_of, quotes_no_percent, tilde_first, no_member)

@@ -1,6 +1,6 @@
 -- Spots as rules are added.
-use Rattle.std.proofs.Common.{◌≡◌, ℕ, ◌+◌, ◌<◌, cond, nat_lt, Bool, true, false, if◌then◌else◌, List, [], ◌∷◌, ◌++◌, length, drop, Option, Some, None, refl, sym, ap, ◌∙◌, subst, arith, slice_get, zero, suc, is_some}
-use Rattle.kt_rules.proofs.Common.{option_and_then, cons_option, bytes_eq, append-nil, filter-append, filter_map-append, le-ltb, lt-ltb, place_of, Text, Target, Spot, Rule, is_made, list_of, target_rule, spot_rule, spots_at, spots_before, found, spot_at, target_spots, spots_from, spots_for, AreBefore, AreIn, ForgotFrom, GrewIn, GotSpots, GotRecipes}
+use Rattle.std.proofs.Common.{rules, ◌≡◌, ℕ, ◌+◌, ◌<◌, cond, nat_lt, Bool, if◌then◌else◌, List, [], ◌∷◌, ◌++◌, length, drop, Some, None, refl, sym, ap, ◌∙◌, arith, slice_get, zero, suc, is_some}
+use Rattle.kt_rules.proofs.Common.{option_and_then, cons_option, append-nil, filter-append, filter_map-append, le-ltb, lt-ltb, Text, Target, Spot, Rule, target_rule, spot_rule, spots_at, spots_before, found, spot_at, target_spots, spots_from, spots_for, AreBefore, AreIn, ForgotFrom, GrewIn, GotSpots, GotRecipes}
 use Rattle.kt_rules.specs.inner.Lists.{Notes, list_at}
 
 -- a rule stays at its place
@@ -19,9 +19,7 @@ pub rules_left : (rules : List Rule) (place : ℕ) (rule : Rule) → Some rule �
 rules_left [] zero rule h = absurd (cc h)
 rules_left [] (suc place) rule h = absurd (cc h)
 rules_left (first ∷ rules) zero rule h = let same : rule ≡ first = cc in ap (λ (one : Rule). one ∷ rules) (sym same)
-rules_left (first ∷ rules) (suc place) rule h =
-    let on : suc place + 1 ≡ suc (place + 1) = omega arith in
-    rules_left rules place rule h ∙ sym (ap (λ n. rule ∷ drop n (first ∷ rules)) on)
+rules_left (first ∷ rules) (suc place) rule h = grind (arith, rules_left rules place rule h)
 
 -- no rule is at a place after the last
 pub rules_end : (rules : List Rule) (place : ℕ) → None ≡ slice_get rules place → drop place rules ≡ []
@@ -31,15 +29,12 @@ rules_end (first ∷ rules) zero h = absurd (cc h)
 rules_end (first ∷ rules) (suc place) h = rules_end rules place h
 
 nothing : (place : ℕ) → drop {A = Rule} place [] ≡ []
-nothing zero = refl
-nothing (suc place) = refl
+nothing place = grind arith
 
 pub rules_past : (rules : List Rule) (place : ℕ) → None ≡ slice_get rules place → drop place rules ≡ drop (place + 1) rules
 rules_past [] place h = nothing place ∙ sym (nothing (place + 1))
 rules_past (first ∷ rules) zero h = absurd (cc h)
-rules_past (first ∷ rules) (suc place) h =
-    let on : suc place + 1 ≡ suc (place + 1) = omega arith in
-    rules_past rules place h ∙ sym (ap (λ n. drop n (first ∷ rules)) on)
+rules_past (first ∷ rules) (suc place) h = grind (arith, rules_past rules place h)
 
 -- spots of the rules before a new one find what they found
 pub found-before : (rules : List Rule) (rule : Rule) (spots : List Spot) → AreBefore (length rules) spots
@@ -71,22 +66,16 @@ in_append place [] more h k = k
 in_append place (spot ∷ spots) more h k = (h.0, in_append place spots more h.1 k)
 
 in_if : (place number : ℕ) (b : Bool) → AreIn place (if b then spot_at place number ∷ [] else [])
-in_if place number true = (refl, tt)
-in_if place number false = tt
+in_if place number b = grind arith
 
 pub in_target_spots : (rule : Rule) (target : Target) (place number : ℕ) (name : Text) → AreIn place (target_spots rule target (spot_at place number) name)
-in_target_spots rule target place number name = by (is_made rule target)
-  where
-    by : (made : Bool) → AreIn place (if made then (if bytes_eq name target.name then spot_at place number ∷ [] else []) else [])
-    by true = in_if place number (bytes_eq name target.name)
-    by false = tt
+in_target_spots rule target place number name = grind (arith, in_if)
 
 -- the spots of a rule are its own
 pub in_spots_from : (rule : Rule) (place number : ℕ) (targets : List Target) (name : Text) → AreIn place (spots_from rule place number targets name)
 unfolding spots_from
 in_spots_from rule place number [] name = tt
-in_spots_from rule place number (target ∷ targets) name =
-    in_append place _ _ (in_target_spots rule target place number name) (in_spots_from rule place (number + 1) targets name)
+in_spots_from rule place number (target ∷ targets) name = grind (arith, in_append, in_target_spots, in_spots_from rule place (number + 1) targets name)
 
 cons_nil : (target : Target) (rest : List Target) → (target ∷ rest) ≡ [] → ⊥
 cons_nil target rest h = cc
@@ -96,14 +85,8 @@ pub first_target : (targets : List Target) (number : ℕ) (target : Target) (res
     → (slice_get targets number ≡ Some target) × (rest ≡ drop (number + 1) targets)
 first_target [] zero target rest h = absurd (cons_nil target rest h)
 first_target [] (suc number) target rest h = absurd (cons_nil target rest h)
-first_target (first ∷ targets) zero target rest h =
-    let e : first ≡ target = cc in
-    let r : rest ≡ targets = cc in
-    (ap Some e, r)
-first_target (first ∷ targets) (suc number) target rest h =
-    let later = first_target targets number target rest h in
-    let e : suc number + 1 ≡ suc (number + 1) = omega arith in
-    (later.0, subst (λ n. rest ≡ drop n (first ∷ targets)) (sym e) later.1)
+first_target (first ∷ targets) zero target rest h = grind arith
+first_target (first ∷ targets) (suc number) target rest h = grind (arith, first_target targets number target rest h)
 
 -- ---- spots that are taken back
 
@@ -122,11 +105,7 @@ in_gone place (spot ∷ spots) h =
 
 spots_forgotten : (names : List Text) (place : ℕ) (grown new : List (List Spot)) (name : Text) → ForgotFrom place grown new
     → spots_at (names, new) name ≡ spots_before place (spots_at (names, grown) name)
-spots_forgotten names place grown new name forgot = by (place_of names name)
-  where
-    by : (number : Option ℕ) → list_of number new ≡ spots_before place (list_of number grown)
-    by None = refl
-    by (Some number) = forgot number
+spots_forgotten names place grown new name forgot = grind arith
 
 -- what a rule's targets got is taken back
 pub taken_back : (names : List Text) (place : ℕ) (old grown new : List (List Spot)) (name : Text) → AreBefore place (spots_at (names, old) name)
@@ -148,8 +127,7 @@ pub grew_spots : (rule : Rule) (place : ℕ) (old new : Notes) → GotSpots rule
 grew_spots rule place old new got = λ name. (spots_for rule place name, got name, in_spots_from rule place 0 rule.targets name)
 
 in_spots_if : (rule : Rule) (place : ℕ) (name : Text) (b : Bool) → AreIn place (if b then spots_for rule place name else [])
-in_spots_if rule place name true = in_spots_from rule place 0 rule.targets name
-in_spots_if rule place name false = tt
+in_spots_if rule place name b = grind (arith, in_spots_from)
 
 pub grew_recipes : (rule : Rule) (place : ℕ) (old new : Notes) → GotRecipes rule place old new → GrewIn place old new
 grew_recipes rule place old new got = λ name.

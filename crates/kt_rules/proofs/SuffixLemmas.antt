@@ -1,6 +1,6 @@
 -- Suffixes in a name, by their lengths.
-use Rattle.std.proofs.Common.{◌≡◌, ℕ, zero, suc, ◌+◌, ◌-◌, ◌<◌, ◌≤◌, Bool, true, false, cond, ◌&&◌, ◌||◌, List, [], ◌∷◌, ◌++◌, find, fold, position, length, take, drop, Option, Some, None, IfSome, refl, sym, ap, subst, ◌∙◌, true≢false, arith, get_or, slice_get, Result, Ok, Err, OnOk, OnErr, ◌≢◌, min, nat_eq, nat_lt, if◌then◌else◌}
-use Rattle.kt_rules.proofs.Common.{option_and_then, ends_with, position_from, position_or_len, range_with_len, pointwise, as_long, nat_list_eq_equiv, unequal, eq-eqb, eqb-true, lt-ltb, ltb-false, ltb-true, or_left, or_right, IfSome_then, slice_get_past, position_from-zero, fold-append, drop_more, drop_all, length-drop, length-take-le, and_first, Text, is_among, with_name, HaveLengths, KeepLengths, cut_after, earlier, end_of_length, first_cut, first_end, goes_on, is_number, lengths_with, with_number, Needs, all_needs, is_cut_at, suffix_cut}
+use Rattle.std.proofs.Common.{rules, ◌≡◌, ℕ, zero, suc, ◌+◌, ◌-◌, ◌<◌, ◌≤◌, Bool, true, false, cond, ◌&&◌, ◌||◌, List, [], ◌∷◌, ◌++◌, find, fold, position, length, take, drop, Option, Some, None, IfSome, refl, sym, ap, subst, ◌∙◌, true≢false, arith, get_or, slice_get, Result, OnOk, OnErr, ◌≢◌, min, nat_eq, nat_lt, if◌then◌else◌}
+use Rattle.kt_rules.proofs.Common.{option_and_then, ends_with, position_from, position_or_len, range_with_len, pointwise, as_long, nat_list_eq_equiv, eq-eqb, eqb-true, lt-ltb, ltb-false, ltb-true, or_left, or_right, IfSome_then, slice_get_past, position_from-zero, fold-append, drop_more, drop_all, length-drop, length-take-le, and_first, Text, is_among, with_name, HaveLengths, KeepLengths, cut_after, earlier, end_of_length, first_cut, first_end, goes_on, is_number, lengths_with, with_number, Needs, all_needs, is_cut_at, suffix_cut}
 use Rattle.std.proofs.lemmas.List.Folds as folds
 
 -- ---- lengths
@@ -23,18 +23,10 @@ more_numbers (first ∷ numbers) number other h =
 
 -- a number that is added is among the numbers, and the others stay
 number_added : (numbers : List ℕ) (number : ℕ) → is_number (with_number numbers number) number ≡ true
-number_added numbers number = by (is_number numbers number) refl
-  where
-    by : (b : Bool) → is_number numbers number ≡ b → is_number (if b then numbers else numbers ++ number ∷ []) number ≡ true
-    by true h = h
-    by false h = last_number numbers number
+number_added numbers number = grind (arith, last_number)
 
 number_kept : (numbers : List ℕ) (number other : ℕ) → is_number numbers other ≡ true → is_number (with_number numbers number) other ≡ true
-number_kept numbers number other h = by (is_number numbers number)
-  where
-    by : (b : Bool) → is_number (if b then numbers else numbers ++ number ∷ []) other ≡ true
-    by true = h
-    by false = more_numbers numbers number other h
+number_kept numbers number other h = grind (arith, more_numbers)
 
 -- one length more keeps those of all names
 pub length_kept : (old lengths : List ℕ) (number : ℕ) → KeepLengths old lengths → KeepLengths old (with_number lengths number)
@@ -73,26 +65,18 @@ name_added names lengths name have = by (is_among names name)
 pub names_added : (names : List Text) (lengths : List ℕ) (more : List Text) → HaveLengths names lengths → HaveLengths (fold with_name names more) (lengths_with lengths more)
 unfolding lengths_with
 names_added names lengths [] have = have
-names_added names lengths (name ∷ more) have =
-    names_added (with_name names name) (with_number lengths (length name)) more (name_added names lengths name have)
+names_added names lengths (name ∷ more) have = grind (arith, length, name_added, names_added (with_name names name) (with_number lengths (length name)) more (name_added names lengths name have))
 
 -- the needs of a rule that are added, with their lengths
 pub needs_added : (names : List Text) (lengths first second : List ℕ) (needs : Needs) → HaveLengths names lengths
     → first ≡ lengths_with lengths needs.prerequisites → second ≡ lengths_with first needs.order_only
     → HaveLengths (fold with_name names (all_needs needs)) second
-needs_added names lengths first second needs have one two =
-    let both : HaveLengths (fold with_name (fold with_name names needs.prerequisites) needs.order_only) (lengths_with (lengths_with lengths needs.prerequisites) needs.order_only)
-    = names_added (fold with_name names needs.prerequisites) (lengths_with lengths needs.prerequisites) needs.order_only
-    (names_added names lengths needs.prerequisites have) in
-    subst (λ all. HaveLengths all second) (sym (fold-append with_name names needs.prerequisites needs.order_only))
-    (subst (λ ls. HaveLengths (fold with_name (fold with_name names needs.prerequisites) needs.order_only) ls)
-    (sym (two ∙ ap (λ ls. lengths_with ls needs.order_only) one)) both)
+needs_added names lengths first second needs have one two = grind (arith, names_added, fold-append)
 
 -- names that were added, or are as they were
 pub by_result : {A E : Type 0} (result : Result A E) (old new more : List Text) (lengths : List ℕ) → OnOk result (new ≡ more) → OnErr result (new ≡ old)
     → HaveLengths more lengths → HaveLengths old lengths → HaveLengths new lengths
-by_result (Ok x) old new more lengths ok err all few = subst (λ names. HaveLengths names lengths) (sym ok) all
-by_result (Err e) old new more lengths ok err all few = subst (λ names. HaveLengths names lengths) (sym err) few
+by_result result old new more lengths ok err all few = grind arith
 
 -- names by themselves, with their lengths
 kept_with : (lengths : List ℕ) (names : List Text) (number : ℕ) → is_number lengths number ≡ true → is_number (lengths_with lengths names) number ≡ true
@@ -103,11 +87,7 @@ kept_with lengths (name ∷ names) number h = kept_with (with_number lengths (le
 pub own_lengths : (lengths : List ℕ) (names : List Text) → HaveLengths names (lengths_with lengths names)
 unfolding lengths_with
 own_lengths lengths [] other h = absurd (true≢false (sym h))
-own_lengths lengths (name ∷ names) other h =
-    or_either (is_number (lengths_with (with_number lengths (length name)) names) (length other) ≡ true) (pointwise nat_eq other name) (is_among names other) h
-    (λ same. ap (is_number (lengths_with (with_number lengths (length name)) names)) (as_long nat_eq other name same)
-    ∙ kept_with (with_number lengths (length name)) names (length name) (number_added lengths (length name)))
-    (own_lengths (with_number lengths (length name)) names other)
+own_lengths lengths (name ∷ names) other h = search (rules, or_either, length, pointwise, nat_eq, kept_with, number_added, own_lengths (with_number lengths (length name)) names other)
 
 -- no names
 pub none_added : (lengths : List ℕ) → HaveLengths [] lengths
@@ -117,8 +97,7 @@ none_added lengths name h = absurd (true≢false (sym h))
 pub lengths_at : (lengths : List ℕ) (names : List Text) (i : ℕ) (name : Text) → i < length names → name ≡ get_or names i name
     → lengths_with (with_number lengths (length name)) (drop (i + 1) names) ≡ lengths_with lengths (drop i names)
 unfolding lengths_with
-lengths_at lengths names i name h e =
-    ap (λ (x : Text). lengths_with lengths (x ∷ drop (i + 1) names)) e ∙ ap (lengths_with lengths) (sym (drop_more names i name h))
+lengths_at lengths names i name h e = grind (arith, drop_more)
 
 -- a length of the remaining names
 pub lengths_left : (lengths more : List ℕ) (left rest : List Text) (name : Text) → more ≡ with_number lengths (length name) → left ≡ name ∷ rest
@@ -137,8 +116,7 @@ lengths_end lengths names i h = ap (lengths_with lengths) (drop_all i names h)
 -- ---- the smaller of two places
 
 if_found : (P : ℕ → Type 0) (from : ℕ) (found : Option ℕ) (b : Bool) → P from → IfSome found P → IfSome (cond b (Some from) found) P
-if_found P from found true h rest = h
-if_found P from found false h rest = rest
+if_found P from found b h rest = grind arith
 
 one_before : (from place : ℕ) → from + 1 ≤ place → from ≤ place
 one_before from place h = omega arith
@@ -147,33 +125,21 @@ min_same : (n : ℕ) → Some n ≡ Some (min n n)
 min_same n = let e : n ≡ min n n = omega arith in ap Some e
 
 min_left : (n : ℕ) (found : Option ℕ) → IfSome found (λ place. n + 1 ≤ place) → Some n ≡ earlier (Some n) found
-min_left n None h = refl
-min_left n (Some place) h = let e : n ≡ min n place = omega arith in ap Some e
+min_left n found h = grind (arith, min)
 
 min_right : (n : ℕ) (found : Option ℕ) → IfSome found (λ place. n + 1 ≤ place) → Some n ≡ earlier found (Some n)
-min_right n None h = refl
-min_right n (Some place) h = let e : n ≡ min place n = omega arith in ap Some e
+min_right n found h = grind (arith, min)
 
 either_step : (p q c : Bool) (from : ℕ) (one two both : Option ℕ) → IfSome one (λ place. from + 1 ≤ place) → IfSome two (λ place. from + 1 ≤ place)
     → both ≡ earlier one two
     → cond ((p || q) && c) (Some from) both ≡ earlier (cond (p && c) (Some from) one) (cond (q && c) (Some from) two)
-either_step true true true from one two both a b e = min_same from
-either_step true false true from one two both a b e = min_left from two b
-either_step false true true from one two both a b e = min_right from one a
-either_step false false c from one two both a b e = e
-either_step true true false from one two both a b e = e
-either_step true false false from one two both a b e = e
-either_step false true false from one two both a b e = e
+either_step p q c from one two both a b e = grind (arith, min_same, min_left, min_right)
 
 earlier_none : (found : Option ℕ) → earlier found None ≡ found
-earlier_none None = refl
-earlier_none (Some place) = refl
+earlier_none found = grind arith
 
 earlier_assoc : (a b c : Option ℕ) → earlier (earlier a b) c ≡ earlier a (earlier b c)
-earlier_assoc None b c = refl
-earlier_assoc (Some x) None c = refl
-earlier_assoc (Some x) (Some y) None = refl
-earlier_assoc (Some x) (Some y) (Some z) = let e : min (min x y) z ≡ min x (min y z) = omega arith in ap Some e
+earlier_assoc a b c = grind (arith, min)
 
 -- ---- one length after the other
 
@@ -181,18 +147,12 @@ earlier_assoc (Some x) (Some y) (Some z) = let e : min (min x y) z ≡ min x (mi
 tried : (search_in : List ℕ → Option ℕ) (search_at : ℕ → Option ℕ) → ((n : ℕ) (ns : List ℕ) → search_in (n ∷ ns) ≡ earlier (search_at n) (search_in ns))
     → (lengths : List ℕ) (i n : ℕ) (first one next : Option ℕ) → i < length lengths → n ≡ get_or lengths i 0 → one ≡ search_at n → next ≡ earlier first one
     → earlier next (search_in (drop (i + 1) lengths)) ≡ earlier first (search_in (drop i lengths))
-tried search_in search_at more lengths i n first one next h e at both =
-    ap (λ o. earlier o (search_in (drop (i + 1) lengths))) (both ∙ ap (earlier first) at)
-    ∙ earlier_assoc first (search_at n) (search_in (drop (i + 1) lengths))
-    ∙ ap (earlier first) (sym (more n (drop (i + 1) lengths)))
-    ∙ ap (λ (m : ℕ). earlier first (search_in (m ∷ drop (i + 1) lengths))) e
-    ∙ ap (λ ns. earlier first (search_in ns)) (sym (drop_more lengths i 0 h))
+tried search_in search_at more lengths i n first one next h e at both = grind (arith, earlier_assoc, drop_more)
 
 -- none remains
 all_tried : (search_in : List ℕ → Option ℕ) → search_in [] ≡ None → (lengths : List ℕ) (i : ℕ) (first : Option ℕ) → length lengths ≤ i
     → earlier first (search_in (drop i lengths)) ≡ first
-all_tried search_in none lengths i first h =
-    ap (λ ns. earlier first (search_in ns)) (drop_all i lengths h) ∙ ap (earlier first) none ∙ earlier_none first
+all_tried search_in none lengths i first h = grind (arith, drop_all, earlier_none)
 
 -- ---- places in a name
 
@@ -205,16 +165,12 @@ at_zero many place h = omega arith
 -- what is found is among the numbers
 found_from : (test : ℕ → Bool) (many from : ℕ) → IfSome (find test (range_with_len from many)) (λ place. from ≤ place)
 found_from test zero from = tt
-found_from test (suc many) from =
-    if_found (λ place. from ≤ place) from (find test (range_with_len (from + 1) many)) (test from) (omega arith)
-    (IfSome_then (find test (range_with_len (from + 1) many)) (found_from test many (from + 1)) (one_before from))
+found_from test (suc many) from = grind (arith, if_found, IfSome_then, one_before, found_from test many (from + 1))
 
 -- and before their end
 found_before : (test : ℕ → Bool) (many from : ℕ) → IfSome (find test (range_with_len from many)) (λ place. place ≤ from + many)
 found_before test zero from = tt
-found_before test (suc many) from =
-    if_found (λ place. place ≤ from + suc many) from (find test (range_with_len (from + 1) many)) (test from) (omega arith)
-    (IfSome_then (find test (range_with_len (from + 1) many)) (found_before test many (from + 1)) (same_end from many))
+found_before test (suc many) from = grind (arith, if_found, IfSome_then, same_end, found_before test many (from + 1))
 
 pub cut_within : (suffixes : List Text) (name : Text) (found : Option ℕ) → found ≡ suffix_cut suffixes name → IfSome found (λ place. place ≤ length name)
 cut_within suffixes name found e =
@@ -226,10 +182,7 @@ either : (p q c : ℕ → Bool) (many from : ℕ)
     → find (λ place. (p place || q place) && c place) (range_with_len from many)
     ≡ earlier (find (λ place. p place && c place) (range_with_len from many)) (find (λ place. q place && c place) (range_with_len from many))
 either p q c zero from = refl
-either p q c (suc many) from =
-    either_step (p from) (q from) (c from) from (find (λ place. p place && c place) (range_with_len (from + 1) many))
-    (find (λ place. q place && c place) (range_with_len (from + 1) many)) (find (λ place. (p place || q place) && c place) (range_with_len (from + 1) many))
-    (found_from (λ place. p place && c place) many (from + 1)) (found_from (λ place. q place && c place) many (from + 1)) (either p q c many (from + 1))
+either p q c (suc many) from = grind (arith, either_step, found_from, either p q c many (from + 1))
 
 none_found : (test : ℕ → Bool) (many from : ℕ) → ((place : ℕ) → place < from + many → test place ≡ false) → find test (range_with_len from many) ≡ None
 none_found test zero from h = refl
@@ -245,18 +198,10 @@ same_found one other (suc many) from h =
     ∙ ap (λ o. cond (other from) (Some from) o) (same_found one other many (from + 1) (λ place low. h place (omega arith)))
 
 later : (test : ℕ → Bool) (from only : ℕ) → test only ≡ true → from ≤ only → test from ≡ false → from + 1 ≤ only
-later test from only t low e = by (nat_lt from only) refl
-  where
-    by : (b : Bool) → nat_lt from only ≡ b → from + 1 ≤ only
-    by true h = let less : from < only = ltb-true from only h in omega arith
-    by false h =
-        let more : only ≤ from = ltb-false from only h in
-        let same : only ≡ from = omega arith in
-        absurd (true≢false (sym t ∙ ap test same ∙ e))
+later test from only t low e = grind (arith, nat_lt, ltb-true, ltb-false, true≢false)
 
 first_or_later : (from only : ℕ) (found : Option ℕ) (b : Bool) → (b ≡ true → from ≡ only) → (b ≡ false → found ≡ Some only) → cond b (Some from) found ≡ Some only
-first_or_later from only found true one other = ap Some (one refl)
-first_or_later from only found false one other = other refl
+first_or_later from only found b one other = grind arith
 
 one_found : (test : ℕ → Bool) (many from only : ℕ) → from ≤ only → only < from + many → test only ≡ true
     → ((place : ℕ) → place < from + many → test place ≡ true → place ≡ only) → find test (range_with_len from many) ≡ Some only
@@ -273,30 +218,7 @@ from_zero place many h = omega arith
 -- all suffixes are found by their lengths
 pub all_cuts : (suffixes : List Text) (lengths : List ℕ) (name : Text) → HaveLengths suffixes lengths → first_cut suffixes lengths name ≡ suffix_cut suffixes name
 unfolding first_cut
-all_cuts suffixes lengths name have =
-    same_found (λ place. is_number lengths place && is_cut_at suffixes name place) (is_cut_at suffixes name) (length name) 0
-    (λ place low. by place (from_zero place (length name) low) (is_among suffixes (take place name)) refl)
-  where
-    known : (place : ℕ) → place < length name → is_among suffixes (take place name) ≡ true → is_number lengths place ≡ true
-    known place low h =
-        let within : place ≤ length name = omega arith in
-        ap (is_number lengths) (sym (length-take-le place name within)) ∙ have (take place name) h
-
-    drops : (b c : Bool) → b ≡ true → (b && c) ≡ c
-    drops true c h = refl
-    drops false c h = absurd (true≢false (sym h))
-
-    nothing : (b c : Bool) → (b && (false && c)) ≡ (false && c)
-    nothing true c = refl
-    nothing false c = refl
-
-    by : (place : ℕ) → place < length name → (b : Bool) → is_among suffixes (take place name) ≡ b
-        → (is_number lengths place && is_cut_at suffixes name place) ≡ is_cut_at suffixes name place
-    by place low true h = drops (is_number lengths place) (is_cut_at suffixes name place) (known place low h)
-    by place low false h =
-        ap (λ b. is_number lengths place && (b && is_among suffixes (drop place name))) h
-        ∙ nothing (is_number lengths place) (is_among suffixes (drop place name))
-        ∙ ap (λ b. b && is_among suffixes (drop place name)) (sym h)
+all_cuts suffixes lengths name have = grind (arith, same_found, length, from_zero, take, length-take-le, true≢false)
 
 no_cut : (suffixes : List Text) (name : Text) → first_cut suffixes [] name ≡ None
 unfolding first_cut
@@ -306,8 +228,7 @@ no_cut suffixes name = none_found (λ place. false) (length name) 0 (λ place lo
 more_cuts : (suffixes : List Text) (front : ℕ) (lengths : List ℕ) (name : Text)
     → first_cut suffixes (front ∷ lengths) name ≡ earlier (cut_after suffixes name front) (first_cut suffixes lengths name)
 unfolding first_cut cut_after
-more_cuts suffixes front lengths name =
-    either (λ place. nat_eq place front) (is_number lengths) (is_cut_at suffixes name) (length name) 0
+more_cuts suffixes front lengths name = search (rules, either, nat_eq, length)
 
 -- the lengths from a place on, and none
 pub cut_at : (suffixes : List Text) (lengths : List ℕ) (i front : ℕ) (name : Text) (first cut next : Option ℕ) → i < length lengths
@@ -356,18 +277,13 @@ cut_after_is suffixes name front = by (nat_lt front (length name)) (is_cut_at su
 
 place_found : (test : Text → Bool) (xs : List Text) (from : ℕ) → IfSome (position_from test from xs) (λ place. from ≤ place)
 place_found test [] from = tt
-place_found test (x ∷ xs) from =
-    if_found (λ place. from ≤ place) from (position_from test (from + 1) xs) (test x) (omega arith)
-    (IfSome_then (position_from test (from + 1) xs) (place_found test xs (from + 1)) (one_before from))
+place_found test (x ∷ xs) from = grind (arith, if_found, IfSome_then, one_before, place_found test xs (from + 1))
 
 -- the first text that passes one of two tests
 either_text : (p q c : Text → Bool) (xs : List Text) (from : ℕ)
     → position_from (λ x. (p x || q x) && c x) from xs ≡ earlier (position_from (λ x. p x && c x) from xs) (position_from (λ x. q x && c x) from xs)
 either_text p q c [] from = refl
-either_text p q c (x ∷ xs) from =
-    either_step (p x) (q x) (c x) from (position_from (λ x. p x && c x) (from + 1) xs) (position_from (λ x. q x && c x) (from + 1) xs)
-    (position_from (λ x. (p x || q x) && c x) (from + 1) xs)
-    (place_found (λ x. p x && c x) xs (from + 1)) (place_found (λ x. q x && c x) xs (from + 1)) (either_text p q c xs (from + 1))
+either_text p q c (x ∷ xs) from = grind (arith, either_step, place_found, either_text p q c xs (from + 1))
 
 no_place : (xs : List Text) (from : ℕ) → position_from (λ x. false) from xs ≡ None
 no_place [] from = refl
@@ -388,8 +304,7 @@ no_end suffixes name = no_place suffixes 0
 more_ends : (suffixes : List Text) (len : ℕ) (lengths : List ℕ) (name : Text)
     → first_end suffixes (len ∷ lengths) name ≡ earlier (end_of_length suffixes name len) (first_end suffixes lengths name)
 unfolding first_end end_of_length
-more_ends suffixes len lengths name =
-    either_text (λ suffix. nat_eq (length suffix) len) (λ suffix. is_number lengths (length suffix)) (ends_with nat_eq name) suffixes 0
+more_ends suffixes len lengths name = search (rules, either_text, nat_eq, length)
 
 -- the lengths from a place on, and none
 pub end_at : (suffixes : List Text) (lengths : List ℕ) (i len : ℕ) (name : Text) (first one next : Option ℕ) → i < length lengths
@@ -404,53 +319,30 @@ end_end suffixes lengths i name = all_tried (λ ns. first_end suffixes ns name) 
 
 -- a suffix of another length is not the end of that length
 other_length : (name suffix : Text) (len : ℕ) → len ≤ length name → nat_eq (length suffix) len ≡ false → length (drop (length name - len) name) ≢ length suffix
-other_length name suffix len low e same =
-    let left : length (drop (length name - len) name) ≡ length name - (length name - len) = length-drop (length name - len) name in
-    let is : length suffix ≡ len = omega arith in
-    true≢false (sym (eq-eqb (length suffix) len is) ∙ e)
+other_length name suffix len low e same = grind (arith, length, length-drop, true≢false, eq-eqb)
 
 -- a suffix of one length at the end of a name is the end of that length
 end_same : (name suffix : Text) (len : ℕ) → len ≤ length name
     → (nat_eq (length suffix) len && ends_with nat_eq name suffix) ≡ pointwise nat_eq (drop (length name - len) name) suffix
-end_same name suffix len low = by (nat_eq (length suffix) len) refl
-  where
-    by : (b : Bool) → nat_eq (length suffix) len ≡ b → (b && ends_with nat_eq name suffix) ≡ pointwise nat_eq (drop (length name - len) name) suffix
-    by true e =
-        nat_list_eq_equiv.symm suffix (drop (length name - length suffix) name)
-        ∙ ap (λ n. pointwise nat_eq (drop (length name - n) name) suffix) (eqb-true (length suffix) len e)
-    by false e = sym (unequal nat_eq (drop (length name - len) name) suffix (other_length name suffix len low e))
+end_same name suffix len low = search (rules, nat_eq, length, pointwise, eqb-true, other_length)
 
 -- a longer text is not the end of a name
 longer : (name suffix : Text) (len : ℕ) → length name < len → length suffix ≡ len → length suffix ≢ length (drop (length name - length suffix) name)
-longer name suffix len more is same =
-    let left : length (drop (length name - length suffix) name) ≡ length name - (length name - length suffix) = length-drop (length name - length suffix) name in
-    absurd (omega arith)
+longer name suffix len more is same = grind (arith, length, length-drop)
 
 -- none of a length ends a shorter name
 end_longer : (name suffix : Text) (len : ℕ) → length name < len → (nat_eq (length suffix) len && ends_with nat_eq name suffix) ≡ false
-end_longer name suffix len more = by (nat_eq (length suffix) len) refl
-  where
-    by : (b : Bool) → nat_eq (length suffix) len ≡ b → (b && ends_with nat_eq name suffix) ≡ false
-    by true e =
-        unequal nat_eq suffix (drop (length name - length suffix) name)
-        (longer name suffix len more (eqb-true (length suffix) len e))
-    by false e = refl
+end_longer name suffix len more = search (rules, nat_eq, length, longer, eqb-true)
 
 -- the end of a length, among the suffixes
 pub end_is : (suffixes : List Text) (name : Text) (len : ℕ) → len ≤ length name
     → end_of_length suffixes name len ≡ position (pointwise nat_eq (drop (length name - len) name)) suffixes
 unfolding end_of_length
-end_is suffixes name len low =
-    same_places (λ suffix. nat_eq (length suffix) len && ends_with nat_eq name suffix) (pointwise nat_eq (drop (length name - len) name)) suffixes 0
-    (λ suffix h. end_same name suffix len low)
-    ∙ sym (position_from-zero (pointwise nat_eq (drop (length name - len) name)) suffixes)
+end_is suffixes name len low = grind (arith, same_places, nat_eq, length, pointwise, end_same, position_from-zero)
 
 pub end_is_none : (suffixes : List Text) (name : Text) (len : ℕ) → length name < len → end_of_length suffixes name len ≡ None
 unfolding end_of_length
-end_is_none suffixes name len more =
-    same_places (λ suffix. nat_eq (length suffix) len && ends_with nat_eq name suffix) (λ suffix. false) suffixes 0
-    (λ suffix h. end_longer name suffix len more)
-    ∙ no_place suffixes 0
+end_is_none suffixes name len more = search (rules, same_places, nat_eq, length, end_longer, no_place)
 
 -- the first that passes is at the first place that does
 at_place : (test : Text → Bool) (xs : List Text) → find test xs ≡ option_and_then (slice_get xs) (position test xs)
@@ -464,8 +356,4 @@ at_place test xs = by (nat_lt (position_or_len test xs) (length xs)) refl
 pub all_ends : (suffixes : List Text) (lengths : List ℕ) (name : Text) → HaveLengths suffixes lengths
     → find (λ suffix. ends_with nat_eq name suffix) suffixes ≡ option_and_then (slice_get suffixes) (first_end suffixes lengths name)
 unfolding first_end
-all_ends suffixes lengths name have =
-    at_place (ends_with nat_eq name) suffixes
-    ∙ ap (option_and_then (slice_get suffixes)) (position_from-zero (ends_with nat_eq name) suffixes
-    ∙ same_places (ends_with nat_eq name) (λ suffix. is_number lengths (length suffix) && ends_with nat_eq name suffix) suffixes 0
-    (λ suffix h. ap (λ b. b && ends_with nat_eq name suffix) (sym (have suffix h))))
+all_ends suffixes lengths name have = grind (arith, at_place, nat_eq, position_from-zero, same_places, length)

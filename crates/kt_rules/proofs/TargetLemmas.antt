@@ -1,17 +1,15 @@
 -- Targets and their prerequisites, as their entry has them.
-use Rattle.std.proofs.Common.{◌≡◌, false, List, [], ◌∷◌, length, Option, Some, None, refl, arith}
+use Rattle.std.proofs.Common.{◌≡◌, false, List, [], ◌∷◌, length, Option, refl, arith}
 use Rattle.kt_rules.proofs.Common.{Bor, Text, has_percent, with_stem, length-map, stemmed_names, without_dots, is_empty, name_put, names_put}
 
 -- the first of some prerequisites, and the others
 pub first_put : (stem : Option (Bor Text)) (name : Text) (names : List Text) → names_put stem (name ∷ names) ≡ name_put stem name ∷ names_put stem names
 unfolding stemmed_names
-first_put None name names = refl
-first_put (Some stem) name names = refl
+first_put stem name names = grind arith
 
 pub none_put : (stem : Option (Bor Text)) → names_put stem [] ≡ []
 unfolding stemmed_names
-none_put None = refl
-none_put (Some stem) = refl
+none_put stem = grind arith
 
 pub none_left : (stem : Option (Bor Text)) (names : List Text) → length names ≡ 0 → names_put stem names ≡ []
 none_left stem [] none = none_put stem
@@ -20,15 +18,12 @@ none_left stem (name ∷ names) none = absurd (omega arith)
 -- a stem removes no name
 pub empty_put : (stem : Option (Bor Text)) (names : List Text) → is_empty (names_put stem names) ≡ is_empty names
 unfolding stemmed_names
-empty_put None names = refl
-empty_put (Some stem) [] = refl
-empty_put (Some stem) (name ∷ names) = refl
+empty_put stem names = grind arith
 
 -- and adds none
 pub count_put : (stem : Option (Bor Text)) (names : List Text) → length (names_put stem names) ≡ length names
 unfolding stemmed_names
-count_put None names = refl
-count_put (Some stem) names = length-map names (λ name. without_dots (with_stem name stem.now))
+count_put stem names = grind (arith, length-map)
 
 -- a name without percent sign takes no stem
 pub plain_put : (stem name : Text) → has_percent name ≡ false → without_dots name ≡ without_dots (with_stem name stem)

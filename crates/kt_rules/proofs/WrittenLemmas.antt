@@ -1,6 +1,6 @@
 -- The words of a rule line, word by word.
-use Rattle.std.proofs.Common.{◌≡◌, ℕ, zero, suc, ◌<◌, Bool, true, false, List, [], ◌∷◌, length, drop, take, filter, refl, sym, ◌∙◌, ap, arith, ⊎_elim, ◌==◌, if◌then◌else◌}
-use Rattle.kt_rules.proofs.Common.{onto_first, cases_Bool, false≢true, drop-prefix_len, Text, is_nonempty, is_separator, stripped_start, Separator, cuts, cut_place, pieces_of, written_words}
+use Rattle.std.proofs.Common.{◌≡◌, ℕ, ◌<◌, Bool, true, false, List, [], ◌∷◌, length, drop, take, filter, refl, sym, ◌∙◌, ap, arith, ⊎_elim, ◌==◌, if◌then◌else◌}
+use Rattle.kt_rules.proofs.Common.{cases_Bool, false≢true, drop-prefix_len, Text, is_nonempty, is_separator, stripped_start, Separator, cuts, cut_place, pieces_of, written_words}
 use Rattle.kt_rules.specs.declared.cutting.Cut.{Cut}
 use Rattle.kt_text.proofs.WordLemmas.{filter_nonempty}
 
@@ -15,15 +15,11 @@ pieces_first : (cut : Cut) (past : Bool) (text : Text)
     → pieces_of cut past text ≡ take (cut_place cut past text) text ∷ pieces_after cut past text
 unfolding pieces_of cut_place pieces_after
 pieces_first cut past [] = refl
-pieces_first cut past (byte ∷ text) =
-    ⊎_elim (λ h. rw h refl) (λ h. rw h (ap (onto_first byte) (pieces_first cut (byte == 92) text)))
-    (cases_Bool (cuts cut past byte))
+pieces_first cut past (byte ∷ text) = grind (arith, ⊎_elim, cases_Bool, pieces_first cut (byte == 92) text)
 
 -- a byte that cuts a text into words is a separator
 separator_cuts : (past : Bool) (byte : ℕ) → cuts Separator past byte ≡ true → is_separator byte ≡ true
-separator_cuts past byte h =
-    ⊎_elim (λ yes. yes) (λ no. absurd (false≢true (rw no at h)))
-    (cases_Bool (is_separator byte))
+separator_cuts past byte h = grind (arith, ⊎_elim, false≢true, cases_Bool)
 
 -- a separator before a text makes no word
 written_words-skip : (byte : ℕ) (text : Text) → is_separator byte ≡ true → written_words (byte ∷ text) ≡ written_words text
@@ -35,18 +31,13 @@ after_first : (past : Bool) (text : Text)
     → filter is_nonempty (pieces_after Separator past text) ≡ written_words (drop (cut_place Separator past text) text)
 unfolding pieces_of cut_place pieces_after written_words
 after_first past [] = refl
-after_first past (byte ∷ text) =
-    ⊎_elim (λ h. rw h (sym (written_words-skip byte text (separator_cuts past byte h))))
-    (λ h. rw h (after_first (byte == 92) text))
-    (cases_Bool (cuts Separator past byte))
+after_first past (byte ∷ text) = grind (arith, ⊎_elim, written_words-skip, separator_cuts, cases_Bool, after_first (byte == 92) text)
 
 -- separators before a text make no word
 pub written_words-begun : (text : Text) → written_words (stripped_start text) ≡ written_words text
 unfolding written_words
 written_words-begun [] = refl
-written_words-begun (byte ∷ text) =
-    ⊎_elim (λ h. ap written_words (drop-prefix_len is_separator byte text h) ∙ written_words-begun text ∙ sym (written_words-skip byte text h)) (λ h. rw h refl)
-    (cases_Bool (is_separator byte))
+written_words-begun (byte ∷ text) = grind (arith, ⊎_elim, drop-prefix_len, written_words-skip, cases_Bool, written_words-begun text)
 
 -- a text without leading separators begins with a word
 begun_place : (text : Text) → 0 < length (stripped_start text) → 0 < cut_place Separator false (stripped_start text)
@@ -58,9 +49,7 @@ begun_place (byte ∷ text) some =
 
 -- a nonempty part at the start of a nonempty text isn't empty
 take_some : (n : ℕ) (text : Text) → 0 < n → 0 < length text → 0 < length (take n text)
-take_some n [] h some = absurd (omega arith)
-take_some zero (byte ∷ text) h some = absurd (omega arith)
-take_some (suc n) (byte ∷ text) h some = omega arith
+take_some n text h some = grind arith
 
 -- the first word of a text that has one, and the text after it
 pub first_written : (text words : Text) → words ≡ stripped_start text → 0 < length words
