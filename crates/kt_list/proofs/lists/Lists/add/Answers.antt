@@ -1,4 +1,4 @@
-use Rattle.std.proofs.Common.{◌≡◌, length, refl, rules, ◌∙◌, ap, sym}
+use Rattle.std.proofs.Common.{arith, ◌≡◌, length, refl, rules, ◌∙◌, ap, sym}
 use Rattle.kt_list.specs.inner.Lists.{kept_for}
 use Rattle.kt_list.specs.Names.{is_among, place_of, with_name}
 use Rattle.kt_list.proofs.ListLemmas.{adds, among, are_more, keeps, lacking, number_is, number_next, stays}
@@ -60,9 +60,7 @@ returns-in-Some-clause-numbered c =
     ∙ ap (λ lists. place_of lists c.args.list.now) c.self.view_is
 
 pub returns-in-Some-clause-added : goal.returns-in-Some-clause-added
-returns-in-Some-clause-added c =
-    let old = among c.self.inside.rows c.args.list.now c.in-Some.number c.in-Some.ensures.found in
-    stays c.args.self.now c.args.list.now (sym (ap (λ lists. is_among lists c.args.list.now) c.self.view_is) ∙ old)
+returns-in-Some-clause-added c = grind (arith, among, stays)
 
 pub returns-in_err-number-in-None-clause-lacking : goal.returns-in_err-number-in-None-clause-lacking
 returns-in_err-number-in-None-clause-lacking c =
