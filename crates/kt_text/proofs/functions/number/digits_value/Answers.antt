@@ -1,21 +1,13 @@
-use Rattle.std.proofs.Common.{◌≡◌, ◌+◌, ◌*◌, ◌^◌, ◌<◌, ◌≤◌, add-one, pow-suc, arith}
+use Rattle.std.proofs.Common.{◌≡◌, ◌+◌, ◌*◌, ◌^◌, add-one, pow-suc, arith}
 use Rattle.std.proofs.Math.Nat.{pow-le-pow_right}
 use Rattle.std.proofs.lemmas.Int.Digits.{digits_value_more}
 use Rattle.kt_text.proofs.functions.number.digits_value.Goals as goal
 
 pub overflow_mul-value : goal.overflow_mul-value
-overflow_mul-value c =
-    let ten : 0 < 10 = omega arith in
-    let short : c.loop-digit.digit-index ≤ 17 = omega arith in
-    let most = pow-le-pow_right ten short in
-    omega (arith, c.loop-digit.invariant.small)
+overflow_mul-value c = grind (arith, pow-le-pow_right)
 
 pub overflow_add-value : goal.overflow_add-value
-overflow_add-value c =
-    let ten : 0 < 10 = omega arith in
-    let short : c.loop-digit.digit-index ≤ 17 = omega arith in
-    let most = pow-le-pow_right ten short in
-    omega (arith, c.loop-digit.invariant.small, c.digit_value.ensures.small)
+overflow_add-value c = grind (arith, pow-le-pow_right)
 
 pub loop-digit-preserved : goal.loop-digit-preserved
 loop-digit-preserved c =
