@@ -1,5 +1,5 @@
 -- A plan can be written exactly where it has no trouble.
-use Rattle.std.proofs.Common.{◌≡◌, ◌≢◌, ◌∙◌, ℕ, ◌+◌, List, [], ◌∷◌, ◌++◌, refl, sym, ap, arith, zero, suc, Bool, true, false, not, ◌&&◌, ◌||◌, nat_eq, Option, Some, None, option_map, Result, Ok, Err, IsOk, find, All, Contains, if◌then◌else◌, ◌↔◌}
+use Rattle.std.proofs.Common.{◌≡◌, ◌≢◌, ◌∙◌, ℕ, ◌+◌, List, [], ◌∷◌, ◌++◌, refl, sym, ap, arith, zero, suc, Bool, true, false, not, ◌&&◌, ◌||◌, nat_eq, Option, Some, None, option_map, Result, IsOk, find, All, Contains, if◌then◌else◌, ◌↔◌}
 use Rattle.kt_ninja.proofs.Common.{list_all, position_from, IsDistinct, AllByRecursion, option_or, pointwise, same_text, other_text, and_from, or_from, or_parts, list_any-append, Statement, is_among, HasWritableTexts, IsWritable, Obstacle, no_output, bad_name, bad_command, repeated, not_an_output, first_obstacle, is_empty, is_made, is_name, not_made, repeated_after, obstacle_in, obstacle_of_statement, obstacle_of_statements}
 use Rattle.std.specs.Bool.{Decides}
 use Rattle.std.proofs.lemmas.Map.Made.{AllPairs-from_IsDistinct, IsDistinct-from_AllPairs}
@@ -15,13 +15,11 @@ use Rattle.kt_ninja.specs.Plan.{names_of, outputs}
 -- of the first element and the rest: with no first that fails, all pass
 pass_case : {A : Type 0} (here : Bool) (x : A) (later : Option A) (rest : Bool)
     → (if not here then Some x else later) ≡ None → (later ≡ None → rest ≡ true) → (here && rest) ≡ true
-pass_case true x later rest none more = more none
-pass_case false x later rest none more = absurd (cc none)
+pass_case here x later rest none more = grind arith
 
 none_case : {A : Type 0} (here : Bool) (x : A) (later : Option A) (rest : Bool)
     → (here && rest) ≡ true → (rest ≡ true → later ≡ None) → (if not here then Some x else later) ≡ None
-none_case true x later rest pass more = more pass
-none_case false x later rest pass more = absurd (cc pass)
+none_case here x later rest pass more = grind arith
 
 pub pass_from_find : {A : Type 0} (p : A → Bool) (xs : List A) → find (λ x. not (p x)) xs ≡ None → list_all p xs ≡ true
 pass_from_find p [] none = refl
@@ -33,23 +31,19 @@ find_from_pass p (x ∷ xs) pass = none_case (p x) x (find (λ y. not (p y)) xs)
 
 empty_case : (here : Bool) (i : ℕ) (later : Option ℕ) (rest : Bool)
     → (if here then Some i else later) ≡ None → (later ≡ None → rest ≡ true) → (not here && rest) ≡ true
-empty_case true i later rest none more = absurd (cc none)
-empty_case false i later rest none more = more none
+empty_case here i later rest none more = grind arith
 
 empty_none : (here : Bool) (i : ℕ) (later : Option ℕ) (rest : Bool)
     → (not here && rest) ≡ true → (rest ≡ true → later ≡ None) → (if here then Some i else later) ≡ None
-empty_none true i later rest pass more = absurd (cc pass)
-empty_none false i later rest pass more = more pass
+empty_none here i later rest pass more = grind arith
 
 pass_from_position : {A : Type 0} (p : A → Bool) (i : ℕ) (xs : List A) → position_from p i xs ≡ None → list_all (λ x. not (p x)) xs ≡ true
 pass_from_position p i [] none = refl
-pass_from_position p i (x ∷ xs) none =
-    empty_case (p x) i (position_from p (i + 1) xs) (list_all (λ y. not (p y)) xs) none (pass_from_position p (i + 1) xs)
+pass_from_position p i (x ∷ xs) none = grind (arith, empty_case, not, pass_from_position p (i + 1) xs)
 
 position_from_pass : {A : Type 0} (p : A → Bool) (i : ℕ) (xs : List A) → list_all (λ x. not (p x)) xs ≡ true → position_from p i xs ≡ None
 position_from_pass p i [] pass = refl
-position_from_pass p i (x ∷ xs) pass =
-    empty_none (p x) i (position_from p (i + 1) xs) (list_all (λ y. not (p y)) xs) pass (position_from_pass p (i + 1) xs)
+position_from_pass p i (x ∷ xs) pass = grind (arith, empty_none, not, position_from_pass p (i + 1) xs)
 
 -- ---- names and commands
 
@@ -57,20 +51,16 @@ or_none : {A : Type 0} (a b : Option A) → a ≡ None → b ≡ None → option
 or_none a b one two = ap (λ o. option_or o b) one ∙ two
 
 or_first : {A : Type 0} (a b : Option A) → option_or a b ≡ None → a ≡ None
-or_first None b e = refl
-or_first (Some x) b e = e
+or_first a b e = grind arith
 
 or_second : {A : Type 0} (a b : Option A) → option_or a b ≡ None → b ≡ None
-or_second None b e = e
-or_second (Some x) b e = absurd (cc e)
+or_second a b e = grind arith
 
 map_none : {A B : Type 0} (f : A → B) (o : Option A) → option_map f o ≡ None → o ≡ None
-map_none f None e = refl
-map_none f (Some x) e = absurd (cc e)
+map_none f o e = grind arith
 
 made_true : (b : Bool) (t : Obstacle) → (if b then None else Some t) ≡ None → b ≡ true
-made_true true t e = refl
-made_true false t e = absurd (cc e)
+made_true b t e = grind arith
 
 made_none : (b : Bool) (t : Obstacle) → b ≡ true → (if b then None else Some t) ≡ None
 made_none b t e = ap (λ x. if x then None else Some t) e
@@ -79,11 +69,7 @@ abbrev fine : Statement → Bool
 fine s = list_all is_name (names_of s) && is_made s.made
 
 fine_from_none : (n : ℕ) (s : Statement) → obstacle_of_statement n s ≡ None → fine s ≡ true
-fine_from_none n s e =
-    let names = find (λ x. not (is_name x)) (names_of s) in
-    and_from (list_all is_name (names_of s)) (is_made s.made)
-    (pass_from_find is_name (names_of s) (map_none bad_name names (or_first (option_map bad_name names) _ e)))
-    (made_true (is_made s.made) (bad_command n) (or_second (option_map bad_name names) _ e))
+fine_from_none n s e = grind (arith, not, and_from, pass_from_find, map_none, or_first, made_true, or_second)
 
 none_from_fine : (n : ℕ) (s : Statement) → fine s ≡ true → obstacle_of_statement n s ≡ None
 none_from_fine n s e =
@@ -92,9 +78,7 @@ none_from_fine n s e =
 
 all_fine : (n : ℕ) (ss : List Statement) → obstacle_of_statements n ss ≡ None → list_all fine ss ≡ true
 all_fine n [] e = refl
-all_fine n (s ∷ ss) e =
-    and_from (fine s) (list_all fine ss) (fine_from_none n s (or_first (obstacle_of_statement n s) _ e))
-    (all_fine (n + 1) ss (or_second (obstacle_of_statement n s) _ e))
+all_fine n (s ∷ ss) e = grind (arith, and_from, fine_from_none, or_first, or_second, all_fine (n + 1) ss (or_second (obstacle_of_statement n s) _ e))
 
 no_obstacle : (n : ℕ) (ss : List Statement) → list_all fine ss ≡ true → obstacle_of_statements n ss ≡ None
 no_obstacle n [] e = refl
@@ -105,24 +89,20 @@ no_obstacle n (s ∷ ss) e =
 -- ---- outputs
 
 decided : (r : Bool) (a b : List ℕ) → (true ≡ r → a ≡ b) → (false ≡ r → a ≢ b) → Decides r (a ≡ b)
-decided true a b same differ = (λ _. same refl, λ _. refl)
-decided false a b same differ = (λ e. absurd (cc e), λ e. absurd (differ refl e))
+decided r a b same differ = grind arith
 
 -- the test of two names tells whether they are one
 pub names_decide : (a b : List ℕ) → Decides (pointwise nat_eq a b) (a ≡ b)
 names_decide a b = decided (pointwise nat_eq a b) a b (same_text a b) (other_text a b)
 
 flip_false : (r : Bool) (a b : List ℕ) → Decides r (a ≡ b) → pointwise nat_eq b a ≡ false → r ≡ false
-flip_false true a b same differ =
-    let copy = (names_decide b a).1 (sym (same.0 refl)) in absurd (cc (sym copy ∙ differ))
-flip_false false a b same differ = refl
+flip_false r a b same differ = grind (arith, names_decide)
 
 other_way : (a b : List ℕ) → pointwise nat_eq b a ≡ false → pointwise nat_eq a b ≡ false
 other_way a b differ = flip_false (pointwise nat_eq a b) a b (names_decide a b) differ
 
 among_more : (before : List (List ℕ)) (x y : List ℕ) → is_among (before ++ x ∷ []) y ≡ (is_among before y || pointwise nat_eq y x)
-among_more before x y =
-    list_any-append (pointwise nat_eq y) before (x ∷ []) ∙ ap (λ b. is_among before y || b) (or_nothing (pointwise nat_eq y x))
+among_more before x y = grind (arith, list_any-append, pointwise, nat_eq, or_nothing)
 
 -- none of the names is among these
 abbrev Apart : List (List ℕ) → List (List ℕ) → Type 0
@@ -150,12 +130,10 @@ apart_more before x (y ∷ ys) apart other = (
 )
 
 here_false : (here : Bool) (x : List ℕ) (later : Option (List ℕ)) → (if here then Some x else later) ≡ None → here ≡ false
-here_false true x later e = absurd (cc e)
-here_false false x later e = refl
+here_false here x later e = grind arith
 
 later_none : (here : Bool) (x : List ℕ) (later : Option (List ℕ)) → (if here then Some x else later) ≡ None → later ≡ None
-later_none true x later e = absurd (cc e)
-later_none false x later e = e
+later_none here x later e = grind arith
 
 distinct_from_none : (before xs : List (List ℕ)) → repeated_after before xs ≡ None → Apart before xs × IsDistinct (pointwise nat_eq) xs
 unfolding IsDistinct
@@ -235,12 +213,10 @@ none_from_writable plan w =
     (ap (option_map not_an_output) (find_from_pass (is_among outs) plan.defaults (pass_from_all outs plan.defaults w.defaults)))))
 
 ok_exactly : (r : Result (Unit {0}) Unwritable) → (IsOk r → obstacle_in r ≡ None) × (obstacle_in r ≡ None → IsOk r)
-ok_exactly (Ok x) = (λ _. refl, λ _. refl)
-ok_exactly (Err e) = (λ ok. absurd (cc ok), λ none. absurd (cc none))
+ok_exactly r = grind arith
 
 pub writable_exactly : (plan : Plan) (r : Result (Unit {0}) Unwritable) → obstacle_in r ≡ first_obstacle plan → IsOk r ↔ IsWritable plan
-writable_exactly plan r is =
-    (λ ok. writable_from_none plan (sym is ∙ (ok_exactly r).0 ok), λ w. (ok_exactly r).1 (is ∙ none_from_writable plan w))
+writable_exactly plan r is = grind (arith, writable_from_none, ok_exactly, none_from_writable)
 
 -- there is no obstacle where all texts can be written
 pub texts_unobstructed : (plan : Plan) → HasWritableTexts plan → obstacle_of_statements 0 plan.statements ≡ None
@@ -248,5 +224,4 @@ texts_unobstructed plan texts = no_obstacle 0 plan.statements texts
 
 pub texts_exactly : (plan : Plan) (r : Result (Unit {0}) Unwritable) → obstacle_in r ≡ obstacle_of_statements 0 plan.statements
     → IsOk r ↔ HasWritableTexts plan
-texts_exactly plan r is =
-    (λ ok. all_fine 0 plan.statements (sym is ∙ (ok_exactly r).0 ok), λ texts. (ok_exactly r).1 (is ∙ no_obstacle 0 plan.statements texts))
+texts_exactly plan r is = grind (arith, all_fine, ok_exactly, no_obstacle)

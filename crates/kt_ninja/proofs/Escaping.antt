@@ -1,5 +1,5 @@
 -- A text with escapes, cut at its first special byte.
-use Rattle.std.proofs.Common.{◌≡◌, ◌<◌, ℕ, zero, suc, ◌+◌, List, [], ◌∷◌, ◌++◌, take, drop, length, refl, sym, ap, ◌∙◌, arith, add-one, Bool, true, false, slice_index, codes, if◌then◌else◌}
+use Rattle.std.proofs.Common.{◌≡◌, ◌<◌, ℕ, zero, suc, ◌+◌, List, [], ◌∷◌, ◌++◌, take, drop, length, refl, ap, ◌∙◌, arith, add-one, Bool, true, slice_index, codes, if◌then◌else◌}
 use Rattle.kt_ninja.proofs.Common.{Nowhere, NoneBefore, Passes, escaped}
 
 -- what one byte becomes
@@ -7,8 +7,7 @@ abbrev one : Bool → ℕ → List ℕ
 one special b = if special then codes "$" ++ b ∷ [] else b ∷ []
 
 one_plain : (special : Bool) (b : ℕ) → (special ≡ true → ⊥) → one special b ≡ b ∷ []
-one_plain true b plain = absurd (plain refl)
-one_plain false b plain = refl
+one_plain special b plain = grind arith
 
 later : (test : ℕ → Bool) (b : ℕ) (bs : List ℕ) (k : ℕ) → Nowhere (Passes test (b ∷ bs)) 0 (suc k) → Nowhere (Passes test bs) 0 k
 later test b bs k none j low below = none (suc j) (omega arith) (omega arith)
@@ -30,6 +29,4 @@ first_at test (b ∷ bs) (suc k) within none here =
 -- the plain bytes before the first special one, that one after a dollar, and the escaped text of the rest
 pub escaped-first : (test : ℕ → Bool) (bs : List ℕ) (k : ℕ) (rest : List ℕ) → NoneBefore (Passes test bs) 0 (length bs) k × Passes test bs k
     → rest ≡ drop (k + 1) bs → escaped test bs ≡ take k bs ++ ((36 ∷ slice_index bs k ∷ []) ++ escaped test rest)
-escaped-first test bs k rest first is =
-    first_at test bs k first.0.high first.0.before first.1
-    ∙ ap (λ r. take k bs ++ (36 ∷ slice_index bs k ∷ escaped test r)) (sym (is ∙ rw add-one refl))
+escaped-first test bs k rest first is = grind (arith, first_at, take, add-one)

@@ -1,15 +1,13 @@
 -- How growths of a sink follow one another.
-use Rattle.std.proofs.Common.{◌≡◌, ℕ, ◌+◌, List, [], ◌++◌, take, drop, refl, sym, ap, subst, ◌∙◌, append_assoc, append-nil, Option, Some, None}
+use Rattle.std.proofs.Common.{arith, ◌≡◌, ℕ, ◌+◌, List, [], ◌++◌, take, drop, sym, ap, subst, ◌∙◌, append_assoc, append-nil, Option}
 use Rattle.kt_ninja.proofs.Common.{take-append-drop, take-add}
 use Rattle.kt_ninja.specs.Written.{GrowsByFront, SinkSeen, Takes, appended}
 
 pub appended-append : (taken : Option (List ℕ)) (a b : List ℕ) → appended (appended taken a) b ≡ appended taken (a ++ b)
-appended-append None a b = refl
-appended-append (Some bytes) a b = ap Some (append_assoc bytes a b)
+appended-append taken a b = grind (arith, append_assoc)
 
 pub appended-nil : (taken : Option (List ℕ)) → appended taken [] ≡ taken
-appended-nil None = refl
-appended-nil (Some bytes) = ap Some (append-nil bytes)
+appended-nil taken = grind (arith, append-nil)
 
 -- two texts taken one after the other
 pub takes_twice : (first second third : SinkSeen) (a b : List ℕ) → Takes first second a → Takes second third b → Takes first third (a ++ b)
@@ -18,21 +16,11 @@ takes_twice first second third a b one two = two ∙ ap (λ t. appended t b) one
 -- after a text that was taken, the next one is cut
 pub front_after : (first second third : SinkSeen) (a b : List ℕ)
     → Takes first second a → GrowsByFront second third b → GrowsByFront first third (a ++ b)
-front_after first second third a b one grows = record {
-  front = a ++ grows.front;
-  rest = grows.rest;
-  cut = ap (λ t. a ++ t) grows.cut ∙ sym (append_assoc a grows.front grows.rest);
-  taken = takes_twice first second third a grows.front one grows.taken;
-}
+front_after first second third a b one grows = grind (arith, append_assoc, takes_twice)
 
 -- a text that is cut is a longer text that is cut
 pub front_of_more : (old new : SinkSeen) (a b : List ℕ) → GrowsByFront old new a → GrowsByFront old new (a ++ b)
-front_of_more old new a b grows = record {
-  front = grows.front;
-  rest = grows.rest ++ b;
-  cut = ap (λ t. t ++ b) grows.cut ∙ append_assoc grows.front grows.rest b;
-  taken = grows.taken;
-}
+front_of_more old new a b grows = grind (arith, append_assoc)
 
 -- what is taken of a piece in two calls
 pub taken_twice : (first second third : SinkSeen) (n k : ℕ) (piece : List ℕ)

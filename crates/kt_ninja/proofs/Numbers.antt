@@ -1,13 +1,12 @@
 -- The texts of numbers.
-use Rattle.std.proofs.Common.{◌≡◌, ◌∙◌, ◌<◌, ℕ, zero, suc, ◌+◌, refl, sym, ap, map, eqb-true, arith, ◌^◌, Bool, true, false, ◌==◌, codes, decimal, if◌then◌else◌}
+use Rattle.std.proofs.Common.{◌≡◌, ◌∙◌, ◌<◌, ℕ, zero, suc, ◌+◌, refl, sym, ap, map, eqb-true, arith, ◌^◌, Bool, false, ◌==◌, codes, decimal, if◌then◌else◌}
 use Rattle.std.specs.Int.Digits.{digits_of}
 use Rattle.std.proofs.lemmas.Fmt.{decimal_digit, decimal-digits_of}
 use Rattle.kt_ninja.specs.Text.{number_text}
 
 -- a number that follows another is not zero
 not_zero : (n : ℕ) (b : Bool) → (suc n == 0) ≡ b → b ≡ false
-not_zero n true e = absurd (omega (arith, eqb-true (suc n) 0 e))
-not_zero n false e = refl
+not_zero n b e = grind (arith, eqb-true)
 
 -- the text of any number but zero
 pub number_more : (n : ℕ) → number_text (suc n) ≡ map (λ d. 48 + d) (digits_of 10 (suc n))

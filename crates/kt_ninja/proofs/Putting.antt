@@ -1,16 +1,15 @@
 -- How texts that are put into a block follow one another.
-use Rattle.std.proofs.Common.{◌≡◌, ℕ, ◌+◌, List, [], ◌++◌, refl, sym, ap, subst, ◌∙◌, append_assoc, append-nil, arith, ◌<◌, ◌≤◌, ◌*◌, ◌⊎◌, inl, inr, length, Bool, true, false}
+use Rattle.std.proofs.Common.{◌≡◌, ℕ, ◌+◌, List, [], ◌++◌, refl, sym, ap, subst, ◌∙◌, append_assoc, append-nil, arith, ◌<◌, ◌≤◌, ◌*◌, ◌⊎◌, length, Bool, true, false}
 use Rattle.kt_ninja.proofs.Common.{length-append, Block}
 use Rattle.kt_list.specs.Counters.{Rises}
-use Rattle.kt_ninja.specs.Written.{GrowsByFront, SinkSeen, appended}
+use Rattle.kt_ninja.specs.Written.{GrowsByFront, SinkSeen}
 use Rattle.kt_ninja.specs.Blocks.{Moves, PutsBy, Counts, Passes, HandsOver, Puts, PrintsBy, Prints}
 use Rattle.kt_ninja.proofs.Growth.{appended-nil, front_after, front_of_more, takes_twice}
 
 -- what waited and the first text, cut where the block stood in between, goes on with the second text
 moved_on : (waiting first second front middle : List ℕ) → waiting ++ first ≡ front ++ middle
     → waiting ++ (first ++ second) ≡ front ++ (middle ++ second)
-moved_on waiting first second front middle cut =
-    sym (append_assoc waiting first second) ∙ ap (λ t. t ++ second) cut ∙ append_assoc front middle second
+moved_on waiting first second front middle cut = grind (arith, append_assoc)
 
 moves_then : (a b c : SinkSeen) (v w x : List ℕ) (first second : List ℕ)
     → Moves a v b w first → Moves b w c x second → Moves a v c x (first ++ second)
@@ -28,19 +27,11 @@ cut_then a b c v w first second one two =
 
 cut_before : (a b c : SinkSeen) (v first second : List ℕ)
     → GrowsByFront a b (v ++ first) → c.written ≡ b.written → GrowsByFront a c (v ++ (first ++ second))
-cut_before a b c v first second one two =
-    let grows = front_of_more a b (v ++ first) second one in
-    record { front = grows.front; rest = grows.rest; cut = sym (append_assoc v first second) ∙ grows.cut; taken = two ∙ grows.taken }
+cut_before a b c v first second one two = grind (arith, front_of_more, append_assoc)
 
 by_then : (f g h : Bool) (a b c : SinkSeen) (v w x : List ℕ) (first second : List ℕ)
     → PutsBy f g a v b w first → PutsBy g h b w c x second → PutsBy f h a v c x (first ++ second)
-by_then false false false a b c v w x first second one two = moves_then a b c v w x first second one two
-by_then false false true a b c v w x first second one two = cut_then a b c v w first second one two
-by_then false true false a b c v w x first second one two = absurd two
-by_then false true true a b c v w x first second one two = cut_before a b c v first second one two
-by_then true false h a b c v w x first second one two = absurd one
-by_then true true false a b c v w x first second one two = absurd two
-by_then true true true a b c v w x first second one two = two ∙ one
+by_then f g h a b c v w x first second one two = grind (arith, moves_then, cut_then, cut_before)
 
 counts_then : (f g h : Bool) (a b c : SinkSeen) → Counts f g a b → Counts g h b c → Counts f h a c
 counts_then false false false a b c one two = two ∙ one
@@ -54,20 +45,13 @@ counts_then true true true a b c one two = two ∙ one
 
 pub passes_then : {S : Type 0} {seen : S → SinkSeen} {old middle new : Block S} (first second : List ℕ)
     → Passes seen old middle first → Passes seen middle new second → Passes seen old new (first ++ second)
-passes_then {S} {seen} {old} {middle} {new} first second one two = record {
-  same = two.same ∙ one.same;
-  puts = by_then old.failed middle.failed new.failed (seen old.sink.now) (seen middle.sink.now) (seen new.sink.now)
-      old.waiting.items middle.waiting.items new.waiting.items first second one.puts two.puts;
-  counts = counts_then old.failed middle.failed new.failed (seen old.sink.now) (seen middle.sink.now) (seen new.sink.now) one.counts two.counts;
-}
+passes_then {S} {seen} {old} {middle} {new} first second one two = grind (arith, by_then, counts_then)
 
 rest_then : (v w x first second m n : ℕ) → v + first ≡ m * 4096 + w → w + second ≡ n * 4096 + x → v + (first + second) ≡ (m + n) * 4096 + x
 rest_then v w x first second m n one two = omega (arith, one, two)
 
 more_then : (w x second m n : ℕ) → w + second ≡ n * 4096 + x → (m ≡ 0) ⊎ (0 < w) → (n ≡ 0) ⊎ (0 < x) → (m + n ≡ 0) ⊎ (0 < x)
-more_then w x second m n is one (inr some) = inr some
-more_then w x second m n is (inl no_m) (inl no_n) = inl (omega (arith, no_m, no_n))
-more_then w x second m n is (inr some) (inl no_n) = inr (omega (arith, is, some, no_n))
+more_then w x second m n is one h = grind arith
 
 hands_then : {S : Type 0} {old middle new : Block S} (first second : List ℕ)
     → HandsOver old middle first → HandsOver middle new second → HandsOver old new (first ++ second)
@@ -85,14 +69,10 @@ hands_then {S} {old} {middle} {new} first second one two =
 -- one text after the other
 pub puts_then : {S : Type 0} {seen : S → SinkSeen} {old middle new : Block S} (first second : List ℕ)
     → Puts seen old middle first → Puts seen middle new second → Puts seen old new (first ++ second)
-puts_then first second one two = record {
-  passes = passes_then first second one.passes two.passes;
-  hands = hands_then first second one.hands two.hands;
-}
+puts_then first second one two = grind (arith, passes_then, hands_then)
 
 by_none : (f : Bool) (a : SinkSeen) (v : List ℕ) → PutsBy f f a v a v []
-by_none false a v = record { front = []; cut = append-nil v; grown = sym (appended-nil a.written) }
-by_none true a v = refl
+by_none f a v = grind (arith, append-nil, appended-nil)
 
 counts_none : (f : Bool) (a : SinkSeen) → Counts f f a a
 counts_none false a = refl
@@ -100,14 +80,7 @@ counts_none true a = refl
 
 -- no text
 pub puts_none : {S : Type 0} {seen : S → SinkSeen} (way : Block S) → Puts seen way way []
-puts_none {S} {seen} way = record {
-  passes = record {
-    same = refl;
-    puts = by_none way.failed (seen way.sink.now) way.waiting.items;
-    counts = counts_none way.failed (seen way.sink.now);
-  };
-  hands = record { times = 0; rest = omega arith; more = inl refl; none = λ _. refl };
-}
+puts_none {S} {seen} way = grind (arith, by_none, counts_none)
 
 -- of this whole text all is put but this
 pub record PutsUpTo {S : Type 0} (seen : S → SinkSeen) (old new : Block S) (whole left : List ℕ) : Type 0 where
@@ -138,13 +111,10 @@ up_to_all {S} {seen} {old} {middle} {new} {whole} left so puts =
 -- nothing is left
 pub up_to_end : {S : Type 0} {seen : S → SinkSeen} {old new : Block S} {whole : List ℕ} (left : List ℕ)
     → left ≡ [] → PutsUpTo seen old new whole left → Puts seen old new whole
-up_to_end {S} {seen} {old} {new} {whole} left none so =
-    let P : List ℕ → Type 0 = λ t. Puts seen old new t in
-    subst P (sym (so.cut ∙ ap (λ t. so.done ++ t) none ∙ append-nil so.done)) so.puts
+up_to_end {S} {seen} {old} {new} {whole} left none so = grind (arith, append-nil)
 
 by_end : (failed : Bool) (old new : SinkSeen) (text : List ℕ) → PutsBy false failed old [] new [] text → PrintsBy failed old new text
-by_end false old new text moves = moves.grown ∙ ap (λ t. appended old.written t) (sym (moves.cut ∙ append-nil moves.front))
-by_end true old new text grows = grows
+by_end failed old new text moves = grind (arith, append-nil)
 
 -- a text that was put into an empty block, and what waits of it handed over
 pub printed : {S : Type 0} {seen : S → SinkSeen} {text : List ℕ} (old middle new : Block S) (a b : S)

@@ -1,5 +1,5 @@
 -- What keeps a plan from being written, along its lists.
-use Rattle.std.proofs.Common.{◌≡◌, ◌∙◌, ℕ, ◌+◌, List, [], ◌∷◌, ◌++◌, take, drop, refl, sym, ap, append_assoc, append-nil, Bool, true, false, ◌||◌, not, nat_eq, Option, Some, None, find, slice_get, if◌then◌else◌}
+use Rattle.std.proofs.Common.{arith, ◌≡◌, ◌∙◌, ℕ, ◌+◌, List, [], ◌∷◌, ◌++◌, take, drop, refl, sym, ap, append_assoc, append-nil, Bool, true, false, ◌||◌, not, nat_eq, Option, Some, None, find, slice_get, if◌then◌else◌}
 use Rattle.kt_ninja.proofs.Common.{list_any, option_or, pointwise, find-append, list_any-append, Statement, is_among, Obstacle, is_name, repeated_after, obstacle_of_statements}
 use Rattle.std.proofs.lemmas.List.Concat.{flat_map-append}
 use Rattle.kt_ninja.specs.Plan.{names_of, outputs}
@@ -8,8 +8,7 @@ use Rattle.kt_ninja.proofs.Places.{drop_at, take_at}
 
 pub is_among-outputs : (ss : List Statement) (name : List ℕ) → is_among (outputs ss) name ≡ list_any (λ s. is_among s.outs name) ss
 is_among-outputs [] name = refl
-is_among-outputs (s ∷ ss) name =
-    list_any-append (pointwise nat_eq name) s.outs (outputs ss) ∙ ap (λ b. is_among s.outs name || b) (is_among-outputs ss name)
+is_among-outputs (s ∷ ss) name = grind (arith, list_any-append, pointwise, nat_eq, is_among-outputs ss name)
 
 -- among a statement's names, list by list
 pub find_in_names : (s : Statement) → find (λ n. not (is_name n)) (names_of s)
@@ -23,25 +22,19 @@ find_in_names s =
 
 or_cases : {A : Type 0} (here : Bool) (x : A) (a b : Option A)
     → (if here then Some x else option_or a b) ≡ option_or (if here then Some x else a) b
-or_cases true x a b = refl
-or_cases false x a b = refl
+or_cases here x a b = grind arith
 
 -- the names of one list after another
 pub repeated_after-append : (before xs ys : List (List ℕ))
     → repeated_after before (xs ++ ys) ≡ option_or (repeated_after before xs) (repeated_after (before ++ xs) ys)
 repeated_after-append before [] ys = ap (λ b. repeated_after b ys) (sym (append-nil before))
-repeated_after-append before (x ∷ xs) ys =
-    let first = repeated_after (before ++ x ∷ []) xs in
-    ap (λ o. if is_among before x then Some x else o)
-    (repeated_after-append (before ++ x ∷ []) xs ys ∙ ap (λ b. option_or first (repeated_after b ys)) (append_assoc before (x ∷ []) xs))
-    ∙ or_cases (is_among before x) x first (repeated_after (before ++ x ∷ xs) ys)
+repeated_after-append before (x ∷ xs) ys = grind (arith, append_assoc, or_cases, repeated_after-append (before ++ x ∷ []) xs ys)
 
 -- the same where the statement is found at a place, if there is one
 pub find_in_found : (found : Option Statement) → find (λ n. not (is_name n)) (names_at names_of found)
     ≡ option_or (find (λ n. not (is_name n)) (names_at (λ s. s.outs) found)) (option_or (find (λ n. not (is_name n)) (names_at (λ s. s.inputs) found))
     (option_or (find (λ n. not (is_name n)) (names_at (λ s. s.implicit) found)) (find (λ n. not (is_name n)) (names_at (λ s. s.order_only) found))))
-find_in_found None = refl
-find_in_found (Some s) = find_in_names s
+find_in_found found = grind (arith, find_in_names)
 
 -- the outputs up to a statement, and with its own
 pub outputs_at : (ss : List Statement) (i : ℕ) (s : Statement) → slice_get ss i ≡ Some s → outputs (take (i + 1) ss) ≡ outputs (take i ss) ++ s.outs
@@ -53,11 +46,7 @@ outputs_at ss i s is =
 pub repeated_after-next : (ss : List Statement) (i : ℕ) (s : Statement) → slice_get ss i ≡ Some s
     → repeated_after (outputs (take i ss)) (outputs (drop i ss))
     ≡ option_or (repeated_after (outputs (take i ss)) s.outs) (repeated_after (outputs (take (i + 1) ss)) (outputs (drop (i + 1) ss)))
-repeated_after-next ss i s is =
-    let before = outputs (take i ss) in
-    let rest = outputs (drop (i + 1) ss) in
-    ap (λ t. repeated_after before (outputs t)) (drop_at ss i s is) ∙ repeated_after-append before s.outs rest
-    ∙ ap (λ b. option_or (repeated_after before s.outs) (repeated_after b rest)) (sym (outputs_at ss i s is))
+repeated_after-next ss i s is = grind (arith, take, drop_at, repeated_after-append, outputs_at)
 
 -- a name more of one list, after other outputs
 abbrev pub Repeats : List (List ℕ) → List (List ℕ) → ℕ → Type 0

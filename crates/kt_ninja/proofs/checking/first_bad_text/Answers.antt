@@ -1,12 +1,10 @@
-use Rattle.kt_ninja.proofs.Common.{rules, told_obstacle, at_place}
+use Rattle.std.proofs.Common.{arith}
+use Rattle.kt_ninja.proofs.Common.{rules, at_place}
 use Rattle.kt_ninja.proofs.Troubles.{obstacles_here, obstacles_later}
 use Rattle.kt_ninja.proofs.checking.first_bad_text.Goals as goal
 
 pub returns-in-Err : goal.returns-in-Err
-returns-in-Err g c =
-    let ss = (g.V.PlanView.plan c.args.view.now).statements in
-    let there = at_place ss c.loop-statement.statement (search rules) in
-    obstacles_here ss c.loop-statement.statement there.0 there.1 (told_obstacle c.in-Err.obstacle) _ c.in-Err.ensures c.loop-statement.invariant.obstacles
+returns-in-Err g c = grind (arith, obstacles_here)
 
 pub loop-statement-preserved : goal.loop-statement-preserved
 loop-statement-preserved g c =

@@ -1,4 +1,4 @@
-use Rattle.std.proofs.Common.{◌≡◌, ◌∙◌, ap, sym, rules, Option, true, false}
+use Rattle.std.proofs.Common.{arith, ◌≡◌, ◌∙◌, ap, sym, rules, Option, true}
 use Rattle.kt_ninja.proofs.Common.{Statement, is_empty, at_place}
 use Rattle.kt_ninja.specs.View.{names_at}
 use Rattle.kt_ninja.proofs.Places.{place_here, place_later}
@@ -14,13 +14,4 @@ returns-then-has_no_output g c =
     place_here (λ s. is_empty s.outs) ss c.loop-statement.statement there.0 there.1 (sym none ∙ yes) c.loop-statement.invariant.looks
 
 pub loop-statement-preserved : goal.loop-statement-preserved
-loop-statement-preserved g c =
-    let ss = (g.V.PlanView.plan c.args.view.now).statements in
-    let there = at_place ss c.loop-statement.statement (search rules) in
-    let none : c.has_no_output.result ≡ is_empty there.0.outs
-    = c.has_no_output.ensures ∙ ap (λ (o : Option Statement). is_empty (names_at (λ s. s.outs) o)) there.1 in
-    let no : c.has_no_output.result ≡ false = search rules in
-    record {
-      within = search rules;
-      looks = place_later (λ s. is_empty s.outs) ss c.loop-statement.statement there.0 there.1 (sym none ∙ no) c.loop-statement.invariant.looks;
-    }
+loop-statement-preserved g c = grind (arith, place_later)

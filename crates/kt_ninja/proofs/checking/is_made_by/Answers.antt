@@ -1,19 +1,11 @@
-use Rattle.std.proofs.Common.{◌≡◌, ◌∙◌, ap, sym, rules, true, false, Option}
+use Rattle.std.proofs.Common.{arith, ◌≡◌, ◌∙◌, ap, sym, rules, false, Option}
 use Rattle.kt_ninja.proofs.Common.{is_among, Statement, at_place}
 use Rattle.kt_ninja.specs.View.{names_at}
 use Rattle.kt_ninja.proofs.Places.{passes_here, passes_later, passes_none}
 use Rattle.kt_ninja.proofs.checking.is_made_by.Goals as goal
 
 pub returns-then-is_made_at : goal.returns-then-is_made_at
-returns-then-is_made_at g c =
-    let ss = (g.V.PlanView.plan c.args.view.now).statements in
-    let name = c.args.name.now in
-    let there = at_place ss c.loop-statement.statement (search rules) in
-    let made : c.is_made_at.result ≡ is_among there.0.outs name
-    = c.is_made_at.ensures ∙ ap (λ (o : Option Statement). is_among (names_at (λ s. s.outs) o) name) there.1 in
-    let yes : c.is_made_at.result ≡ true = search rules in
-    passes_here (λ s. is_among s.outs name) c.args.count ss c.loop-statement.statement there.0
-    (search rules) there.1 (sym made ∙ yes) c.loop-statement.invariant.asks
+returns-then-is_made_at g c = grind (arith, passes_here)
 
 pub loop-statement-preserved : goal.loop-statement-preserved
 loop-statement-preserved g c =
@@ -30,6 +22,4 @@ loop-statement-preserved g c =
     }
 
 pub returns : goal.returns
-returns g c =
-    passes_none (λ s. is_among s.outs c.args.name.now) c.args.count (g.V.PlanView.plan c.args.view.now).statements c.loop-statement.statement
-    (search rules) c.loop-statement.invariant.asks
+returns g c = grind (arith, passes_none)

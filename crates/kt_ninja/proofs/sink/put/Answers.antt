@@ -4,9 +4,7 @@ use Rattle.kt_ninja.proofs.Growth.{taken_twice, front_of_rest, front_taken}
 use Rattle.kt_ninja.proofs.sink.put.Goals as goal
 
 pub returns-in-Ok-eq0-clause-fault : goal.returns-in-Ok-eq0-clause-fault
-returns-in-Ok-eq0-clause-fault g c =
-    front_of_rest _ (g.W.Sink.seen c.loop-done.sink) _ c.loop-done.done c.args.piece.now c.loop-done.invariant.taken
-    (front_taken _ _ c.in-Ok-eq0.field-0 _ (rw take_rest at c.in-Ok-eq0.ensures.takes))
+returns-in-Ok-eq0-clause-fault g c = grind (arith, front_of_rest, front_taken, take_rest)
 
 pub loop-done-preserved : goal.loop-done-preserved
 loop-done-preserved g c = record {
@@ -18,6 +16,4 @@ loop-done-preserved g c = record {
 }
 
 pub returns-in-Err-clause-fault : goal.returns-in-Err-clause-fault
-returns-in-Err-clause-fault g c =
-    front_of_rest _ (g.W.Sink.seen c.loop-done.sink) _ c.loop-done.done c.args.piece.now c.loop-done.invariant.taken
-    (rw take_rest at c.in-Err.ensures.front)
+returns-in-Err-clause-fault g c = grind (arith, front_of_rest, take_rest)

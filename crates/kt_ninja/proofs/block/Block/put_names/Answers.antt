@@ -1,14 +1,11 @@
-use Rattle.std.proofs.Common.{◌+◌, ◌++◌, codes, drop, ap, rules}
+use Rattle.std.proofs.Common.{arith, ◌+◌, ◌++◌, codes, drop, ap, rules}
 use Rattle.kt_ninja.proofs.Common.{drop_all, names_text, name_text}
 use Rattle.kt_ninja.proofs.Places.{drop_at}
 use Rattle.kt_ninja.proofs.Putting.{puts_then, up_to_more, up_to_end, up_to_start}
 use Rattle.kt_ninja.proofs.block.Block.put_names.Goals as goal
 
 pub loop-place-init : goal.loop-place-init
-loop-place-init g c = record {
-  within = search rules;
-  puts = up_to_start _ _;
-}
+loop-place-init g c = grind (arith, up_to_start)
 
 pub loop-place-preserved : goal.loop-place-preserved
 loop-place-preserved g c =
@@ -22,6 +19,4 @@ loop-place-preserved g c =
     }
 
 pub returns : goal.returns
-returns g c =
-    let names = g.N.NamesView.names c.args.names.now in
-    up_to_end _ (ap names_text (drop_all c.loop-place.place names (search rules))) c.loop-place.invariant.puts
+returns g c = search (rules, up_to_end, drop_all)

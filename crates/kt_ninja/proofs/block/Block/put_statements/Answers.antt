@@ -6,11 +6,7 @@ use Rattle.kt_ninja.proofs.Putting.{up_to_more, up_to_end, up_to_start}
 use Rattle.kt_ninja.proofs.block.Block.put_statements.Goals as goal
 
 pub loop-statement-init : goal.loop-statement-init
-loop-statement-init g c = record {
-  within = search rules;
-  puts = up_to_start _ _;
-  at_most = omega arith;
-}
+loop-statement-init g c = grind (arith, up_to_start)
 
 pub loop-statement-preserved : goal.loop-statement-preserved
 loop-statement-preserved g c =
@@ -33,6 +29,4 @@ loop-statement-preserved g c =
     }
 
 pub returns : goal.returns
-returns g c =
-    let all = (g.V.PlanView.plan c.args.view.now).statements in
-    up_to_end _ (ap (λ t. statements_text c.loop-statement.number t) (drop_all c.loop-statement.statement all (search rules))) c.loop-statement.invariant.puts
+returns g c = search (rules, up_to_end, drop_all)
