@@ -24,6 +24,47 @@ class Written(Tree):
             self.assertEqual(self.read("out"), "x\n")
             self.run_in("rm", "-r", "out", "../made.txt", "build.kati", "build.ninja")
 
+    def test_a_folder_that_a_call_makes(self):
+        # Nothing is told of the other one, since Ninja makes it.
+        for call, writes, wrote in (
+                ("X := $(shell mkdir -p deps obj)", "$(shell ..) writes deps/ while make reads the makefile",
+                 "$(shell ..) wrote deps/ while make read the makefile"),
+                ("X = $(shell test -d deps || mkdir -p deps obj)", "$(shell ..) of recipes writes deps/",
+                 "$(shell ..) of recipes wrote deps/")):
+            self.put("Makefile", f"{call}\nall: obj/a.o\nobj/%.o: %.c\n\t$(X)cp $< deps/$*.d && cp $< $@\n")
+            self.put("a.c", "a\n")
+            self.assertIn(f": {writes}; kati doesn't\n", self.tool("kati-port", "--diff", "Makefile").said)
+            ran = self.tool("kati-build", "--port")
+            self.assertEqual((ran.status, ran.said), (0, f"kati-build: {wrote}\n"))
+            self.assertEqual((self.read("deps/a.d"), self.read("obj/a.o")), ("a\n", "a\n"))
+            ran = self.tool("kati-build", "--port")
+            self.assertEqual((ran.status, ran.said, ran.out.split("\n")[-2]), (0, "", "ninja: no work to do."))
+            # As by make the folder comes again.
+            self.run_in("rm", "-r", "deps", "obj")
+            self.assertIn("kati-build: deps is gone: make is asked again\n", self.ninja())
+            self.assertEqual((self.read("deps/a.d"), self.read("obj/a.o")), ("a\n", "a\n"))
+            self.run_in("rm", "-r", "deps", "obj", "build.kati", "build.ninja")
+
+    def test_commands_that_hang_on_a_folder_that_a_call_makes(self):
+        # make has the first recipe alone say it, as git's makefile does.
+        self.put("Makefile", "define made\n$(if $(wildcard $(@D)),,@echo MKDIR $(@D) >> log;$(shell mkdir -p $(@D)))\n"
+                             "endef\nall: x o/a o/b\nx o/a o/b: in\n\t$(call made)\n\tcp $< $@\n")
+        self.put("in", "")
+        said = self.run_in("make", "-n").out
+        self.assertEqual(said.splitlines(), ["cp in x", "echo MKDIR o >> log;", "cp in o/a", "cp in o/b"])
+        self.run_in("rm", "-r", "o")
+        for copies in ("", "1"):
+            ran = self.tool("kati-build", "--port", KATI_COPIES=copies)
+            self.assertEqual((ran.status, ran.said), (0, ""))
+            self.assertEqual(self.read("log"), "MKDIR o\n")
+            ran = self.tool("kati-build", "--port", KATI_COPIES=copies)
+            self.assertEqual((ran.status, ran.said, ran.out), (0, "", "ninja: no work to do.\n"))
+            self.run_in("rm", "-r", "o", "x", "log", "build.kati", "build.ninja", ".ninja_log", ".ninja_deps")
+        ran = self.tool("kati-port", "--write", "Makefile")
+        self.assertEqual(ran.status, 0, ran.all)
+        self.assertIn("kati's commands are make's\n", ran.out)
+        self.assertEqual(self.run_in("make", "-n").out, said)
+
     def test_a_file_elsewhere(self):
         place = self.top.parent / "elsewhere"
         place.mkdir()

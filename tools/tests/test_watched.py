@@ -35,6 +35,7 @@ CHANGING = [
     ("if [ -d sub ]; then echo yes; fi", "", "mkdir sub"),
     ("cat src/FLAG 2> /dev/null", "", "echo 1 > src/FLAG"),
     ("ls sub 2> /dev/null", "", "mkdir sub; echo > sub/x"),
+    ("mkdir -p sub; ls sub", "mkdir sub", "echo > sub/x"),
     ("cat version.h 2> /dev/null || echo 0", "", "echo 1 > version.h"),
     ("cat n.txt 2> /dev/null || echo 0", "", "rm n.txt"),
     ("cat link", "ln -s n.txt link", "echo 2 > n.txt"),
@@ -56,6 +57,8 @@ STAYING = [
     ("cat n.txt", "", "touch n.txt; echo > src/b.src"),
     ("test -e FLAG && echo yes", "", "echo > OTHER"),
     ("uname", "", "echo > FLAG"),
+    ("mkdir -p sub", "mkdir sub", "echo > sub/x"),
+    ("[ -d sub ] || mkdir sub", "", "mkdir sub; echo > sub/x"),
 ]
 
 

@@ -123,6 +123,16 @@ def remove(path):
         pass
 
 
+def remove_all(path):
+    """Takes a file away, or a folder with all that is in it, if it is there."""
+    if os.path.isdir(path) and not os.path.islink(path):
+        # Loaded here alone, since it takes time.
+        import shutil
+        shutil.rmtree(path)
+    else:
+        remove(path)
+
+
 def write(path, data):
     """Writes bytes to a file; where that fails, nothing is left, and the error names the file."""
     try:

@@ -244,6 +244,17 @@ class InPlace:
         paths = [path for path, _ in self.written() if not is_below(path, self.real) and os.path.lexists(path)]
         return {os.path.relpath(path, self.top): os.lstat(path).st_mtime_ns for path in paths}
 
+    def present(self):
+        """The paths of the files and folders that stand in what lies over these, and not below it."""
+        return {os.path.normpath(os.path.join(folder, os.path.relpath(at, upper), name))
+                for folder, upper in self.upper.items() for at, folders, names in walked_folders(upper)
+                for name in [*folders, *names] if self.is_new(folder, os.path.relpath(os.path.join(at, name), upper))}
+
+    def is_new(self, folder, name):
+        """Whether something stands in a folder with what lies over it, and not below."""
+        below = f"/proc/self/fd/{self.below[folder]}/{name}"
+        return os.path.lexists(os.path.join(folder, name)) and not os.path.lexists(below)
+
     @contextlib.contextmanager
     def entered(self):
         """Makes this folder the process's own for a while, with what lies over it."""

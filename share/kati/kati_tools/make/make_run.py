@@ -61,6 +61,8 @@ class MakeRun:
         self.answers = kept_answers.Answers(known or {}, room)
         # Whether the makefile has make run one command at a time.
         self.is_not_parallel = False
+        # What calls of $(shell ..) in recipes write, which is taken away before make is asked.
+        self.undone = ()
         self.noop, self.extra = (os.path.join(room, name) for name in ("noop", "question.mk"))
         self.use_shell("/bin/sh")
 
@@ -78,6 +80,8 @@ class MakeRun:
     def run(self, words, given=None):
         """What make says to these words: its status, standard output and standard error; `given` is its environment,
         where it is another one."""
+        for path in self.undone:
+            files.remove_all(path)
         try:
             return run_make(words, self.room, given or self.environment(), seconds=SECONDS)
         except subprocess.TimeoutExpired:

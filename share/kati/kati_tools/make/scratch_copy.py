@@ -179,6 +179,14 @@ class Copy:
         names = self.files(is_above=True) - self.files() if self.levels else ()
         return {name: os.lstat(name).st_mtime_ns for name in names if os.path.lexists(name)}
 
+    def present(self):
+        """The paths of the files and folders that stand in the copy."""
+        found = set()
+        for at, folders, names in os.walk(self.base):
+            folders[:] = [name for name in folders if name not in sources.CONTROL]
+            found.update(os.path.join(at, name) for name in [*folders, *names])
+        return found
+
     def is_covered(self, path):
         """Whether what has a path is the copy's own."""
         return os.path.realpath(path).startswith(self.base + os.sep)

@@ -45,6 +45,8 @@ class Calls:
         self.now, self.kept, self.new = (os.path.join(room, f"calls-{name}") for name in ("now", "kept", "new"))
         # The number of each text, with the lengths as the shell has them; and how often each has been run.
         self.numbers, self.counts = {}, {}
+        # The texts that are run each time that make is asked.
+        self.each_time = set()
 
     def answering(self, shell):
         """The lines of a shell that answers calls by another shell."""
@@ -53,7 +55,7 @@ class Calls:
 
     def begin(self):
         """Keeps what is new, and counts from the beginning, for a new run of make."""
-        new = list(self.told())
+        new = [call for call in self.told() if call[1] not in self.each_time]
         for folder in (self.now, self.new):
             shutil.rmtree(folder, ignore_errors=True)
             os.makedirs(folder)
@@ -75,7 +77,7 @@ class Calls:
 
     def texts(self):
         """The texts of all calls that were run, since they were last forgotten."""
-        return {text for _, text in self.numbers} | {text for _, text, _, _ in self.told()}
+        return {text for _, text in self.numbers} | {text for _, text, _, _ in self.told()} | self.each_time
 
     def keep(self, length, text, output, status):
         """Keeps what a call wrote, as lines of a shell that write it."""
@@ -91,6 +93,13 @@ class Calls:
                  for (other, text), number in self.numbers.items() if other == length]
         files.write(os.path.join(self.kept, f"texts-{length}"),
                     bytes_of(f"case $kati_text in\n{''.join(lines)}esac\n"))
+
+    def run_each_time(self, texts):
+        """Has the calls of these texts run each time that make is asked, as what they write is taken away before."""
+        self.each_time.update(texts)
+        for length, text in [one for one in self.numbers if one[1] in self.each_time]:
+            self.counts.pop(self.numbers.pop((length, text)))
+            self.write_table(length)
 
     def forget(self):
         """Has each call run once more, as where a file has changed that it may read."""

@@ -110,13 +110,23 @@ def word_of(name):
     return name.rstrip("/") + watched.BELOW if os.path.isdir(name) else name
 
 
+def made_by(simple):
+    """The names of the folders that commands make by `mkdir`, as `test -d obj || mkdir obj`: what they say is the same
+    whether these are there or not, unless another command has the names."""
+    makes = [one for one in simple if one.program == "mkdir"]
+    others = {word.rstrip("/") for one in simple if one.program not in ("mkdir", "test", "[") for word in one.words}
+    return {word.rstrip("/") for one in makes for word in one.operands()} - others
+
+
 def reads_of(command):
     """The words to watch for a command, each once."""
     simple, found = simple_commands(command), {}
+    made, simple = made_by(simple), [one for one in simple if one.program != "mkdir"]
+    simple = [one for one in simple if not made.intersection(word.rstrip("/") for word in one.operands())]
     folders = dict.fromkeys(["", *(one.folder for one in simple)])
     is_listed_only = bool(simple) and all(one.program in ("ls", "dir", "cd") for one in simple)
     for folder in folders:
-        for word in filter(None, BREAKS.split(command)):
+        for word in (word for word in BREAKS.split(command) if word and word.rstrip("/") not in made):
             name = os.path.join(folder, word)
             if watched.is_pattern(word):
                 found[name] = True
@@ -150,6 +160,6 @@ def of_git(command):
 def reads_of_calls(patterns, commands, links, contents):
     """The words to watch for what calls were asked for: the patterns of `wildcard`, the commands of `shell`, the names
     of `realpath`, and what `file` reads."""
-    found = [*" ".join(patterns).split(), *(watched.LINK + word for word in " ".join(links).split()),
+    found = [*watched.of_wildcard(" ".join(patterns)), *(watched.LINK + word for word in " ".join(links).split()),
              *(one.strip("< \t") for one in contents), *(word for one in commands for word in reads_of(one))]
     return list(dict.fromkeys(one for one in found if re.fullmatch(r"[^\s,]+", one)))

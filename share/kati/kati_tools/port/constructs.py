@@ -6,8 +6,8 @@ from typing import Callable, Mapping, NamedTuple
 
 from . import (default_rule, dependency_includes, double_colons, environment_names, folder_search, inner_makes,
     made_folders, made_values, mending, mending_appends, mending_exports, mending_lines, mending_shell, of_the_run,
-    recipe_prefix, second_expansion, shared_includes, shell_flags, suffix_names, taken_away, taken_back, target_macros,
-    written_out)
+    recipe_prefix, second_expansion, shared_includes, shell_flags, shell_writes, suffix_names, taken_away, taken_back,
+    target_macros, written_out)
 
 
 class Construct(NamedTuple):
@@ -59,6 +59,8 @@ CONSTRUCTS = (
               other=written_out.mend),
     Construct("`$(shell ..)` that has another value each time in a recipe, or reads a file there that the build makes",
               mender=made_values.MadeValues),
+    Construct("`$(shell mkdir -p deps)`, of a folder in which the build makes nothing",
+              mender=shell_writes.ShellWrites),
     Construct("`$(MAKE) -C lib`", mender=inner_makes.InnerMakes),
     Construct("`.POSIX`", mender=shell_flags.ShellFlags),
     Construct("a backslash and a newline within single quotes in a recipe", mender=mending_shell.ShellTexts),

@@ -5,7 +5,7 @@ import os
 from ..base import files
 from ..build import begun
 from ..make import make_run, recipe_shell, shell_calls
-from . import constructs, dependency_includes, frozen_values, make_probes, written_outside
+from . import constructs, dependency_includes, frozen_values, make_probes, shell_writes, written_outside
 from .stuck import MakeFails, OtherShell
 
 
@@ -13,15 +13,18 @@ def look(port):
     """Has make make its includes, finds the makefiles, and asks for the values of what kati refuses."""
     port.load(port.makefile)
     start, calls = begun.Start(port.room), shell_calls.of_room(port.room)
-    first, above = port.copy.times(), port.copy.times_above()
+    first, above, present = port.copy.times(), port.copy.times_above(), port.copy.present()
     port.first.shell = make_run.shell_in(port.lines())
     port.run.use_shell(port.first.shell)
     refuse_other_shells(port)
     before = port.copy.times()
     port.first.by_shell = sorted({*before, *port.copy.times_above()}.difference(first, above))
+    port.first.folders = shell_writes.folders_of(port.copy.present() - present)
     texts = calls.texts()
     make_includes(port, before, changed(first, before))
+    present = port.copy.present()
     port.first.commands = port.run.commands()
+    shell_writes.note_recipes(port, present)
     if port.first.commands[0]:
         raise MakeFails(port.first.commands[0], port.first.commands[2])
     constructs.mend_read(port)
@@ -67,15 +70,16 @@ def load_read(port):
 
 
 def asked_probes(port):
-    """The probes, of which make told the values. Where a macro has several, each reference to it gets a probe."""
-    ported, unsettled = list(port.ported.values()), {}
+    """The probes, of which make told the values. Where a macro has several, each reference to it gets a probe; where
+    what a call depends on doesn't settle its value, the target may."""
+    ported, known = list(port.ported.values()), ({}, frozenset())
     while True:
-        probes = make_probes.Probes(ported, unsettled)
+        probes = make_probes.Probes(ported, *known)
         probes.ask(ported, port.run, port.room)
-        more = probes.still_unsettled(ported)
-        if more == unsettled:
+        more = probes.still_unsettled(ported), probes.by_target | probes.still_unsettled_calls()
+        if more == known:
             return probes
-        unsettled = more
+        known = more
 
 
 def sort_made(port, new, others):

@@ -1,4 +1,5 @@
 """Calls that kati refuses become macros of kati-values.mk: what is frozen, and under which name."""
+import os
 import re
 
 from ..base.programs import inside
@@ -6,7 +7,10 @@ from ..makefile import references
 from ..makefile.forms import refused_function
 from ..makefile.syntax import joined
 from . import command_reads, frozen_values, watched
-from .make_probes import bound_names, function_of, is_automatic, is_in, is_numbered, key_of
+from .make_probes import bound_names, function_of, is_automatic, is_in, is_numbered
+
+# Behind the source of a value that hangs on what calls in recipes write.
+BEFORE_RECIPES = "before the build"
 
 
 def is_free(line, span):
@@ -153,8 +157,14 @@ class Freezer:
     def watched_by_calls(self, calls):
         """The words to watch for what was asked for by calls."""
         probes, real = self.port.probes, self.port.copy.real_text
-        return command_reads.reads_of_calls(*(
+        found = command_reads.reads_of_calls(*(
             [real(one) for call in calls for one in probes.asked_behind(call, numbers)] for numbers in probes.asked))
+        return [word for word in found if not self.is_of_recipes(word.lstrip(watched.THERE))]
+
+    def is_of_recipes(self, names):
+        """Whether names are those of what calls in recipes write: a value that hangs on it is that of a build from
+        nothing."""
+        return any(os.path.normpath(one) in self.port.first.by_recipes for one in names.split())
 
     def watched_behind(self, call):
         """The words to watch for one call, in the folder itself."""
@@ -167,7 +177,7 @@ class Freezer:
         patterns = map(self.port.copy.real_text, self.port.written_out.patterns)
         with inside(self.port.copy.real):
             found = self.watched_by_calls(calls)
-            return found + [word for one in patterns for word in one.split() if "," not in word]
+            return found + [word for one in patterns for word in watched.of_wildcard(one) if "," not in word]
 
     def by_shell(self, call, edits):
         """A call of `shell` in a recipe that has several values: for kati the recipe's own shell does it."""
@@ -186,7 +196,7 @@ class Freezer:
     def by_table(self, call, edits):
         """A call that depends on an argument, a loop or the target has a value for each."""
         line, span = call.line, call.chain[0]
-        table, key = self.port.probes.table(line, span), key_of(line, span)
+        table, key = self.port.probes.table(line, span), self.port.probes.key(line, span)
         if table is None or not key or not refused_function(references.only(call.text())):
             return False
         makes = joined(call.text())
@@ -194,7 +204,8 @@ class Freezer:
         value = next(one for one in self.port.values.all if one.name == name)
         value.katis, value.table = f"$({name}_{key})", {f"{name}_{one}": told for one, told in table.items()}
         patterns = {one: pattern for one, pattern in self.port.probes.asked_by(call).items()
-                    if not set(pattern) & set("$()\n") and watched.fitting(pattern) == table.get(one, "").strip()}
+                    if not (set(pattern) & set("$()\n") or self.is_of_recipes(pattern))
+                    and watched.fitting(pattern) == table.get(one, "").strip()}
         value.sources = {f"{name}_{one}": f"$(wildcard {pattern})" for one, pattern in patterns.items() if one in table}
         self.calls_in[name] = [call]
         edits[span] = f"$({name})"
@@ -230,7 +241,11 @@ class Freezer:
 
     def settle(self, value, asked):
         """The same for one value, of which the call's argument expands to `asked`."""
-        if argument_of(value.makes, "wildcard") is not None and not set(asked) & set("$()\n"):
+        is_wildcard = argument_of(value.makes, "wildcard") is not None and not set(asked) & set("$()\n")
+        if is_wildcard and self.is_of_recipes(asked):
+            value.source = f"$(wildcard {asked}) {BEFORE_RECIPES}"
+            return
+        if is_wildcard:
             value.source = frozen_values.of_wildcard(asked, self.port.copy.real_text(value.katis))
             own = frozen_values.own_names(asked)
             if own and watched.fitting(asked) == value.katis.strip():

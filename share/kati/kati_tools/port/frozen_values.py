@@ -220,5 +220,5 @@ def words_of(text):
     """The words to watch for the values."""
     sources = [line[len("# "):] for line in text.split("\n") if line.startswith("# ")]
     named = [word for one in sources if one.startswith(NAMES) for word in one[len(NAMES):].split()]
-    patterns = [word for one in map(pattern_of, sources) for word in (one or "").split()]
+    patterns = [word for one in map(pattern_of, sources) for word in watched.of_wildcard(one or "")]
     return [*(word for word, _ in read_with_sums(text)), *patterns, *filter(watched.is_pattern, named)]

@@ -14,7 +14,8 @@ from . import freezing, frozen_values, values_file
 class FirstLook:
     """What make did before anything was changed: the shell of its commands, and these, as `MakeRun.commands` answers
     them; the makefiles that it read, the files that it made first, those that it wrote anew, and those that it wrote
-    above or beside this folder with these; what `$(shell ..)` wrote, and what it wrote outside of this folder; the
+    above or beside this folder with these; what `$(shell ..)` wrote, the folders that it made, what it wrote in
+    recipes, each file with one that holds it, and None for a folder, and what it wrote outside of this folder; the
     dependencies that aren't there when kati reads, the times of all files, and the variables of the environment on
     which all that hangs."""
 
@@ -25,6 +26,8 @@ class FirstLook:
     remade: list = field(default_factory=list)
     made_above: list = field(default_factory=list)
     by_shell: list = field(default_factory=list)
+    folders: list = field(default_factory=list)
+    by_recipes: dict = field(default_factory=dict)
     outside: list = field(default_factory=list)
     hidden: list = field(default_factory=list)
     times: dict = field(default_factory=dict)

@@ -3,24 +3,10 @@
 make runs such a call when it comes to the recipe, and so after what the recipe needs is made; a value that is asked for
 before the build would be another one. For kati the recipe's own shell runs the command."""
 import os
-import re
 
+from .make_probes import is_read_late
 from .mender import Mender
-
-# What parts the words of a shell's command that may name files.
-BETWEEN_WORDS = re.compile(r"[\s;|&()<>`'\"=$,]+")
-
-
-def named_by(command):
-    """The names that the words of a shell's command may stand for."""
-    return {os.path.normpath(word) for word in BETWEEN_WORDS.split(command) if word}
-
-
-def is_read_late(line):
-    """Whether make may come to what a line holds after it has begun to build: to recipes, and to what deferred macros
-    have."""
-    assignment = line.assignment()
-    return line.is_tab or line.is_body or assignment is not None and assignment[1] in ("=", "+=", "?=")
+from .shell_writes import named_by
 
 
 class MadeValues(Mender):

@@ -87,6 +87,13 @@ def key_of(line, span):
     return "-".join(dict.fromkeys(one.text if one.substitution is None else f"$({one.name})" for one in found))
 
 
+def is_read_late(line):
+    """Whether make may come to what a line holds after it has begun to build: to recipes, and to what deferred macros
+    have."""
+    assignment = line.assignment()
+    return line.is_tab or line.is_body or assignment is not None and assignment[1] in ("=", "+=", "?=")
+
+
 class Call:
     """A call that kati refuses: its kind, and where it stands in its line, with the references round it, from itself
     outwards."""
@@ -144,10 +151,11 @@ def kind_of(reference, refused, unsettled=()):
 
 class Probes:
     """The calls of makefiles, by their lines, and the values that make told of them. References to the macros
-    `unsettled`, which have the kinds of the calls in them, count as such calls."""
+    `unsettled`, which have the kinds of the calls in them, count as such calls. The values of those at the places
+    `by_target` depend on the target, too."""
 
-    def __init__(self, ported, unsettled=None):
-        self.refused, self.unsettled = refused_macros(ported), unsettled or {}
+    def __init__(self, ported, unsettled=None, by_target=frozenset()):
+        self.refused, self.unsettled, self.by_target = refused_macros(ported), unsettled or {}, by_target
         self.calls, self.numbers, self.values = {}, {}, {}
         # What each call of `wildcard`, `shell` and their kin is asked for is told as well, by numbers of their own.
         self.asked = [{} for _ in ASKED]
@@ -183,6 +191,25 @@ class Probes:
                 if max(counts) > 1 and 1 not in counts and not is_in(is_numbered, line.text):
                     found.setdefault(name, call.kind)
         return found
+
+    def still_unsettled_calls(self):
+        """The places of the calls in recipes, and in what these name, that have several values, though all that they
+        depend on is the same: as `$(wildcard $(@D))`, where another call makes that folder meanwhile."""
+        return frozenset((line, *call.chain[0]) for line, calls in self.calls.items() if is_read_late(line)
+                         for call in calls if self.is_unsettled(call))
+
+    def is_unsettled(self, call):
+        """Whether a call is such a one. Of `shell` in a recipe the recipe's shell runs what has several values."""
+        if call.kind == "shell" and call.line.is_tab:
+            return False
+        pairs = set(self.pairs(call.line, call.chain[0]))
+        return len(dict(pairs)) < len(pairs) and all(len(self.told(call.line, span)) != 1 for span in call.chain)
+
+    def key(self, line, span):
+        """What tells one use of a reference from another, as `key_of`, with the target where that alone settles it."""
+        found = key_of(line, span)
+        is_by_target = any(one == line and span[0] <= start and end <= span[1] for one, start, end in self.by_target)
+        return f"{found}-$@" if is_by_target and found else "$@" if is_by_target else found
 
     def of(self, line):
         """The refused calls of a line."""
@@ -236,7 +263,7 @@ class Probes:
                 number = self.numbers[(line, *span)]
                 # What closes comes before what opens; of two at one place the inner one closes, the outer one opens,
                 # first.
-                marks.setdefault(span[1], []).append((0, -span[0], f",{key_of(line, span)})"))
+                marks.setdefault(span[1], []).append((0, -span[0], f",{self.key(line, span)})"))
                 marks.setdefault(span[0], []).append((1, -span[1], f"$(call kati_probe,{number},"))
         for call in self.of(line):
             self.mark_asked(call, marks)
@@ -253,7 +280,7 @@ class Probes:
                 start, end = call.chain[0]
                 first = start + references.only(call.text()).spans()[0][0]
                 marks.setdefault(first, []).append((1, 0, f"$(call kati_probe,{numbers[call]},{asking.handing}"))
-                marks.setdefault(end - 1, []).append((0, 0, f"),{key_of(call.line, call.chain[0])})"))
+                marks.setdefault(end - 1, []).append((0, 0, f"),{self.key(call.line, call.chain[0])})"))
 
     def asked_again(self, line):
         """A line that assigns by `!=`, with a probe round its command; None for another line."""

@@ -80,13 +80,14 @@ class Ported:
                 return self.port_once(kept, start, before, True)
             self.stuck, self.whose, self.difference, self.taken = (
                 found.stuck, found.whose, found.difference, found.taken)
-            sums = watched.sums_of(name for name in found.watched if name not in found.made)
+            made = [word for word in found.watched if word.lstrip(watched.THERE) in found.made]
+            sums = watched.sums_of(word for word in found.watched if word not in made)
             if sums != before and any(map(start.is_newer, watched.inputs({**known.watched, **sums}))):
                 return sums
             if not self.stuck:
                 self.write(found)
         if not self.stuck:
-            sums.update(watched.sums_of(name for name in found.watched if name in found.made))
+            sums.update(watched.sums_of(made))
             self.note(found, sums, kept)
             other_goals.keep(self.record, known, found.found, sums)
         return None
@@ -110,7 +111,9 @@ class Ported:
             os.makedirs(os.path.dirname(place), exist_ok=True)
             files.keep(place, text, self.room)
         for name, kept in found.made.items():
-            if not os.path.exists(name):
+            if kept is None:
+                os.makedirs(name, exist_ok=True)
+            elif not os.path.exists(name):
                 os.makedirs(os.path.dirname(name) or ".", exist_ok=True)
                 shutil.copy2(kept, name)
 

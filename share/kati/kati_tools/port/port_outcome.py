@@ -7,7 +7,7 @@ from dataclasses import dataclass, field
 from ..base import files
 from ..makefile import includes, statements, syntax
 from . import dependency_includes, double_colons, frozen_values, known, made_values, other_goals, port_report, \
-    rewriting, unseen_reads, watched, written_outside
+    rewriting, shell_writes, unseen_reads, watched, written_outside
 from .stuck import Stuck
 
 AT_WORK = rewriting.AT_WORK
@@ -16,7 +16,8 @@ AT_WORK = rewriting.AT_WORK
 @dataclass
 class Outcome:
     """The words to watch; why the port is stuck, and by which program, None where it isn't. Else the folder of the
-    ported makefiles and their texts, what make has made before anything, each with the file that holds it, the folders
+    ported makefiles and their texts, what make has made before anything, each with the file that holds it, None for a
+    folder, the folders
     that their includes go through; what it has found out that holds for other goals; and what kati-build keeps of it:
     what to say, which of kati's commands differ, None where all do, the line that sums that up, None where they don't,
     the macros of the command line that stand in the makefile, and whether make runs one job at a time."""
@@ -61,7 +62,8 @@ def of_rewritten(made, comparison, room):
     differs_otherwise = comparison.in_environment or comparison.of_the_shell
     texts = {name: real(text) for name, text in texts_of(made).items()}
     return Outcome(watched_by(made, texts), folder=os.path.relpath(made.copy.top, made.copy.base), texts=texts,
-                   made=kept_in(os.path.join(room, "made"), [*made.first.made, *made.first.by_shell]),
+                   made={**made.mender(shell_writes.ShellWrites).kept(),
+                         **kept_in(os.path.join(room, "made"), [*made.first.made, *made.first.by_shell])},
                    folders=folders_of(made), found=other_goals.found_by(made, comparison), report=report,
                    differing=None if differs_otherwise else [real(line) for line in comparison.katis],
                    difference=None if comparison.is_same() else report[-1], taken=sorted(made.for_kati.taken_words),
@@ -104,6 +106,7 @@ def watched_by(made, texts):
     found.update(made.freezer.watched(), frozen_values.words_of(texts.get(frozen_values.NAME, "")))
     found.update([f".{watched.BELOW}"] if made.freezer.hangs_on_list() else [])
     found.update(f"{watched.ENVIRONMENT}{name}" for name in made.first.of_environment)
+    found.update(made.mender(shell_writes.ShellWrites).watched())
     return sorted(found - {frozen_values.NAME})
 
 
@@ -142,8 +145,7 @@ def told(made, comparison):
     """What to say of a port: that make was asked in a copy, where it was; what came into this folder by $(shell ..), as
     it does where make reads the makefile, and what was written elsewhere; which values are of before the build; and how
     kati's commands differ from make's, where they do."""
-    names = " ".join(made.first.by_shell)
-    written = [f"$(shell ..) wrote {names} while make read the makefile"] if names else []
+    written = list(made.mender(shell_writes.ShellWrites).told("wrote", "read", ""))
     others = comparison.notes if comparison.is_same() else list(comparison.told())[1:]
     written += written_outside.told(made)
     doubtful = [one for kind in (made_values.MadeValues, double_colons.DoubleColons) for one in made.mender(kind).told]

@@ -6,8 +6,8 @@ from collections import Counter
 
 from ..make import command_lists, shell_reading
 from ..build import comparing, differences
-from . import folder_search, made_links, mending_exports, newer_names, scanning, shell_flags, taken_away, \
-    target_macros, template_faults, unseen_reads, written_outside
+from . import folder_search, made_links, mending_exports, newer_names, scanning, shell_flags, shell_writes, \
+    taken_away, target_macros, template_faults, unseen_reads, written_outside
 from .frozen_values import NAME
 from ..base.programs import Stop
 
@@ -74,8 +74,7 @@ def did(port):
         yield f"{count} asked for by the target's name, at the end of the makefile"
     if port.first.made or port.first.remade:
         yield f"made first, as make does: {' '.join([*port.first.remade, *port.first.made])}"
-    if port.first.by_shell:
-        yield f"$(shell ..) writes {' '.join(port.first.by_shell)} while make reads the makefile; kati doesn't"
+    yield from port.mender(shell_writes.ShellWrites).told("writes", "reads", "; kati doesn't")
     yield from written_outside.told(port)
     yield from unseen_reads.told(port)
     yield from port.notes

@@ -8,6 +8,7 @@ is as it was.
 | `src/**`, `src/**/*.c` | the names below a folder, or those that fit |
 | `<src/*.c` | what is in the files that fit |
 | `@name` | where a link leads; of a file whether it is there |
+| `!name` | whether it is there |
 | `$NAME` | a variable of the environment, and whether it is there |
 | `git:changes` | which files git has that aren't as in its last commit |
 
@@ -23,7 +24,7 @@ from ..makefile import sources
 from ..base.programs import bytes_of, run, which
 
 VALUES = translating.VALUES
-BELOW, CONTENT, LINK, ENVIRONMENT, GIT = "/**", "<", "@", "$", "git:changes"
+BELOW, CONTENT, LINK, THERE, ENVIRONMENT, GIT = "/**", "<", "@", "!", "$", "git:changes"
 WILD = set("*?[")
 NONE = "none"
 
@@ -41,6 +42,11 @@ def is_values_file(name):
 def is_own(name):
     """Whether kati-build or kati-port wrote what has this name."""
     return own_files.is_below(name) or is_values_file(name) or scratch.is_room(name)
+
+
+def of_wildcard(patterns):
+    """The words to watch for what make's `wildcard` gives for patterns: of a plain name, whether it is there."""
+    return [one if is_pattern(one) else THERE + one for one in patterns.split()]
 
 
 def fitting(patterns):
@@ -99,6 +105,8 @@ def text_of(word):
         return os.environ.get(word[1:])
     if word.startswith(LINK):
         return os.path.realpath(word[1:]) if os.path.exists(word[1:]) else None
+    if word.startswith(THERE):
+        return "" if os.path.lexists(word[1:]) else None
     if word.startswith(CONTENT):
         return "\0".join(f"{name}\0{text_in(name)}" for name in sorted(fitted(word[1:])))
     return "\n".join(sorted(fitted(word))) if is_pattern(word) else text_in(word)
@@ -117,7 +125,7 @@ def sums_of(words):
 
 def told(word, was):
     """What to say of a word that had another sum, in the form of `src/*.c: other files`."""
-    name, now = word.lstrip(CONTENT + LINK), sum_of(word)
+    name, now = word.lstrip(CONTENT + LINK + THERE), sum_of(word)
     if word == GIT:
         return "git: other files have changes"
     if word.startswith(ENVIRONMENT):
@@ -154,12 +162,13 @@ def inputs_of(word):
         return []
     if word.startswith(CONTENT):
         return [*folders_of(word[1:]), *fitted(word[1:])]
-    name = word.lstrip(LINK)
+    name = word.lstrip(LINK + THERE)
     if is_pattern(name):
         return folders_of(name)
     # A link that comes to lead elsewhere changes its folder alone, and so does a file that goes.
     folder = os.path.dirname(name) or "."
-    if word.startswith(LINK) and os.path.isfile(name) and not os.path.islink(name):
+    if word.startswith(LINK) and os.path.isfile(name) and not os.path.islink(name) \
+            or word.startswith(THERE) and os.path.lexists(name):
         return [folder]
     return [name, folder] if os.path.islink(name) else [name]
 
