@@ -158,6 +158,16 @@ class Mended(Meant):
         wanted = self.make()
         self.assertEqual(self.built(self.tool_path("kati-build"), "--builtin"), wanted, self.said)
 
+    def test_appending_behind_a_tab(self):
+        # As git's makefile does it, in a branch.
+        self.put_all({"Makefile": "C =\nA = 1\nifdef A\n\tC += x\n\tD := $(NONE)\n\tD += y\nendif\n"
+                                  "all: ; @echo '[$(C)][$(D)]' > out\n"})
+        wanted = self.make()
+        self.assertEqual(wanted, {"out": "[x][y]\n"})
+        self.assertEqual(self.kati_build(), wanted, self.said)
+        self.assertRegex(self.port(), SAME)
+        self.assertEqual(self.make(), wanted)
+
     def test_posix_has_the_shell_end_at_a_fault(self):
         self.put_all({"Makefile": ".POSIX:\nout:\n\tfalse; echo reached > out\n"})
         self.assertEqual(self.make(status=2), {})

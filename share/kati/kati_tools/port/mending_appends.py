@@ -1,7 +1,7 @@
 """`+=` to an empty value, or of an empty one: kati puts a blank there, and make doesn't, which counts within quotes and
 in the environment."""
 from ..make import command_lists, make_run, shell_reading
-from ..makefile import after_references, statements, syntax
+from ..makefile import after_references, ported_text, statements, syntax
 from . import mending_exports, port_report, saving
 from .mender import Mender
 
@@ -11,8 +11,10 @@ PROBE = f"$(info {make_run.ANSWER}{{number}} $(flavor {{name}})|$(if $(value {{n
 
 
 def appended(line):
-    """The name and the text of a line that appends; None for another one."""
-    found = None if line.is_gone else line.assignment()
+    """The name and the text of a line that appends, which may stand behind a tab where no rule is open; None for
+    another one."""
+    is_meant = line.kind is syntax.Kind.ASSIGNMENT and not line.is_gone
+    found = ported_text.assigned(line.joined) if is_meant else None
     return (found[0], found[2]) if found and found[1] == "+=" and "$" not in found[0] else None
 
 
