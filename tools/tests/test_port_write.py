@@ -363,9 +363,9 @@ class Writing(PortedTree):
             self.assertEqual(self.built_by_make(), wanted)
 
     def test_a_call_that_varies_in_a_recipe(self):
-        # The recipe's own shell runs it, so that the command has another text.
+        # The recipe's own shell runs it.
         self.check_construct({"Makefile": "all: a b\na b:\n\techo $(shell echo made $@) > $@\n"},
-                             ["V_shell = $$(echo made $@)"], status=DIFFERS)
+                             ["V_shell = $$(echo made $@)"])
 
     def test_the_rule_of_default(self):
         # Under -B make would make its makefile by such a rule.

@@ -68,6 +68,8 @@ class Freezer:
         # The values that no probe told; the calls in each value; and what make said where it was asked for such values,
         # by their texts.
         self.untold, self.calls_in, self.asked = set(), {}, {}
+        # The calls that the recipe's own shell runs for kati: nothing is to be asked again for these.
+        self.handed = set()
 
     def place(self, call):
         """The innermost reference round a call, itself included, that has one value, and that value, None where make
@@ -173,7 +175,7 @@ class Freezer:
 
     def watched(self):
         """The words to watch for all values, in the folder itself."""
-        calls = [call for numbers in self.port.probes.asked for call in numbers]
+        calls = [call for numbers in self.port.probes.asked for call in numbers if call not in self.handed]
         patterns = map(self.port.copy.real_text, self.port.written_out.patterns)
         with inside(self.port.copy.real):
             found = self.watched_by_calls(calls)
@@ -191,6 +193,7 @@ class Freezer:
         command = joined(argument).strip()
         name = self.port.values.add(call.line, "shell", makes, f"$$({command})", frozen_values.FOR_SHELL, True)
         edits[start, end] = f"$({name})"
+        self.handed.add(call)
         return True
 
     def by_table(self, call, edits):
@@ -213,7 +216,7 @@ class Freezer:
 
     def settle_sources(self):
         """Says of each value where it came from in such a way that it is known when make is to be asked again."""
-        values = self.port.values.all
+        values = [one for one in self.port.values.all if one.source != frozen_values.FOR_SHELL]
         arguments = [frozen_argument(one.makes) for one in values]
         told = iter(self.port.run.values([one for one in arguments if one is not None]))
         with inside(self.port.copy.real):

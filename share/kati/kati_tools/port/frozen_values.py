@@ -144,6 +144,13 @@ class Values:
         self.all[-1].prefix = line.prefix
         return name
 
+    def drop(self, name):
+        """Takes a macro out."""
+        self.take_in()
+        self.all = [one for one in self.all if one.name != name]
+        self.by_texts = {texts: one for texts, one in self.by_texts.items() if one.name != name}
+        self.count = len(self.all)
+
     def free_of_others(self, prefix, wanted):
         """A name behind a prefix; where it begins as those of another file do, one more `_` parts it from them."""
         others = tuple(one for one in self.prefixes if len(one) > len(prefix))

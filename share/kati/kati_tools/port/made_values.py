@@ -32,10 +32,17 @@ class MadeValues(Mender):
         if not read or span is None or call in self.seen:
             return False
         self.seen.add(call)
+        before = call.line.edits[span]
         if span == call.chain[0] and self.port.freezer.by_shell(call, call.line.edits):
+            self.drop_unused(before)
             return True
         file = next(one.name for one in self.port.ported.values() if call.line in one.lines)
         self.told.append(f"{file}:{call.line.number}: {call.text()} reads {', '.join(sorted(read))}, which the build "
                          "makes; kati has what it gives before the build")
         self.port.note(self.told[-1])
         return False
+
+    def drop_unused(self, reference):
+        """Drops the macro of a value that had this reference, where nothing has it any more."""
+        if not any(reference in text for line in self.port.lines() for text in line.edits.values()):
+            self.port.values.drop(reference[len("$("):-1])

@@ -71,7 +71,8 @@ def keep(record, known, found, sums):
 def found_by(port, comparison):
     """What a port has found out, as data."""
     told = {type(one).__name__: one.found() for one in port.menders.values()}
-    differing = [*comparison.makes, *comparison.katis, *comparison.in_environment, *comparison.of_the_shell]
+    differing = [*comparison.makes, *comparison.katis, *comparison.in_environment, *comparison.of_the_shell,
+                 *comparison.calls.differences]
     return {"answers": lasting_answers(port), "faults": port.faults,
             "menders": {name: one for name, one in told.items() if one is not None},
             "differing": [port.copy.real_text(one) for one in differing]}

@@ -6,8 +6,8 @@ from collections import Counter
 
 from ..make import command_lists, shell_reading
 from ..build import comparing, differences
-from . import folder_search, made_links, mending_exports, newer_names, scanning, shell_flags, shell_writes, \
-    taken_away, target_macros, template_faults, unseen_reads, written_outside
+from . import by_recipes_shell, folder_search, made_links, mending_exports, newer_names, scanning, shell_flags, \
+    shell_writes, taken_away, target_macros, template_faults, unseen_reads, written_outside
 from .frozen_values import NAME
 from ..base.programs import Stop
 
@@ -122,7 +122,8 @@ class Comparison:
             # A call may read the makefile, which is another one now.
             port.run.forget_calls()
         self.before, self.after, self.count_varying = port.first.commands[1], after or port.run.commands(), 0
-        makes = [line.replace(port.run.noop, port.first.shell) for line in self.after[1]]
+        self.calls = by_recipes_shell.ByRecipesShell(port, self.after[1], translation.statements)
+        makes = [line.replace(port.run.noop, port.first.shell) for line in self.calls.commands]
         katis = commands_of(translation.statements)
         # What makes makefiles make does before, and may say nothing of.
         remade = commands_of(remaking(translation.statements, port.first.read))
@@ -138,7 +139,7 @@ class Comparison:
         self.of_the_shell = port.mender(shell_flags.ShellFlags).differences(translation)
         self.newer = newer_names.Newer(port, translation)
         # What is told, and is no difference.
-        self.notes = [*self.newer.notes, *made_links.told(translation)]
+        self.notes = [*self.calls.told, *self.newer.notes, *made_links.told(translation)]
         self.when_run = [*self.newer.differences, *taken_away.told(translation),
                          *port.mender(folder_search.Search).differences()]
 
@@ -155,7 +156,8 @@ class Comparison:
 
     def is_same(self):
         """Whether kati's commands are make's."""
-        return not (self.makes or self.katis or self.in_environment or self.of_the_shell or self.when_run)
+        return not (self.makes or self.katis or self.in_environment or self.of_the_shell or self.when_run
+                    or self.calls.differences)
 
     def told(self):
         """The lines that say so; the last one says what it comes to."""
@@ -163,11 +165,14 @@ class Comparison:
         yield f"make's commands are as before: {len(self.before)}{varying}"
         yield from self.notes
         if self.is_same():
-            yield f"kati's commands are make's{', blanks aside' if self.has_other_blanks else ''}"
+            aside = ["blanks"] * self.has_other_blanks + ["calls that the recipe's shell runs"] * bool(self.calls.told)
+            yield f"kati's commands are make's{', '.join(['', ' and '.join(aside)]) if aside else ''}" \
+                f"{' aside' if aside else ''}"
             return
         yield from self.in_environment
         yield from self.of_the_shell
         yield from self.when_run
+        yield from self.calls.differences
         yield from differences.lines(self.makes, self.katis)
         yield f"kati's commands differ{'; they differ'.join(self.summed_up())}"
 
@@ -183,3 +188,5 @@ class Comparison:
             yield " in the shell and its flags"
         if self.when_run:
             yield " in when they are run"
+        if self.calls.differences:
+            yield " in what calls give that the recipe's shell runs"
