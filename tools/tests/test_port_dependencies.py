@@ -1,6 +1,8 @@
 """Header dependencies and includes that make makes, as kati-port and kati-build --port have them."""
 from support import Tree, needs
 
+from kati_tools.makefile import includes
+
 HEADER = {"a.h": "#define A 1\n", "a.c": '#include "a.h"\nint main(void) { return A; }\n'}
 MOVED = """prog: a.o
 	cc -o $@ a.o
@@ -67,17 +69,27 @@ class Dependencies(Tree):
         self.assertEqual(self.run_in("./prog").status, 7)
 
     def test_files_of_the_compiler_with_other_names(self):
-        text = "ALL = a.o t.o\n" + WRITTEN.replace("-MP", "-MF $(@:.o=.mk)").replace(
-            "$(OBJS:.o=.d)", "$(patsubst %.o, %.mk, $(ALL))")
-        self.put_all({"Makefile": text, **HEADER})
-        for value in (1, 7):
-            self.put("a.h", f"#define A {value}\n")
-            self.build()
-            self.assertIn("a.h", self.read("a.mk"))
-            self.assertEqual(self.run_in("./prog").status, value)
-            self.assert_quiet()
-        self.put("a.h", "#define A 8\n")
-        self.assertIn("-o a.o a.c", self.run_in("make").out)
+        for names in ("$(ALL)", "$(OBJS) t.o"):
+            text = "ALL = a.o t.o\n" + WRITTEN.replace("-MP", "-MF $(@:.o=.mk)").replace(
+                "$(OBJS:.o=.d)", f"$(patsubst %.o, %.mk, {names})")
+            self.put_all({"Makefile": text, **HEADER})
+            for value in (1, 7):
+                self.put("a.h", f"#define A {value}\n")
+                self.build()
+                self.assertIn("a.h", self.read("a.mk"))
+                self.assertEqual(self.run_in("./prog").status, value)
+                self.assert_quiet()
+            self.put("a.h", "#define A 8\n")
+            self.assertIn("-o a.o a.c", self.run_in("make").out)
+            self.run_in("rm", "-r", "a.o", "a.mk", "prog", "build.kati", "build.ninja", ".ninja_log", ".ninja_deps")
+
+    def test_what_the_names_of_an_include_may_be(self):
+        for name, pattern in (("$(patsubst %.o, %.mk, $(OBJS) t.o)", "*.mk"), ("$(OBJS:%.o=$(D)/%.d)", "*.d"),
+                              ("$(sort a.d b.d)", "*.d"), ("$(sort a.d b.mk)", "*"), ("$(subst .o,.d,a.o)", "*"),
+                              ("$(if $(X),a.mk,$(OBJS:.o=.d))", "*"), ("d/$(if $(X),$(OBJS:.o=.d))", "d/*.d"),
+                              ("$(addprefix d/,$(notdir $(OBJS:=.P)))", "*.P"), ("$(shell find . -name '*.d')", "*"),
+                              ("$(addsuffix .d,$(OBJS) t)", "*.d"), ("$(call names,a.c)", "*")):
+            self.assertEqual(includes.named_in(f"include {name}\n"), [pattern])
 
     def test_ninja_reads_what_the_compiler_writes_and_kati_does_not(self):
         self.put_all({"Makefile": WRITTEN, **HEADER})

@@ -14,6 +14,10 @@ from .statements import INCLUDES
 # The word after which a file has to be there.
 HARD = "include"
 MOST = 2**20
+# Functions, and which of their arguments have the words whose endings those of the value have.
+GIVING = {"patsubst": slice(1, 2), "addsuffix": slice(1), "filter": slice(1), "if": slice(1, None),
+          "or": slice(None), **dict.fromkeys(("sort", "strip", "filter-out", "wildcard", "foreach", "addprefix", "join",
+                                              "firstword", "lastword", "notdir"), slice(-1, None))}
 # What names a makefile has.
 MAKEFILES = re.compile(r"(^|/)(GNUmakefile|[Mm]akefile[^/]*|[Mm]ake\.[^/]*|[^/]*\.(mk|mak|make))$")
 
@@ -31,13 +35,21 @@ def joined(text):
     return quick_looks.without_continuations(text).split("\n")
 
 
+def words_giving(text):
+    """The words that tell what the words of a value end in, by the text in the reference that gives it: what a
+    substitution puts in, or the words that a function hands on; none where that isn't known."""
+    function, blank, rest = text.partition(" ")
+    if not blank or function not in GIVING:
+        return text[text.find("=", text.find(":")) + 1:].split() if ":" in text and "=" in text else []
+    return " ".join(rest.split(",")[GIVING[function]]).split()
+
+
 def ending_in(text):
-    """What the words of a value end in, by the text in the reference that gives it: what stands behind the last blank,
-    comma or `=`, and behind a `%` there; empty where that holds other marks."""
-    last = max(text.rfind(" "), text.rfind(","), text.find("=", text.find(":")) if ":" in text else -1)
-    ending = text[last + 1:]
-    ending = ending[1:] if ending.startswith("%") else ending
-    return "" if last < 0 or set(ending) & set("%(){}$:=") else ending
+    """What the words of a value all end in: what they have in common behind a `%` or `*`; empty where that holds other
+    marks."""
+    endings = [re.split(r"[%*]", word)[-1] for word in words_giving(text)]
+    ending = os.path.commonprefix([one[::-1] for one in endings])[::-1]
+    return "" if set(ending) & set("(){}$:=") else ending
 
 
 def pattern_between(text, found, start, end):
