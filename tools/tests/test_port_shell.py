@@ -39,11 +39,22 @@ class Written(Tree):
             self.assertEqual((self.read("deps/a.d"), self.read("obj/a.o")), ("a\n", "a\n"))
             ran = self.tool("kati-build", "--port")
             self.assertEqual((ran.status, ran.said, ran.out.split("\n")[-2]), (0, "", "ninja: no work to do."))
-            # As by make the folder comes again.
-            self.run_in("rm", "-r", "deps", "obj")
-            self.assertIn("kati-build: deps is gone: make is asked again\n", self.ninja())
-            self.assertEqual((self.read("deps/a.d"), self.read("obj/a.o")), ("a\n", "a\n"))
+            # As by make the folder comes again, also after a port for which it was there.
+            for values in ([], ["--values"]):
+                self.assertEqual(self.tool("kati-build", "--port", *values).said, "")
+                self.run_in("rm", "-r", "deps", "obj")
+                self.assertIn("kati-build: deps is gone: make is asked again\n", self.ninja())
+                self.assertEqual((self.read("deps/a.d"), self.read("obj/a.o")), ("a\n", "a\n"))
             self.run_in("rm", "-r", "deps", "obj", "build.kati", "build.ninja")
+
+    def test_a_folder_that_a_call_makes_for_another_goal(self):
+        self.put("Makefile", "X := $(shell mkdir -p obj)\nobj/a: ; echo a > $@\nb: ; echo b > obj/b\n")
+        self.assertEqual(self.tool("kati-build", "--port", "obj/a").said, "")
+        self.run_in("rm", "-r", "obj")
+        ran = self.tool("kati-build", "--port", "b")
+        self.assertEqual((ran.status, ran.said, self.read("obj/b")), (
+            0, "kati-build: other words are given: make is asked again\n"
+               "kati-build: $(shell ..) wrote obj/ while make read the makefile\n", "b\n"))
 
     def test_commands_that_hang_on_a_folder_that_a_call_makes(self):
         # make has the first recipe alone say it, as git's makefile does.

@@ -44,5 +44,5 @@ class MadeValues(Mender):
 
     def drop_unused(self, reference):
         """Drops the macro of a value that had this reference, where nothing has it any more."""
-        if not any(reference in text for line in self.port.lines() for text in line.edits.values()):
+        if not any(reference in file.text() for file in self.port.ported.values()):
             self.port.values.drop(reference[len("$("):-1])

@@ -94,7 +94,7 @@ def has_read_all(port):
     named = {name for file in port.ported.values() for name in includes.named_in(file.before)}
     is_all = all("*" not in name and os.path.isfile(name) for name in named)
     made = first.made or first.made_above or first.remade
-    return is_all and not (made or first.by_shell or first.outside or first.hidden)
+    return is_all and not (made or first.by_shell or first.folders or first.outside or first.hidden)
 
 
 def note(port, fault):

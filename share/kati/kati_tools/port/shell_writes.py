@@ -8,7 +8,7 @@ import re
 import shutil
 
 from ..make import shell_calls
-from . import watched
+from . import command_reads, watched
 from .mender import Mender
 
 # What parts the words of a shell's command that may name files.
@@ -61,13 +61,21 @@ def keep(port, paths):
             port.first.by_recipes[os.path.relpath(path)] = place
 
 
+def standing(texts):
+    """The folders here that calls with these texts make by `mkdir` where they aren't there."""
+    commands = [text.partition(" ")[2] for text in texts if "mkdir" in text]
+    names = {one for text in commands for one in command_reads.made_by(command_reads.simple_commands(text))}
+    found = {os.path.relpath(one) for one in names if one and os.path.isdir(one)}
+    return {one for one in found if one.split(os.sep)[0] not in (os.curdir, os.pardir)}
+
+
 class ShellWrites(Mender):
-    """What of that nothing makes that Ninja runs: `folders` while make read the makefile, and `by_recipes`. Ninja makes
-    the folders of what it makes."""
+    """What of that nothing makes that Ninja runs: `folders` while make read the makefile, and `by_recipes`; and the
+    folders `standing` that such calls would make again. Ninja makes the folders of what it makes."""
 
     def __init__(self, port):
         super().__init__(port)
-        self.folders, self.by_recipes = [], {}
+        self.folders, self.by_recipes, self.standing = [], {}, set()
 
     def settle(self, translation):
         """Notes it, by kati's statements; the makefile stays."""
@@ -79,11 +87,12 @@ class ShellWrites(Mender):
         first = self.port.first
         self.folders = [name for name in first.folders if name not in made]
         self.by_recipes = {name: place for name, place in first.by_recipes.items() if name not in made}
+        self.standing = standing(shell_calls.of_room(self.port.room).texts()) - made
         return False
 
     def kept(self):
         """What is to stand in this folder before the build, each file with one that holds it, None for a folder."""
-        return {**dict.fromkeys(self.folders), **self.by_recipes}
+        return {**dict.fromkeys([*self.folders, *sorted(self.standing)]), **self.by_recipes}
 
     def watched(self):
         """The words to watch for it: where it is gone, it comes again by make."""
