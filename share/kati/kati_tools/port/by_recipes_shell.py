@@ -61,12 +61,19 @@ class Use:
 
 def uses_in(marked, plain):
     """The calls in a command with marks, beside the same command as make has it; None where that is another one."""
-    parts = MARKED.split(marked)
-    found = re.fullmatch("(.*)".join(map(re.escape, parts[::2])), plain, re.DOTALL)
-    if found is None:
+    parts, values, at = MARKED.split(marked), [], 0
+    first, *between, last = parts[::2] if len(parts) > 1 else [marked, ""]
+    for text in [first, *between]:
+        start = plain.find(text, at)
+        if start < 0 or not values and start:
+            return None
+        values.append(plain[at:start])
+        at = start + len(text)
+    end = len(plain) - len(last)
+    if end < at or not plain.endswith(last) or len(parts) == 1 and at != end:
         return None
-    before = ["".join(parts[:2 * at + 1]) for at in range(len(parts) // 2)]
-    return [Use(*one) for one in zip(parts[1::2], before, found.groups())]
+    before = ["".join(parts[:2 * number + 1]) for number in range(len(parts) // 2)]
+    return [Use(*one) for one in zip(parts[1::2], before, [*values[1:], plain[at:end]])]
 
 
 def uses(marked, plain):
@@ -92,10 +99,10 @@ class ByRecipesShell:
         if found is None:
             return
         self.commands = [MARKED.sub(r"\1", line) for line in marked]
-        calls = dict.fromkeys(use.call for uses in found for use in uses)
-        meant = dict.fromkeys(one.makes for one in handed(port))
-        self.told = [f"for kati the recipe's own shell runs, when it comes to it: {shortened(meant, ', ')}"] * bool(calls)
-        why = {use.call: reason for uses in found for use in uses for reason in [why_other(use)] if reason}
+        calls = dict.fromkeys(use.call for line in found for use in line)
+        meant = shortened(dict.fromkeys(one.makes for one in handed(port)), ", ")
+        self.told = [f"for kati the recipe's own shell runs, when it comes to it: {meant}"] * bool(calls)
+        why = {use.call: reason for line in found for use in line for reason in [why_other(use)] if reason}
         why.update(late_reads(calls, statements))
         self.differences = [f"{call} may give the recipe's shell another value than make: {reason}"
                             for call, reason in list(why.items())[:MOST]]

@@ -1,5 +1,5 @@
-"""What calls of `$(shell ..)` write into this folder while make is asked, of which kati's commands may need what nothing
-of them makes.
+"""What calls of `$(shell ..)` write into this folder while make is asked: kati's commands may need it, and none of them
+makes it.
 
 What calls in recipes write, as `$(shell mkdir -p $(@D))`, is taken away before make is asked again: it is to find the
 folder each time as it was the first time, or it would tell other commands."""
