@@ -88,7 +88,7 @@ def all_commands(folder, name):
 def make_includes(folder, name):
     """Has make make the makefiles that it reads, as any run of it does."""
     nothing = Path(folder).parent / "nothing.mk"
-    nothing.write_text(".PHONY: survey_nothing\nsurvey_nothing: ;\n", encoding="ascii")
+    nothing.write_text("survey_nothing: ;\n", encoding="ascii")
     return run(["make", "-n", "-f", name, "-f", nothing, "survey_nothing"], folder)
 
 

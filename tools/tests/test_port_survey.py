@@ -9,7 +9,7 @@ class Survey(Tree):
     def setUp(self):
         super().setUp()
         self.put("one/Makefile", "all: ; echo one\n")
-        self.put("two/src/makefile", "N := $(shell echo 1)\nall: ; echo $(N)\n")
+        self.put("two/src/makefile", "N := $(shell echo 1)\n.PHONY:: all\nall: ; echo $(N)\n")
         self.put("three/Makefile", "all: absent ; echo\n")
         self.put("four/Makefile", ".ONESHELL:\nall: ; echo\n")
         self.put("five/Makefile", "N := $(shell echo 1)\nall: FORCE ; echo $(N) $?\nFORCE:\n")
