@@ -55,6 +55,9 @@ class Comparing(Tree):
         self.assertEqual(self.compared(0), "same: 1 command, 1 of them but for blanks\n")
         self.differ("L = a b/\nall: ; echo '$(L:b/=);'\n", ["echo 'a ;'"], ["echo 'a;'"])
 
+    def test_a_double_colon_behind_phony(self):
+        self.same(".PHONY:: all\nall: ; echo\n", 1)
+
     def test_blanks_in_quotes_count(self):
         self.differ("A =\nA += y\nall: ; echo \"$(A)\" \\$(A)\n", ['echo "y" \\y'], ['echo " y" \\ y'])
 

@@ -281,6 +281,11 @@ class Macros(Tree):
         self.assertEqual(built.status, 0, built.all)
         self.assertEqual(self.read("out"), wanted)
 
+    def test_a_double_colon_behind_phony(self):
+        self.write(Makefile="A := $(shell echo 1)\n.PHONY:: all\nall: ; echo $(A)\n")
+        ran = self.tool("kati-port", "--macros", "Makefile")
+        self.assertEqual((ran.status, ran.out), (0, "A=1\n"), ran.all)
+
     def test_without_such_macros_there_are_no_words(self):
         self.copy_example()
         ran = self.tool("kati-port", "--macros", "Makefile")

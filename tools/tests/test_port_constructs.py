@@ -14,6 +14,10 @@ CONSTRUCTS = {
         ({"Makefile": "$(if $(filter target-specific,$(.FEATURES)),,$(error no target-specific))\n"
                       "ifdef .FEATURES\nF = 1\nendif\nall: ; echo hi $(F) > out\n"},
          ["# tells of the run\n.FEATURES := "]),
+    "a double colon behind .PHONY":
+        ({"Makefile": "N := $(shell echo 1)\n.PHONY:: all\nall:: a\na: ; echo $(N) > $@\n.PHONY:: clean\n"
+                      "clean:: ; rm -f a\n"},
+         ["V_N := 1"]),
     "a conditional by a name that is empty":
         ({"Makefile": "ifndef $(OS_)\n OS_ = linux\nendif\nifeq (1,2)\nelse ifdef $(NONE) # none\nX = 1\nelse\nX = 2\n"
                       "endif\nall: ; echo $(OS_) $(X) > out\n"},

@@ -34,7 +34,7 @@ def values(makefile, names, given):
         more = os.path.join(room, "asked.mk")
         with open(more, "w", encoding="utf-8", errors="surrogateescape") as file:
             file.writelines(f"{ASKED}{number} := $({name})\n" for number, name in enumerate(names))
-            file.write(f".PHONY: {ASKED}\n{ASKED}: ;\n")
+            file.write(f"{ASKED}: ;\n")
 
         def asked(place):
             with place.entered():

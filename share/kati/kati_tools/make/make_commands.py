@@ -12,9 +12,9 @@ from ..base.programs import Stop, bytes_of
 # `.SECONDARY`.
 SUFFIXES = ".SUFFIXES: .o .c .cc .cpp .s .S .y .l .h .sh .a .f\n.SECONDARY:\n"
 # A goal that nothing is needed for, before which make only makes the files that it reads. No default goal comes of
-# it.
+# it. It isn't .PHONY, nor is what else is added here: a makefile may have that with a double colon.
 NO_GOAL = "kati_compare_makes_nothing"
-NO_RULE = f".PHONY: {NO_GOAL}\n{NO_GOAL}: ;\n.DEFAULT_GOAL :=\n"
+NO_RULE = f"{NO_GOAL}: ;\n.DEFAULT_GOAL :=\n"
 # A shell that runs no line of a recipe, but tells its environment for two. make reads what $(shell ..) prints from a
 # pipe, and leaves its own output, which is a file, to recipes.
 NOOP = """\
@@ -34,7 +34,6 @@ TELLING = ("kati_tells_1", "kati_tells_2")
 UNLISTED = "MAKEFILE_LIST := $(filter-out $(lastword $(MAKEFILE_LIST)),$(MAKEFILE_LIST))\n"
 TELLING_RULES = f"""\
 {UNLISTED}\
-.PHONY: {' '.join(TELLING)}
 {TELLING[0]}: ; /usr/bin/env -0 > {{told}}1 # kati_tells_its_environment_1
 {TELLING[1]}: ; /usr/bin/env -0 > {{told}}2 # kati_tells_its_environment_2
 .SECONDARY:

@@ -117,7 +117,7 @@ class MakeRun:
 
     def database(self, goal):
         """make's database once it has read the makefile, for a goal for which it makes nothing."""
-        files.replace(self.extra, f".PHONY: {goal}\n{goal}: ;\n", self.room)
+        files.replace(self.extra, f"{goal}: ;\n", self.room)
         words = ["-p", "-n", "--no-print-directory", "-f", self.makefile, "-f", self.extra, goal, *self.macros]
         return self.run([*words, f"SHELL={self.noop}"], {**self.environment(), "LC_ALL": "C"})[1]
 
@@ -150,7 +150,7 @@ class MakeRun:
         known = self.answers.known(kept_answers.INCLUDES)
         if known is not None:
             return 0, "", known
-        question = f"$(info {ANSWER}0 $(MAKEFILE_LIST){END})\n.PHONY: {NO_GOAL}\n{NO_GOAL}: ;\n"
+        question = f"$(info {ANSWER}0 $(MAKEFILE_LIST){END})\n{NO_GOAL}: ;\n"
         files.replace(self.extra, make_commands.UNLISTED + question, self.room)
         status, out, said = self.run(["-n", "-f", self.makefile, "-f", self.extra, NO_GOAL, *self.macros])
         # Where make has made one of them, it reads all once more.
@@ -197,7 +197,7 @@ class MakeRun:
         status, out, said = self.ask(goals)
         first = self.answers.known(kept_answers.FIRST)
         if first is None:
-            question = f".PHONY: {NO_GOAL}\n{NO_GOAL}: ; : {ANSWER}0 $(MAKEFLAGS){END} {ANSWER}1 $(MFLAGS){END}\n"
+            question = f"{NO_GOAL}: ; : {ANSWER}0 $(MAKEFLAGS){END} {ANSWER}1 $(MFLAGS){END}\n"
             first = self.ask([NO_GOAL], question)[1]
             self.answers.tell(kept_answers.FIRST, first)
         before = [line for line in make_commands.lines_of(first) if ANSWER not in line]
