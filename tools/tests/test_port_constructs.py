@@ -18,6 +18,11 @@ CONSTRUCTS = {
         ({"Makefile": "N := $(shell echo 1)\n.PHONY:: all\nall:: a\na: ; echo $(N) > $@\n.PHONY:: clean\n"
                       "clean:: ; rm -f a\n"},
          ["V_N := 1"]),
+    "a static pattern that is expanded twice":
+        ({"Makefile": "F_a = 1\nall: x/a.o x/b.o\n.SECONDEXPANSION:\nP = x/%.o\n"
+                      "x/a.o x/b.o: $(P): %.c | $$(@D)/.d\n\techo $(F_$*) $* $< > $@\nx/.d: ; mkdir x; touch $@\n",
+          "a.c": "", "b.c": ""},
+         ["\nx/a.o x/b.o: $(P):\n"]),
     "a conditional by a name that is empty":
         ({"Makefile": "ifndef $(OS_)\n OS_ = linux\nendif\nifeq (1,2)\nelse ifdef $(NONE) # none\nX = 1\nelse\nX = 2\n"
                       "endif\nall: ; echo $(OS_) $(X) > out\n"},

@@ -47,7 +47,14 @@ def katis_rule(port, file, line, targets, known):
         return katis_pattern_rule(port, file, line, targets, known)
     if not targets or any(name not in known for name in targets):
         return None
-    return lambda text: for_kati(text, targets, known, " ".join(targets))
+    return lambda text: for_kati(text, targets, known, head_of(text, targets))
+
+
+def head_of(text, targets):
+    """What stands before the recipe of a rule line for these targets: with its pattern, of which the recipe has the
+    stem."""
+    pattern = statements.Rule(text).pattern
+    return " ".join(targets) + (f": {pattern}" if pattern else "")
 
 
 def katis_pattern_rule(port, file, line, patterns, known):
