@@ -18,6 +18,11 @@ CONSTRUCTS = {
         ({"Makefile": "N := $(shell echo 1)\n.PHONY:: all\nall:: a\na: ; echo $(N) > $@\n.PHONY:: clean\n"
                       "clean:: ; rm -f a\n"},
          ["V_N := 1"]),
+    "the status of a call":
+        ({"Makefile": "A := $(shell echo x; exit 3)\nB := $(.SHELLSTATUS)\nC := $(shell cat c)\n"
+                      "ifeq ($(.SHELLSTATUS),0)\nD = ok\nendif\nE != exit 4\n$(if $(filter 4,$(.SHELLSTATUS)),,$(error no))\n"
+                      "all: ; echo $(A) $(B) $(C) $(D) > out\n", "c": "c\n"},
+         ["B := $(V_B)", "# $(.SHELLSTATUS) reads c ", "\nV_B := 3\n"]),
     "a static pattern that is expanded twice":
         ({"Makefile": "F_a = 1\nall: x/a.o x/b.o\n.SECONDEXPANSION:\nP = x/%.o\n"
                       "x/a.o x/b.o: $(P): %.c | $$(@D)/.d\n\techo $(F_$*) $* $< > $@\nx/.d: ; mkdir x; touch $@\n",

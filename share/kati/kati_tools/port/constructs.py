@@ -29,7 +29,8 @@ CONSTRUCTS = (
     Construct("`.RECIPEPREFIX = >`", when_read=recipe_prefix.mend),
     Construct("a variable of the environment, as `$(HOME)` or `CC ?= gcc`", at_first=environment_names.hand),
     Construct("`CURDIR` and what else tells of the run", at_first=of_the_run.ask),
-    Construct("`$(shell ..)`, `$(wildcard ..)`, `origin`, `flavor`, `abspath`, `realpath`, `!=`, `$(MAKEFILE_LIST)`",
+    Construct("`$(shell ..)`, `$(wildcard ..)`, `origin`, `flavor`, `abspath`, `realpath`, `!=`, `$(MAKEFILE_LIST)`, "
+              "`$(.SHELLSTATUS)`",
               {"E16": mending.refused_function, "E17": mending.shell_assignment}, at_first=shared_includes.add_values),
     Construct("`*.c` among names", {"E20": mending.refused_name}),
     Construct("`include mk/*.mk`", {"E20": mending.refused_include}),

@@ -13,9 +13,9 @@ from ..make.make_run import ANSWER, END, answered
 from . import read_lines
 
 AUTOMATIC = {mark + part for mark in "@<^+?*|%" for part in ("", "D", "F")}
-# Macros of make's own that are empty for kati, and that no assignment can give it: the list of makefiles grows, and by
-# the version the makefile tells the two apart.
-OF_MAKE = {"MAKEFILE_LIST", "MAKE_VERSION"}
+# Macros of make's own that are empty for kati, and that no assignment can give it: the list of makefiles grows, each
+# call of a shell leaves its status, and by the version the makefile tells the two apart.
+OF_MAKE = {"MAKEFILE_LIST", ".SHELLSTATUS", "MAKE_VERSION"}
 
 
 class Asking(NamedTuple):
