@@ -20,7 +20,8 @@ CONSTRUCTS = {
          ["V_N := 1"]),
     "the status of a call":
         ({"Makefile": "A := $(shell echo x; exit 3)\nB := $(.SHELLSTATUS)\nC := $(shell cat c)\n"
-                      "ifeq ($(.SHELLSTATUS),0)\nD = ok\nendif\nE != exit 4\n$(if $(filter 4,$(.SHELLSTATUS)),,$(error no))\n"
+                      "ifeq ($(.SHELLSTATUS),0)\nD = ok\nendif\nE != exit 4\n"
+                      "$(if $(filter 4,$(.SHELLSTATUS)),,$(error no))\n"
                       "all: ; echo $(A) $(B) $(C) $(D) > out\n", "c": "c\n"},
          ["B := $(V_B)", "# $(.SHELLSTATUS) reads c ", "\nV_B := 3\n"]),
     "a static pattern that is expanded twice":
@@ -28,6 +29,12 @@ CONSTRUCTS = {
                       "x/a.o x/b.o: $(P): %.c | $$(@D)/.d\n\techo $(F_$*) $* $< > $@\nx/.d: ; mkdir x; touch $@\n",
           "a.c": "", "b.c": ""},
          ["\nx/a.o x/b.o: $(P):\n"]),
+    "a call in a comment that make expands":
+        ({"Makefile": "define T\n# by $(shell cat n)\n$1: ; echo $1 > $1\nendef\ndefine R\n# $(wildcard n*)\n"
+                      "echo r > r\nendef\nall: a b r\n# $(shell touch never)\n"
+                      "b:\n\t# $(shell cat n) $(wildcard n)\n\techo b > b\n$(eval $(call T,a))\nr:\n\t$(R)\n",
+          "n": "1\n"},
+         ["# $(shell touch never)\n", "\n\t# $(V_shell) $(V_wildcard_2)\n"]),
     "a conditional by a name that is empty":
         ({"Makefile": "ifndef $(OS_)\n OS_ = linux\nendif\nifeq (1,2)\nelse ifdef $(NONE) # none\nX = 1\nelse\nX = 2\n"
                       "endif\nall: ; echo $(OS_) $(X) > out\n"},

@@ -166,7 +166,9 @@ class Probes:
 
     def add(self, line):
         """Adds a line's calls; answers them."""
-        found = [] if line.joined.lstrip().startswith("#") else self.calls_of(line)
+        # Comments of recipes and of bodies are expanded as all else there.
+        is_comment = line.joined.lstrip().startswith("#") and not (line.is_tab or line.is_body)
+        found = [] if is_comment else self.calls_of(line)
         if found:
             self.calls[line] = found
         for call in found:
