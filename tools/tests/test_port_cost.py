@@ -43,6 +43,19 @@ def makefile(count):
     return "".join(lines for lines, _ in parts) + "all:\n" + "".join(f"\techo {use}\n" for _, use in parts if use)
 
 
+def template(count):
+    """A makefile of which a line evaluates a template for a hundred objects, by a macro that asks a shell for each of
+    them; what else the line refers to may be asked for, and isn't, so many times."""
+    lines = [("ifeq (a,b)\nF~ := $(shell echo f~)\nendif\n", "$(F~)"), ("D~ = $(shell echo d~)\n", "$(D~)")]
+    parts = [(line.replace("~", str(number)), use.replace("~", str(number)))
+             for number in range(1, count + 1) for line, use in lines]
+    objects = " ".join(f"o{number}" for number in range(100))
+    return "".join([f"OBJECTS = {objects}\nquoted = $(shell echo $1 $2 | tr o q)\n",
+                    "define RULE\n$(1):\n\techo $(2) > $$@\nendef\n", *(line for line, _ in parts),
+                    f"FLAGS = $(if $(NONE),{''.join(use for _, use in parts)})\nall: $(OBJECTS)\n",
+                    "$(foreach o,$(OBJECTS),$(eval $(call RULE,$(o),$(call quoted,$(o),a b)$(FLAGS))))\n"])
+
+
 @needs("kati", "kati-asked", "make")
 class Cost(Tree):
     """Programs that stand for kati and make count their runs."""
@@ -69,6 +82,38 @@ class Cost(Tree):
             self.assertIn("kati's commands are make's\n", said)
             counts.append(runs)
         self.assertEqual(counts[0], counts[1])
+
+    def test_nor_with_what_a_template_may_come_to(self):
+        counts = []
+        for count in (2, 6):
+            self.put("Makefile", template(count))
+            *runs, said = self.runs("--diff", "Makefile")
+            self.assertIn("kati's commands are make's\n", said)
+            counts.append(runs)
+        self.assertEqual(counts[0], counts[1])
+        self.assertLess(counts[1][0], 6)
+
+    def test_nor_with_the_names_of_a_rule(self):
+        """Each name hangs on a macro that is another one behind the rule."""
+        counts = []
+        for count in (2, 6):
+            rules = [f"D = d{number}\nall: $(D)/*.a $(D)/*.b\n" for number in range(count)]
+            self.put_all({f"d{number}/x.{end}": "" for number in range(count) for end in "ab"})
+            self.put("Makefile", f"{''.join(rules)}all: ; echo $^ > $@\nD = other\n")
+            *runs, said = self.runs("--diff", "Makefile")
+            self.assertIn("kati's commands are make's\n", said)
+            counts.append(runs)
+        self.assertEqual(counts[0], counts[1])
+
+    def test_what_commands_have_is_settled_at_once(self):
+        """Macros of targets and flags of the shell cost one translation more together, exported variables one, and what
+        the build makes and stands there none; make is asked once for what it tells together."""
+        self.put_all({"a.c": "", "a.o": "", "prog": ""})
+        self.put("Makefile", ".POSIX:\nexport E = e\nN := $(shell echo 1)\nprog: CFLAGS = -O2\nprog: a.o\n"
+                             "\tcc $(CFLAGS) -o $@ $^ # $(CURDIR) $$E $(N)\na.o: a.c\n\tcc -c $(CFLAGS) $<\n")
+        katis, makes, said = self.runs("--diff", "Makefile")
+        self.assertIn("kati's commands are make's\n", said)
+        self.assertEqual((katis, makes), (5, 7))
 
     def test_what_make_does_not_come_by_stays(self):
         self.put("Makefile", "A := $(shell echo a)\nifeq ($(A),b)\nB := $(shell echo b)\nexport C\nelse ifeq ($(A),a)\n"

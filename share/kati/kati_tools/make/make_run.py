@@ -12,6 +12,8 @@ from ..base.programs import Stop
 NO_GOAL = "kati_port_makes_nothing"
 ANSWER = "@@kati:"
 END = ":kati@@"
+TOLD = re.compile(rf"{ANSWER}(\d+) (.*?){END}\n", re.DOTALL)
+OWN_SHELL = ("$(SHELL)", "$(.SHELLFLAGS)")
 SECONDS = 120
 # The special target in make's database.
 NOT_PARALLEL = re.compile(r"^\.NOTPARALLEL:", re.MULTILINE)
@@ -28,11 +30,20 @@ def shell_in(lines):
     return "/bin/sh"
 
 
+def questions(texts):
+    """The text of a makefile that has make tell what these texts come to, by their numbers."""
+    return "".join(f"$(info {ANSWER}{number} {text}{END})\n" for number, text in enumerate(texts))
+
+
 def answered(out):
     """What make told of numbered questions: the answers of each, in order."""
     found = {}
-    for number, value in re.findall(rf"{ANSWER}(\d+) (.*?){END}\n", out, re.DOTALL):
-        found.setdefault(int(number), []).append(value)
+    # A form takes ten times as long for the many answers of a large makefile.
+    for part in out.split(ANSWER)[1:]:
+        number, _, rest = part.partition(" ")
+        value, end, _ = rest.partition(f"{END}\n")
+        if end and number.isdecimal():
+            found.setdefault(int(number), []).append(value)
     return found
 
 
@@ -63,6 +74,9 @@ class MakeRun:
         self.is_not_parallel = False
         # What calls of $(shell ..) in recipes write, which is taken away before make is asked.
         self.undone = ()
+        # What it told besides where it was asked for something else: the shell and flags of the makefile's own, by a
+        # run without goals; values of texts; and how it makes makefiles.
+        self.own_shell, self.told_besides, self.first = {}, {}, None
         self.noop, self.extra = (os.path.join(room, name) for name in ("noop", "question.mk"))
         self.use_shell("/bin/sh")
 
@@ -150,24 +164,28 @@ class MakeRun:
         known = self.answers.known(kept_answers.INCLUDES)
         if known is not None:
             return 0, "", known
-        question = f"$(info {ANSWER}0 $(MAKEFILE_LIST){END})\n{NO_GOAL}: ;\n"
+        asked = questions(["$(MAKEFILE_LIST)", *OWN_SHELL])
+        question = f"{asked}{NO_GOAL}: ;\n"
         files.replace(self.extra, make_commands.UNLISTED + question, self.room)
         status, out, said = self.run(["-n", "-f", self.makefile, "-f", self.extra, NO_GOAL, *self.macros])
         # Where make has made one of them, it reads all once more.
-        names = (answered(out).get(0) or [""])[-1].split()
+        told = answered(out)
+        names = (told.get(0) or [""])[-1].split()
+        self.own_shell = {text: told[number][-1] for number, text in enumerate(OWN_SHELL, 1) if number in told}
         if not status:
             self.answers.tell(kept_answers.INCLUDES, names)
+            for text, value in self.own_shell.items():
+                self.answers.tell(kept_answers.WITH_OWN_SHELL + text, value)
         return status, said, names
 
     def told(self, kind, texts, ask):
         """What make tells of texts, None for those that it doesn't; `ask` answers its output for the text of a makefile
         that has it tell those that aren't known, with which it ends."""
-        known = {text: self.answers.known(kind + text) for text in texts}
+        known = {text: self.told_besides.get(kind + text, self.answers.known(kind + text)) for text in texts}
         more = [text for text in texts if known[text] is None]
         if more:
-            asked = "".join(f"$(info {ANSWER}{number} {text}{END})\n" for number, text in enumerate(more))
             # The error keeps make from anything but reading.
-            found = answered(ask(asked + "$(error asked)\n"))
+            found = answered(ask(questions(more) + "$(error asked)\n"))
             told = iter([found.get(number, [None])[0] for number in range(len(more))])
         values = [next(told) if known[text] is None else known[text] for text in texts]
         for text, value in zip(texts, values):
@@ -191,15 +209,24 @@ class MakeRun:
         """The same for one text."""
         return self.values([text])[0]
 
-    def commands(self, goals=None):
+    def commands(self, goals=None, texts=()):
         """The status, the commands that make would run for the goals, what it says, and the commands before those,
-        which make makefiles."""
-        status, out, said = self.ask(goals)
-        first = self.answers.known(kept_answers.FIRST)
+        which make makefiles; in the same run it is asked for the values of texts."""
+        status, out, said = self.ask(goals, questions(texts))
+        if status and texts:
+            # One of them may be none that make can expand.
+            status, out, said = self.ask(goals)
+        elif texts:
+            told = answered(out)
+            self.told_besides.update((kept_answers.VALUE + text, told[number][-1])
+                                     for number, text in enumerate(texts) if number in told)
+            out = TOLD.sub("", out)
+        first = self.first or self.answers.known(kept_answers.FIRST)
         if first is None:
             question = f"{NO_GOAL}: ; : {ANSWER}0 $(MAKEFLAGS){END} {ANSWER}1 $(MFLAGS){END}\n"
             first = self.ask([NO_GOAL], question)[1]
             self.answers.tell(kept_answers.FIRST, first)
+        self.first = first
         before = [line for line in make_commands.lines_of(first) if ANSWER not in line]
         left, lines = Counter(before), []
         for line in make_commands.lines_of(with_users_flags(out, first)):

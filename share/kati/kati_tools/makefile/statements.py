@@ -174,6 +174,10 @@ class Rule:
         self.needs_at = rest_at if second < 0 else second + 1
         self.needs = words(head[self.needs_at:])
 
+    def words(self):
+        """Its targets and prerequisites, each once."""
+        return list(dict.fromkeys(self.targets + self.needs))
+
     def assigned(self, at):
         """The target-specific assignment behind the colon; its value goes on behind a `;`."""
         if not assignment(self.text[:self.end], at):

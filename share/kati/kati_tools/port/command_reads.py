@@ -157,9 +157,11 @@ def of_git(command):
     return found
 
 
-def reads_of_calls(patterns, commands, links, contents):
+def reads_of_calls(patterns, commands, links, contents, known=None):
     """The words to watch for what calls were asked for: the patterns of `wildcard`, the commands of `shell`, the names
-    of `realpath`, and what `file` reads."""
+    of `realpath`, and what `file` reads. `known` keeps those of each command, which many calls may have."""
+    known = {} if known is None else known
+    known.update((one, reads_of(one)) for one in commands if one not in known)
     found = [*watched.of_wildcard(" ".join(patterns)), *(watched.LINK + word for word in " ".join(links).split()),
-             *(one.strip("< \t") for one in contents), *(word for one in commands for word in reads_of(one))]
+             *(one.strip("< \t") for one in contents), *(word for one in commands for word in known[one])]
     return list(dict.fromkeys(one for one in found if re.fullmatch(r"[^\s,]+", one)))

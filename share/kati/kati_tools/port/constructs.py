@@ -56,8 +56,8 @@ CONSTRUCTS = (
     Construct("`X = $(eval X := $(shell ..))$(X)`, which a recipe is the first to use",
               {"E32": mending.evaluated_value}),
     Construct("macros or includes that nest in more than 100 levels", {"E08": mending.too_deep}),
-    Construct("a template in which `eval` reads what kati refuses", {"E32": written_out.evaluated_values},
-              other=written_out.mend),
+    Construct("a template in which `eval` reads what kati refuses",
+              {"E16": written_out.mend_functions, "E32": written_out.evaluated_values}, other=written_out.mend),
     Construct("`$(shell ..)` that has another value each time in a recipe, or reads a file there that the build makes",
               mender=made_values.MadeValues),
     Construct("`$(shell mkdir -p deps)`, of a folder in which the build makes nothing",
@@ -78,8 +78,13 @@ CONSTRUCTS = (
     Construct("`obj: ; mkdir obj`, where `obj/a.o` doesn't name `obj`", mender=made_folders.MadeFolders),
     Construct("`all: clean prog`, where `clean` takes `prog` away by `rm`", mender=taken_away.TakenAway),
 )
-# What has to be kept in mind, in the order of the table; and in that in which it stands at the end of the makefile.
+# What has to be kept in mind, in the order of the table.
 MENDERS = tuple(dict.fromkeys(one.mender for one in CONSTRUCTS if one.mender))
+# In the order in which they are settled: what is made by which rules comes first; then, by one translation, what the
+# commands have, each by itself; and what compares them with make's is last, exported variables behind what is appended.
+TOGETHER = (target_macros.TargetMacros, made_values.MadeValues, inner_makes.InnerMakes, shell_flags.ShellFlags)
+SETTLED = tuple(dict.fromkeys(TOGETHER if one in TOGETHER else (one,) for one in MENDERS))
+# In the order in which it stands at the end of the makefile.
 AT_THE_END = (folder_search.Search, target_macros.TargetMacros, mending_exports.Exports, shell_flags.ShellFlags,
               mending_shell.ShellTexts, taken_back.TakenBack, made_folders.MadeFolders, taken_away.TakenAway)
 
@@ -119,8 +124,8 @@ def menders_of(fault):
 
 
 def settle(port, translation):
-    """Mends the first construct by which kati's translation isn't make's; answers whether the makefile has changed."""
-    return any(port.mender(kind).settle(translation) for kind in MENDERS)
+    """Mends the first constructs by which kati's translation isn't make's; answers whether the makefile has changed."""
+    return any(any([port.mender(kind).settle(translation) for kind in kinds]) for kinds in SETTLED)
 
 
 def end(port):

@@ -4,8 +4,10 @@ import os
 
 from ..base import files
 from ..build import begun
+from ..makefile import references
 from ..make import make_run, recipe_shell, shell_calls
-from . import constructs, dependency_includes, frozen_values, make_probes, shell_writes, written_outside
+from . import (constructs, dependency_includes, frozen_values, make_probes, of_the_run, shell_writes,
+               written_outside)
 from .stuck import MakeFails, OtherShell
 
 
@@ -23,7 +25,7 @@ def look(port):
     texts = calls.texts()
     make_includes(port, before, changed(first, before))
     present = port.copy.present()
-    port.first.commands = port.run.commands()
+    port.first.commands = port.run.commands(texts=texts_of(port))
     shell_writes.note_recipes(port, present)
     if port.first.commands[0]:
         raise MakeFails(port.first.commands[0], port.first.commands[2])
@@ -34,6 +36,14 @@ def look(port):
     port.first.outside = written_outside.paths(port.copy, texts | calls.texts(), start)
     port.values.take("\n".join([*(file.before for file in port.ported.values()),
                                 files.read(frozen_values.NAME) or ""]))
+
+
+def texts_of(port):
+    """The texts of which values will be asked for, but for those with functions, which might do more than to tell."""
+    found = [*of_the_run.texts("".join(file.before for file in port.ported.values())),
+             *(text for one in port.menders.values() for text in one.texts())]
+    return [text for text in dict.fromkeys(found)
+            if all(one.function in (None, "flavor", "origin", "value") for one in references.references(text))]
 
 
 def make_includes(port, before, by_shell):

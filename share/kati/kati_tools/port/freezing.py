@@ -70,6 +70,8 @@ class Freezer:
         self.untold, self.calls_in, self.asked = set(), {}, {}
         # The calls that the recipe's own shell runs for kati: nothing is to be asked again for these.
         self.handed = set()
+        # The words to watch for each command.
+        self.reads = {}
 
     def place(self, call):
         """The innermost reference round a call, itself included, that has one value, and that value, None where make
@@ -160,7 +162,8 @@ class Freezer:
         """The words to watch for what was asked for by calls."""
         probes, real = self.port.probes, self.port.copy.real_text
         found = command_reads.reads_of_calls(*(
-            [real(one) for call in calls for one in probes.asked_behind(call, numbers)] for numbers in probes.asked))
+            [real(one) for call in calls for one in probes.asked_behind(call, numbers)] for numbers in probes.asked),
+            known=self.reads)
         return [word for word in found if not self.is_of_recipes(word.lstrip(watched.THERE))]
 
     def is_of_recipes(self, names):
@@ -217,30 +220,40 @@ class Freezer:
     def settle_sources(self):
         """Says of each value where it came from in such a way that it is known when make is to be asked again."""
         values = [one for one in self.port.values.all if one.source != frozen_values.FOR_SHELL]
-        arguments = [frozen_argument(one.makes) for one in values]
-        told = iter(self.port.run.values([one for one in arguments if one is not None]))
+        asked = {one: self.asked_for(one) for one in values}
+        told = {one: found[0] for one, found in asked.items() if found is not None and len(found) == 1}
+        left = [one for one, found in asked.items() if found is not None and one not in told]
+        told.update(zip(left, self.port.run.values([frozen_argument(one.makes) for one in left])))
         with inside(self.port.copy.real):
-            for one, argument in zip(values, arguments):
-                asked = None if argument is None else next(told)
-                commands = self.commands_of(one)
-                if asked is None:
+            for one in values:
+                if told.get(one) is None:
                     one.source = frozen_values.with_sums(one.source, self.watched_by_value(one))
                 else:
-                    # What a macro was where make asked counts, not what it is at the end.
-                    text = commands[0] if len(commands) == 1 else asked.strip()
-                    self.settle(one, self.port.copy.real_text(text))
+                    self.settle(one, self.port.copy.real_text(told[one].strip()))
 
     def watched_by_value(self, value):
         """The words to watch for a value, but for patterns that its table names."""
         named = {word for source in value.sources.values() for word in source[len("$(wildcard "):-1].split()}
         return [word for word in self.watched_by_calls(self.calls_in.get(value.name, [])) if word not in named]
 
+    def asked_for(self, value):
+        """The commands or patterns which a value that is such a call comes from, as far as make was seen to ask for
+        them: what a macro was where make asked counts, not what it is at the end. None of another value."""
+        if frozen_argument(value.makes) is None:
+            return None
+        probes = self.port.probes
+        return self.asked_by_calls(value, probes.commands if argument_of(value.makes, "shell") is not None
+                                   else probes.patterns)
+
     def commands_of(self, value):
         """The commands which a value comes from, as far as make was seen to run them."""
+        return self.asked_by_calls(value, self.port.probes.commands)
+
+    def asked_by_calls(self, value, numbers):
+        """What the calls in a value ask for, each once, where it is of one line."""
         calls = self.calls_in.get(value.name, [])
-        probes = self.port.probes
-        commands = dict.fromkeys(one.strip() for call in calls for one in probes.asked_behind(call, probes.commands))
-        return [command for command in commands if "\n" not in command]
+        found = dict.fromkeys(one.strip() for call in calls for one in self.port.probes.asked_behind(call, numbers))
+        return [text for text in found if "\n" not in text]
 
     def settle(self, value, asked):
         """The same for one value, of which the call's argument expands to `asked`."""

@@ -9,16 +9,37 @@ WILD = re.compile(r"[*?\[]")
 OF_THE_SHELL = frozenset("'\"`")
 
 
+def computed_words(line):
+    """The words of a rule line that come to other words, and stand in it as they are."""
+    return [word for word in statements.Rule(line.joined).words() if "$" in word and word in line.text]
+
+
 def freeze_words(port, line, name):
-    """Replaces the words of a rule line that come to a name with a wildcard by what the names fit."""
+    """Replaces the words of a rule line that come to a name with a wildcard by what the names fit: as make told it
+    there, or else as they come to it behind the makefile."""
     if line.is_body:
         return False
-    rule, before = statements.Rule(line.joined), len(line.edits)
-    words = [word for word in dict.fromkeys(rule.targets + rule.needs) if "$" in word and word in line.text]
+    words, before = computed_words(line), len(line.edits)
+    freeze_told(port, line)
+    if len(line.edits) > before:
+        return True
     for word, names in zip(words, port.run.values(words)):
         if name in map(plain_name, (names or "").split()):
-            freeze_word(port, line, word, f"{frozen_values.NAMES}{names}", frozen_values.with_fitting(names))
+            freeze_names(port, line, word, names)
     return len(line.edits) > before
+
+
+def freeze_told(port, line):
+    """Replaces all words of a rule line of which make told that they come to names with wildcards there."""
+    for start, end in port.probes.words.get(line, []):
+        told = port.probes.told(line, (start, end))
+        if len(told) == 1 and WILD.search(told[0]) and "$" not in told[0]:
+            freeze_names(port, line, line.text[start:end], told[0])
+
+
+def freeze_names(port, line, word, names):
+    """Replaces a word of a rule line that comes to these names by what they fit."""
+    freeze_word(port, line, word, f"{frozen_values.NAMES}{names}", frozen_values.with_fitting(names))
 
 
 def freeze_word(port, line, word, source, value):

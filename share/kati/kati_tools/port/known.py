@@ -80,8 +80,9 @@ class Port:
         self.faults = []
         # What is told at the end.
         self.did, self.notes = Counter(), copy.told()
-        # kati's list of files, for this port.
-        self.listing = None
+        # kati's list of files, for this port, whether the file of values was there when it was made, whether it is of
+        # the makefiles as they are, None before kati takes them, and what of it the build makes.
+        self.listing, self.listing_has_values, self.is_list_sure, self.dropped = None, False, None, set()
 
     def mender(self, kind):
         """What mends a construct, by its class."""

@@ -6,9 +6,10 @@ import re
 from typing import NamedTuple
 
 from ..base import files
-from ..makefile import references
+from ..makefile import references, statements
 from ..makefile.forms import refused_function
 from ..makefile.references import BLANKS
+from ..makefile.syntax import Kind
 from ..make.make_run import ANSWER, END, answered
 from . import read_lines
 
@@ -35,8 +36,14 @@ class Asking(NamedTuple):
 # What hands the text on takes commas as they are, and in a command blanks too.
 ASKED = (Asking("wildcard", "", 1_000_000, "$(strip "), Asking("shell", "", 2_000_000, "$(subst ,,"),
          Asking("realpath", "", 3_000_000, "$(strip "), Asking("file", "<", 4_000_000, "$(subst ,,"))
+WILD = re.compile(r"[*?\[]")
 # A probe tells its number, what the value depends on, and the value.
 PROBE = f"kati_probe = $(info {ANSWER}$1 $3|$2{END})$2\nkati_number_sign := \\#\n"
+
+
+def comes_to_wildcard(text):
+    """Whether a text has a wildcard and a reference."""
+    return "$" in text and WILD.search(text) is not None
 
 
 def is_numbered(reference):
@@ -157,6 +164,8 @@ class Probes:
     def __init__(self, ported, unsettled=None, by_target=frozenset()):
         self.refused, self.unsettled, self.by_target = refused_macros(ported), unsettled or {}, by_target
         self.calls, self.numbers, self.values = {}, {}, {}
+        # The words of rule lines that come to names with wildcards, by their places.
+        self.words = {}
         # What each call of `wildcard`, `shell` and their kin is asked for is told as well, by numbers of their own.
         self.asked = [{} for _ in ASKED]
         self.patterns, self.commands, self.links, self.contents = self.asked
@@ -177,7 +186,17 @@ class Probes:
             for numbers, asking in zip(self.asked, ASKED):
                 if asking.is_one(references.only(call.text())):
                     numbers[call] = asking.first + len(numbers)
+        if not found and comes_to_wildcard(line.text) and self.read.kind(line) is Kind.RULE:
+            self.add_words(line)
         return found
+
+    def add_words(self, line):
+        """Adds the words of a rule line that have a wildcard and come to other words."""
+        for word in filter(comes_to_wildcard, statements.Rule(line.joined).words()):
+            start = line.text.find(word)
+            if start >= 0:
+                self.words.setdefault(line, []).append((start, start + len(word)))
+                self.numbers.setdefault((line, start, start + len(word)), len(self.numbers))
 
     def calls_of(self, line):
         """The calls in a line."""
@@ -249,6 +268,11 @@ class Probes:
         """The values of the reference at this place, each once; none where make never asked for it."""
         return list(dict.fromkeys(value for _, value in self.pairs(line, span)))
 
+    def are_told(self, line):
+        """Whether make asked for each refused call of a line, of which there are some."""
+        calls = self.of(line)
+        return bool(calls) and all(self.told(line, call.chain[0]) for call in calls)
+
     def table(self, line, span):
         """The values by what they depend on; None where that doesn't settle them."""
         found = {}
@@ -269,6 +293,9 @@ class Probes:
                 marks.setdefault(span[0], []).append((1, -span[1], f"$(call kati_probe,{number},"))
         for call in self.of(line):
             self.mark_asked(call, marks)
+        for start, end in self.words.get(line, []):
+            marks[start] = [(1, 0, f"$(call kati_probe,{self.numbers[line, start, end]},$(subst ,,")]
+            marks[end] = [(0, 0, "),)")]
         text, last = "", 0
         for at in sorted(marks):
             text += line.text[last:at] + "".join(mark for _, _, mark in sorted(marks[at]))

@@ -7,6 +7,10 @@ class Mender:
     def __init__(self, port):
         self.port = port
 
+    def texts(self):
+        """The texts of which it needs the values: make tells them with its commands, before anything is changed."""
+        return []
+
     def look(self):
         """Asks make, before anything is changed."""
 

@@ -31,17 +31,40 @@ def reached(port, text, definitions=None):
 
 
 def refused_function(port, fault):
-    """E16: freezes the calls of the line, or of a line whose value it comes to; of a computed name, all of that
-    function."""
-    near = [fault.line, *reached(port, fault.line.now())] if fault.line else []
-    if any(port.freezer.line(line) for line in near if is_meant(port, line, fault.last)):
+    """E16: freezes the calls of the line, or of those that make evaluated of lines whose values it comes to; of a
+    computed name, all of that function."""
+    near = near_lines(port, fault)
+    first = [line for line in near if line is fault.line]
+    evaluated = [line for line in near if port.probes.are_told(line)]
+    if any(port.freezer.lines(some) for some in (first, evaluated)):
         return True
-    is_doubled = any(freezing.doubled_calls(line) for line in near)
-    if is_doubled and freeze_doubled(port):
+    if any(freezing.doubled_calls(line) for line in reached_by(port, fault)) and freeze_doubled(port):
         return True
+    return not near and freeze_all(port, fault)
+
+
+def far_function(port, fault):
+    """E16: the same of lines whose values the line comes to, or may, though make evaluated nothing there."""
+    near = near_lines(port, fault)
+    read = [line for line in near if port.probes.read.is_read(line)]
+    return any(port.freezer.lines(some) for some in (read, near)) or freeze_all(port, fault)
+
+
+def freeze_all(port, fault):
+    """Freezes all calls of a function; answers whether there are any."""
     meant = [line for line in port.lines() if is_meant(port, line, fault.last)]
     read = [line for line in meant if port.probes.read.is_read(line)]
     return any(port.freezer.lines(some) for some in (read, meant)) or freeze_doubled(port)
+
+
+def reached_by(port, fault):
+    """The line of a fault, and those that give values to what it refers to."""
+    return [fault.line, *reached(port, fault.line.now())] if fault.line else []
+
+
+def near_lines(port, fault):
+    """Those of them that have calls of its function which aren't frozen."""
+    return [line for line in reached_by(port, fault) if is_meant(port, line, fault.last)]
 
 
 def freeze_doubled(port):

@@ -7,7 +7,7 @@ from typing import Any, NamedTuple
 from ..makefile import references, statements
 from ..makefile.forms import has_wildcard
 from ..makefile.syntax import Kind
-from . import constructs, dependency_includes, frozen_values, mending, mending_lines, target_macros
+from . import constructs, dependency_includes, freezing_names, frozen_values, mending, mending_lines, target_macros
 
 BEHIND_TAB = {Kind.CONDITION, Kind.INCLUDE, Kind.DIRECTIVE, Kind.DEFINE, Kind.UNDEFINE}
 
@@ -50,9 +50,8 @@ def functions(port):
     given = {one.split("=", 1)[0].rstrip(":+?") for one in port.asked.macros}
     # The line of before by which the values are included stays.
     for _, line in [one for one in read_lines(port) if not one[1].edits and frozen_values.NAME not in one[1].text]:
-        calls = port.probes.of(line)
         is_given = (line.assignment() or ("",))[0] in given
-        if calls and not is_given and all(port.probes.told(line, call.chain[0]) for call in calls):
+        if not is_given and port.probes.are_told(line):
             port.freezer.line(line)
 
 
@@ -101,6 +100,8 @@ def names(port):
     port.fitting.update(zip(texts, port.run.values([f"$(wildcard {name})" for name in texts])))
     for file, line, name in found:
         mending.refused_name(port, Alike(file, line, "E20", words=f"refused name {name}"))
+    for _, line in unchanged_lines(port):
+        freezing_names.freeze_told(port, line)
 
 
 def is_wild(word):
@@ -111,8 +112,7 @@ def is_wild(word):
 def wildcards(port, line):
     """The names with wildcards in a rule line."""
     is_rule = not (line.is_tab or line.is_body) and port.probes.read.kind(line) is Kind.RULE
-    rule = statements.Rule(line.joined) if is_rule else None
-    return list(filter(is_wild, rule.targets + rule.needs)) if rule else []
+    return list(filter(is_wild, statements.Rule(line.joined).words())) if is_rule else []
 
 
 ALIKE = {"E06": behind_tabs, "E15": empty_names, "E16": functions, "E17": forms, "E20": names, "E23": of_targets}

@@ -12,10 +12,15 @@ def named(text, assigned):
     return [name for name in RUN if name in asked and name not in assigned]
 
 
+def texts(text):
+    """The texts by which make is asked for what makefiles with this text name of it."""
+    return [f"$({name})" for name in RUN if name in text]
+
+
 def ask(port):
     """Asks for what tells of the run, where the makefiles name it."""
     names = named(port.values.taken, {name for file in port.ported.values() for name, _ in file.definitions()})
-    told = port.run.values([f"$({name})" for name in names]) if names else []
+    told = port.run.values([f"$({name})" for name in names])
     # Of another run there are goals, where this one has none.
     port.for_kati.of_the_run = {name: value or "" for name, value in zip(names, told)
                                 if value or name == translating.GOALS}

@@ -61,7 +61,7 @@ def rewrite(port):
         translation = asking_kati.translate(port)
         if translation.status:
             mend(port, translation)
-        elif not constructs.settle(port, translation):
+        elif not constructs.settle(port, translation) and not asking_kati.has_other_list(port):
             constructs.end(port)
             saving.save(port)
             return translation

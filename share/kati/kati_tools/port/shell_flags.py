@@ -2,7 +2,8 @@
 the shell, and has other macros by itself."""
 import re
 
-from ..make import command_environment
+from ..build import translating
+from ..make import command_environment, make_run
 from ..makefile import ported_text
 from .mender import Mender
 
@@ -26,16 +27,31 @@ class ShellFlags(Mender):
         super().__init__(port)
         self.shell, self.flags, self.given, self.macros = "/bin/sh", "-c", None, {}
 
+    def texts(self):
+        """What `.POSIX` may give other values."""
+        return QUESTIONS if self.is_posix() else []
+
+    def is_posix(self):
+        """Whether a makefile may have `.POSIX`."""
+        return any(POSIX.search(file.before) for file in self.port.ported.values())
+
     def look(self):
         """Asks make, where the makefiles have what may give it others."""
         texts = [file.before for file in self.port.ported.values()]
         if any(map(MAY_BE_OTHERS.search, texts)):
-            told = self.port.run.values_with_own_shell(["$(SHELL)", "$(.SHELLFLAGS)"])
+            told = self.own_shell(texts)
             self.shell, self.flags = (text or before for text, before in zip(told, (self.shell, self.flags)))
-        if any(map(POSIX.search, texts)):
+        if self.is_posix():
             told = [(one or ":").split(":", 1) for one in self.port.run.values(QUESTIONS)]
             self.macros = {name: value for (name, usual), (origin, value) in zip(OF_POSIX.items(), told)
                            if origin == "default" and value != usual}
+
+    def own_shell(self, texts):
+        """make's shell and flags for makefiles with these texts. Where they don't name the goals, make has told them
+        without."""
+        run = self.port.run
+        told = [] if any(translating.GOALS in text for text in texts) else list(run.own_shell.values())
+        return told if len(told) == len(make_run.OWN_SHELL) else run.values_with_own_shell(make_run.OWN_SHELL)
 
     def begin_as(self, before):
         """Gives kati make's flags, as a port for other goals had to."""

@@ -74,6 +74,11 @@ class TargetMacro:
         return [kept, *(f"{name} = {' '.join(reach)}" for name, reach in lists), f"{macro} = $({before}){text}"]
 
 
+def asked_of(one):
+    """The texts by which make is asked for the targets of such a line, and for the kind of its macro."""
+    return one.targets, f"$(flavor {one.macro})"
+
+
 def value_in(text):
     """The value in such a line."""
     found = statements.Rule(text).specific
@@ -144,6 +149,11 @@ class TargetMacros(Mender):
         live = sorted((one for one in self.all if one.names), key=lambda one: (one.first, one.order))
         return [text for one in live for text in one.tail(self.flavors.get(one.macro))]
 
+    def texts(self):
+        """What `settle` asks for."""
+        found = [TargetMacro(line, 0) for line in self.port.lines() if line.kind is Kind.TARGET_ASSIGNMENT]
+        return [text for one in found for text in asked_of(one)]
+
     def settle(self, translation):
         """Says what each macro holds for by the graph that kati wrote; answers whether that changes the makefile."""
         if self.is_settled or not self.all:
@@ -151,7 +161,7 @@ class TargetMacros(Mender):
         self.is_settled = True
         graph = Graph(translation)
         lines = sorted([*self.all, *self.overrides], key=lambda one: one.order)
-        told = self.port.run.values([text for one in lines for text in (one.targets, f"$(flavor {one.macro})")])
+        told = self.port.run.values([text for one in lines for text in asked_of(one)])
         overridden = set()
         for one, targets, flavor in zip(lines, told[::2], told[1::2]):
             self.flavors[one.macro] = flavor

@@ -181,6 +181,11 @@ def mend(port, fault):
     return any(line is fault.line for line in port.written_out.lines)
 
 
+def mend_functions(port, fault):
+    """E16: the same; where it could not, freezes what the line may come to though make evaluated nothing there."""
+    return mend(port, fault) or mending.far_function(port, fault)
+
+
 def evaluated_values(port, fault):
     """E32: writes out what gives macros a value that evaluates itself, as `lazy = $(eval $1 = $$(eval $1 := ..)$$($1))`
     in `$(call lazy,X)`; answers whether it could."""
