@@ -1,13 +1,16 @@
 """What a port costs: runs of kati and of make don't grow with the number of faults that don't hang on each other."""
 import os
+import random
+import shlex
 import subprocess
 import types
 import unittest
+from unittest import mock
 
 from support import Tree, kati, needs
 
-from kati_tools.make import running
-from kati_tools.port import frozen_values
+from kati_tools.make import make_run, recipe_shell, running, shell_text
+from kati_tools.port import command_reads, freezing, frozen_values
 
 # Of each construct: lines of a makefile, and what its recipe has of them; ~ stands for a number.
 CONSTRUCTS = (
@@ -139,6 +142,46 @@ class Waiting(unittest.TestCase):
         self.assertEqual(running.status_of(["sh", "-c", "exit 3"], 60), 3)
         with self.assertRaises(subprocess.TimeoutExpired):
             running.status_of(["sleep", "60"], 0.01)
+
+
+class Quick(unittest.TestCase):
+    """What is told apart quickly, or once, in texts that are large."""
+
+    def test_the_words_of_a_shell_are_those_of_shlex(self):
+        def slow(text):
+            reader = shlex.shlex(text, posix=True, punctuation_chars=True)
+            reader.whitespace_split, reader.commenters = True, ""
+            try:
+                return list(reader)
+            except ValueError:
+                return None
+
+        made, letters = random.Random(1), ["a", "-b", " ", "\t", "\n", "'", '"',
+                                          "\\", ";", "&&", "|", "(", ")", ">", "$", "#"]
+        for _ in range(5000):
+            text = "".join(made.choice(letters) for _ in range(made.randrange(12)))
+            self.assertEqual(shell_text.shell_words(text), slow(text), text)
+
+    def test_answers(self):
+        out = ("cc a\n@@kati:0 a b:kati@@\n@@kati:12 1\n2:kati@@\nx @@kati:0 :kati@@\n"
+               "@@kati:x y:kati@@\n@@kati:3 open\n")
+        self.assertEqual(make_run.answered(out), {0: ["a b", ""], 12: ["1\n2"]})
+
+    def test_a_database_is_looked_at_where_it_names_the_shell(self):
+        others = "A = 1\n\tcc -c a.c\n# a comment\n" * 1000
+        database = f"# variables\n{others}# (from 'm', line 3)\nSHELL = /bin/sh\n"
+        with mock.patch.object(recipe_shell, "fault_in", wraps=recipe_shell.fault_in) as looks:
+            self.assertEqual(recipe_shell.first_fault(database, "m", "/room"), "m:3: override of SHELL")
+        self.assertEqual(looks.call_count, 1)
+
+    def test_a_command_of_many_calls_is_looked_at_once(self):
+        probes = types.SimpleNamespace(asked=[{}, {}, {}, {}])
+        probes.asked_behind = lambda call, numbers: {"cat a b": None} if numbers is probes.asked[1] else {}
+        port = types.SimpleNamespace(probes=probes, copy=types.SimpleNamespace(real_text=str))
+        freezer = freezing.Freezer(port)
+        with mock.patch.object(command_reads, "reads_of", return_value=["a", "b"]) as reads:
+            self.assertEqual([freezer.watched_by_calls([one]) for one in range(50)], [["a", "b"]] * 50)
+        self.assertEqual(reads.call_count, 1)
 
 
 class Compared(str):

@@ -31,7 +31,7 @@ def escaped_value(text):
 
 def plain(text):
     """What Ninja reads of an escaped text."""
-    return re.sub(r"\$(.)", r"\1", text)
+    return re.sub(r"\$(.)", r"\1", text) if "$" in text else text
 
 
 def names(text):

@@ -232,17 +232,16 @@ class InPlace:
     def files(self, is_above=False):
         """The names of the files in this folder; also of those beside and above it, where something lies over them."""
         tops = self.covered if is_above else [self.top]
-        return {os.path.relpath(os.path.join(at, name), self.top) for top in tops
-                for at, _, names in walked_folders(top) for name in names}
+        return {name for top in tops for name in scratch_copy.names_of(walked_folders(top), self.top)}
 
     def times(self):
         """When the files in this folder were written, by their names."""
-        return {name: os.lstat(name).st_mtime_ns for name in self.files() if os.path.lexists(name)}
+        return scratch_copy.times_of(self.files())
 
     def times_above(self):
         """When the files were written that stand above or beside this folder, in what lies over it, by their names."""
         paths = [path for path, _ in self.written() if not is_below(path, self.real) and os.path.lexists(path)]
-        return {os.path.relpath(path, self.top): os.lstat(path).st_mtime_ns for path in paths}
+        return scratch_copy.times_of(os.path.relpath(path, self.top) for path in paths)
 
     def present(self):
         """The paths of the files and folders that stand in what lies over these, and not below it."""

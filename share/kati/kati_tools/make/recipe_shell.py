@@ -69,9 +69,10 @@ def first_fault(database, makefile, room):
     None where none is."""
     place, is_body = None, False
     for line in database.split("\n"):
-        found = PLACE.fullmatch(line)
-        place = found or (None if line.startswith("# ") and "=" not in line else place)
-        words = fault_in(line, room, is_body)
+        if line[:1] == "#":
+            place = PLACE.fullmatch(line) or (None if line.startswith("# ") and "=" not in line else place)
+        # What has no such name is most of a database, and is told apart in a tenth of the time.
+        words = fault_in(line, room, is_body) if "SHELL" in line else None
         if words:
             return f"{place_of(place, makefile)}: {words}"
         is_body = line.startswith("define ") or is_body and line != "endef"

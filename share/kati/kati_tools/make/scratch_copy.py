@@ -59,6 +59,22 @@ def is_small(folder):
     return True
 
 
+def names_of(walked, top):
+    """The names of the files that os.walk tells, as seen from a folder."""
+    for at, _, names in walked:
+        before = os.path.relpath(at, top)
+        yield from names if before == os.curdir else (f"{before}/{name}" for name in names)
+
+
+def times_of(names):
+    """When the files of these names were written, of those that are there."""
+    found = {}
+    for name in names:
+        with contextlib.suppress(FileNotFoundError, NotADirectoryError):
+            found[name] = os.lstat(name).st_mtime_ns
+    return found
+
+
 class Copy:
     """The copy of this folder in which make is asked, since it can't be in place, as `why` says; `texts` are those of
     the makefiles.
@@ -165,19 +181,16 @@ class Copy:
 
     def files(self, is_above=False):
         """The names of the files that stand in the copy now; also of those above it, where it has any."""
-        found = set()
-        for at, _, names in os.walk(self.base if is_above else self.top):
-            found.update(os.path.relpath(os.path.join(at, name), self.top) for name in names)
-        return found
+        return set(names_of(os.walk(self.base if is_above else self.top), self.top))
 
     def times(self):
         """When the files in the copy were written, by their names."""
-        return {name: os.lstat(name).st_mtime_ns for name in self.files() if os.path.lexists(name)}
+        return times_of(self.files())
 
     def times_above(self):
         """When the files above and beside the copy were written that stand in it, by their names."""
         names = self.files(is_above=True) - self.files() if self.levels else ()
-        return {name: os.lstat(name).st_mtime_ns for name in names if os.path.lexists(name)}
+        return times_of(names)
 
     def present(self):
         """The paths of the files and folders that stand in the copy."""

@@ -3,6 +3,7 @@
 make hands a backslash and its newline to the shell, which drops them but for two places: within single quotes both are
 text, and in a comment the newline ends the comment, whatever stands before it. kati drops them everywhere. Where that
 counts, kati gets another command (port/mending_shell.py): what was quoted is printed by the shell."""
+import functools
 import re
 
 # What kati gets for a quoted text of several lines.
@@ -10,7 +11,8 @@ PRINTED = re.compile(r""""\$\(printf %b '([^']*)'\)\"""")
 PRINTED_PART = re.compile(r"\\(?:0([0-7]{3})|(.))", re.DOTALL)
 CONTINUATION = "\\\n"
 SPECIAL = re.compile(r"[\\'\"#`\n]")
-PLAIN = re.compile(r"""[^\\'"#\s()$`;&|<>]+""")
+PLAIN = re.compile(r"""[^\\'"#\s()$`;&|<>]+(?: [^\\'"#\s()$`;&|<>]+)*""")
+PLAIN_IN_QUOTES = re.compile(r"""[^"\\$]+""")
 BLANKS = re.compile(r"[ \t]+")
 # What begins a word, so that a `#` behind it begins a comment.
 BEFORE_WORD = frozenset(" \t\n;&|()<>")
@@ -151,7 +153,8 @@ class Reading:
                 self.keep(self.take(2))
                 self.code(")")
             else:
-                self.keep_quoted(self.take(1))
+                plain = PLAIN_IN_QUOTES.match(self.text, self.at)
+                self.keep_quoted(self.take(len(plain.group()) if plain else 1))
 
     def backquoted(self):
         """Reads commands within backquotes, which are kept as they are."""
@@ -177,6 +180,8 @@ def joined(text):
     return read(text) if CONTINUATION in text else text
 
 
+# Commands are compared several times.
+@functools.lru_cache(1 << 16)
 def with_single_blanks(text):
     """A command in which each run of blanks that isn't quoted is one blank, and none before a semicolon: the shell
     reads the same words."""

@@ -134,9 +134,14 @@ class Reference:
 
 def forest(text):
     """The references of a text that stand in no other one, with those in them."""
+    return read_forest(text) if "$" in text else ()
+
+
+# The same line is asked of by many.
+@functools.lru_cache(1 << 16)
+def read_forest(text):
+    """The same for a text that has a dollar."""
     found = []
-    if "$" not in text:
-        return found
     outer, ends, at = [], ends_of_brackets(text), text.find("$")
     while 0 <= at < len(text) - 1:
         while outer and outer[-1].end <= at:
@@ -152,7 +157,7 @@ def forest(text):
             (outer[-1].inner if outer else found).append(one)
             outer.append(one)
         at = text.find("$", at + 2)
-    return found
+    return tuple(found)
 
 
 def references(text):
@@ -180,7 +185,13 @@ def doubled(text):
 
 def names_in(text):
     """The macros that a text refers to or asks of, by their names as far as these are written out."""
-    return list(filter(None, (one.named() for one in references(text))))
+    return read_names(text) if "$" in text else ()
+
+
+@functools.lru_cache(1 << 16)
+def read_names(text):
+    """The same for a text that has a dollar."""
+    return tuple(filter(None, (one.named() for one in references(text))))
 
 
 def names_for_the_shell(text):

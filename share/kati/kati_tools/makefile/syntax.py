@@ -4,6 +4,7 @@ It is read once, from the first line to the last, and nothing is expanded. So it
 where a line's kind hangs on that, as that of a line behind a tab after a rule in a branch, the line says so.
 What a line says is told by `statements.py`, and what it refers to by `references.py`."""
 import enum
+import functools
 import re
 from typing import NamedTuple, Optional
 
@@ -113,6 +114,8 @@ LOOKS = {**dict.fromkeys(("define", "undefine", *statements.MODIFIERS), DEFINITI
          **dict.fromkeys(statements.INCLUDES, ((Kind.INCLUDE, statements.include),))}
 
 
+# A makefile is read several times in a port, and what a line says isn't changed.
+@functools.lru_cache(1 << 16)
 def statement(line):
     """The kind of a line, given as its joined text, that is no recipe and no body of a `define`, and what it says."""
     text = without_comment(line)

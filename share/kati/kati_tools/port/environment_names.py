@@ -27,21 +27,22 @@ def of_the_usual_rules():
     return {name for text in texts for name in named_in(text) if not name.startswith("KATI_")}
 
 
+@functools.lru_cache(1 << 16)
 def named_in(text):
     """The macros that references of a text mean or ask of."""
     found = (one for one in references.references(text) if one.function in (None, *references.ASK_OF_A_MACRO))
-    return {one.named() for one in found} - {None}
+    return frozenset(one.named() for one in found) - {None}
 
 
 def referred_by(line):
     """The names to which a line of a makefile refers: by references, in conditions, and where it keeps a value."""
-    found = named_in(line.text)
-    words = line.joined.split()
+    found = named_in(line.text) if "$" in line.text else frozenset()
+    words = line.joined.split(None, 3)
     words = words[1:] if words[:1] == ["else"] else words
     if words and words[0] in DEFINED:
-        found.update(words[1:2])
+        found = found.union(words[1:2])
     name, operator = assigned_by(line)
-    return found | ({name} if operator in KEEPING else set())
+    return found | {name} if operator in KEEPING else found
 
 
 def assigned_by(line):
@@ -60,7 +61,7 @@ class Conditions:
 
     def come_by(self, line):
         """Takes in a line that begins or ends a branch."""
-        words = [] if line.is_tab or line.is_body else line.joined.split()
+        words = [] if line.is_tab or line.is_body else line.joined.split(None, 2)
         if words and words[0] in BEGINNING:
             is_of_programs = words[1:2] == ["MAKE_VERSION"]
             self.open.append((not is_of_programs, is_of_programs and words[0] == "ifndef"))

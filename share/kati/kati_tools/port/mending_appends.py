@@ -1,6 +1,6 @@
 """`+=` to an empty value, or of an empty one: kati puts a blank there, and make doesn't, which counts within quotes and
 in the environment."""
-from ..make import command_lists, make_run, shell_reading
+from ..make import command_lists, make_run
 from ..makefile import after_references, ported_text, statements, syntax
 from . import mending_exports, port_report, saving
 from .mender import Mender
@@ -66,10 +66,11 @@ class Appends(Mender):
 
     def is_other(self, translation):
         """Whether kati's commands aren't make's, or their environment isn't."""
-        katis = map(shell_reading.with_single_blanks, port_report.commands_of(translation.statements))
-        makes = map(shell_reading.with_single_blanks, self.port.first.commands[1])
+        katis = port_report.commands_of(translation.statements)
         exports = self.port.mender(mending_exports.Exports)
-        return bool(command_lists.alone(makes, katis)) or bool(exports.handed_otherwise(translation)) \
+        if command_lists.Compared(self.port.first.commands[1], [], katis).makes:
+            return True
+        return bool(exports.handed_otherwise(translation)) \
             or bool(exports.handed and exports.of_targets) and any(exports.differences(translation))
 
     def asked(self, lines):

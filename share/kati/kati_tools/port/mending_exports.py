@@ -184,7 +184,7 @@ def commands_of(translation):
 def keep_shell(port):
     """Gives references to SHELL the shell alone."""
     heads = [line for file in port.ported.values() for line in shared_includes.heads(file)]
-    for line in [line for line in port.lines() if line not in heads]:
+    for line in [line for line in port.lines() if "SHELL" in line.text and line not in heads]:
         for found in references.references(line.text[:line.expanded_length()]):
             is_meant = found.name == "SHELL" and found.substitution is None
             if not is_meant or any(start <= found.start < end for start, end in line.edits):

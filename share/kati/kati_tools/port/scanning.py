@@ -1,5 +1,6 @@
 """Everything in a makefile and its literal includes that kati refuses, or that means something else, found without
 expansion."""
+import copy
 import os
 
 from ..base import files
@@ -189,7 +190,8 @@ class Scan:
 
     def rule(self, line):
         """A rule line."""
-        rule = line.says
+        # It gets what is found of it here.
+        rule = line.says = copy.copy(line.says)
         rule.file, rule.number = self.file, line.number
         rule.has_recipe, rule.has_commands = rule.recipe is not None, bool((rule.recipe or "").strip())
         self.expanded(line, rule.text[:rule.end])
