@@ -6,6 +6,4 @@ pub returns-in-None : goal.returns-in-None
 returns-in-None c = no_dots c.args.name.now c.in-None.ensures.cases
 
 pub returns-in-Some : goal.returns-in-Some
-returns-in-Some c =
-    let cut = c.in-Some.ensures.cases in
-    (past_slashes c.args.name.now c.in-Some.after.now c.leading_slashes.result cut.0 cut.1 c.leading_slashes.ensures.value, grind (arith, length-take, length-drop))
+returns-in-Some c = grind (arith, past_slashes, length-take, length-drop)

@@ -1,18 +1,14 @@
-use Rattle.std.proofs.Common.{sym, ◌∙◌}
+use Rattle.std.proofs.Common.{arith, sym, ◌∙◌}
 use Rattle.kt_rules.proofs.ReadingLemmas.{told_fault, blank_rule, head_fault, line_tested}
 use Rattle.kt_rules.proofs.SignLemmas.{signs_tell}
 use Rattle.kt_rules.specs.RuleLine.{head_view}
 use Rattle.kt_rules.proofs.reading.read_rule.Goals as goal
 
 pub returns-then-is_blank : goal.returns-then-is_blank
-returns-then-is_blank c =
-    blank_rule c.args.text.now c.args.recipe c.args.place c.empty.result _
-    (sym c.is_blank.ensures ∙ c.if-is_blank.true) c.empty.ensures c.in_ok-entry.ensures
+returns-then-is_blank c = grind (arith, blank_rule)
 
 pub returns-in-Err : goal.returns-in-Err
-returns-in-Err c =
-    told_fault c.at.result _ _ c.at.ensures
-    (head_fault c.args.text.now c.args.recipe c.args.place _ (sym c.is_blank.ensures ∙ c.if-is_blank.false) c.in-Err.ensures)
+returns-in-Err c = grind (arith, told_fault, head_fault)
 
 pub accepted-requires : goal.accepted-requires
 accepted-requires c =

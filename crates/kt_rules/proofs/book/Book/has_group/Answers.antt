@@ -1,5 +1,5 @@
-use Rattle.std.proofs.Common.{◌∙◌, ◌||◌, Some, ap, false, subst, sym, ◌≡◌}
-use Rattle.kt_rules.proofs.Common.{Kind, All, Rule, is_group, first_found, rule_view}
+use Rattle.std.proofs.Common.{arith, ◌∙◌, ◌||◌, Some, ap}
+use Rattle.kt_rules.proofs.Common.{Kind, is_group, first_found, rule_view}
 use Rattle.kt_rules.proofs.GoalLemmas.{group_by_first, none_beside}
 use Rattle.kt_rules.proofs.book.Book.has_group.Goals as goal
 
@@ -14,7 +14,4 @@ returns-in-Some c =
     (c.in-Some.ensures ∙ ap (first_found rules.1) c.spots_of.ensures)
 
 pub returns-then-not-may_have_group : goal.returns-then-not-may_have_group
-returns-then-not-may_have_group c =
-    let own = sym (ap is_group c.kind-kind.ensures) ∙ sym c.is_group.ensures ∙ c.if-not-is_group.true in
-    let none = subst (All (λ (rule : Rule). is_group rule.kind ≡ false)) c.self.view_is (c.may_have_group.ensures c.if-not-may_have_group.true) in
-    sym (none_beside c.args.self.now c.args.entry.now c.args.name.now own none)
+returns-then-not-may_have_group c = grind (arith, none_beside)

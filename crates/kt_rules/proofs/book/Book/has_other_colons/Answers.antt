@@ -1,5 +1,5 @@
-use Rattle.std.proofs.Common.{◌∙◌, Some, ap, false, subst, sym, ◌≡◌}
-use Rattle.kt_rules.proofs.Common.{Kind, All, Rule, is_double, xor, first_found, rule_view}
+use Rattle.std.proofs.Common.{arith, ◌∙◌, Some, ap}
+use Rattle.kt_rules.proofs.Common.{Kind, is_double, xor, first_found, rule_view}
 use Rattle.kt_rules.proofs.GoalLemmas.{colons_by_first, none_differs}
 use Rattle.kt_rules.proofs.book.Book.has_other_colons.Goals as goal
 
@@ -14,7 +14,4 @@ returns-in-Some c =
     (c.in-Some.ensures ∙ ap (first_found rules.1) c.spots_of.ensures)
 
 pub returns-then-not-may_have_double : goal.returns-then-not-may_have_double
-returns-then-not-may_have_double c =
-    let own = sym (ap is_double c.kind-kind.ensures) ∙ sym c.is_double.ensures ∙ c.if-not-is_double.true in
-    let none = subst (All (λ (rule : Rule). is_double rule.kind ≡ false)) c.self.view_is (c.may_have_double.ensures c.if-not-may_have_double.true) in
-    sym (none_differs c.args.self.now c.args.entry.now c.args.name.now own none)
+returns-then-not-may_have_double c = grind (arith, none_differs)

@@ -1,5 +1,4 @@
-use Rattle.std.proofs.Common.{◌≡◌, ◌∙◌, ◌++◌, ◌∷◌, [], List, Some, ap, slice_get}
-use Rattle.kt_rules.proofs.Common.{Rule}
+use Rattle.std.proofs.Common.{arith, ◌≡◌, ◌∙◌, Some, slice_get}
 use Rattle.kt_rules.proofs.BookLemmas.{holds_back, holds_grown, holds_learned, pushed_rule, rules_back}
 use Rattle.kt_rules.proofs.book.Book.learn.Goals as goal
 
@@ -25,8 +24,7 @@ invariant_of-self-in-Ok c =
     learned.targets_within learned.recipes_within
 
 pub returns-in-Ok-clause-grown : goal.returns-in-Ok-clause-grown
-returns-in-Ok-clause-grown c =
-    c.in_ok-push.ensures.pushed ∙ ap (λ (rules : List Rule). rules ++ c.args.entry ∷ []) c.self.view_is
+returns-in-Ok-clause-grown c = grind arith
 
 pub invariant_of-self-in-Err : goal.invariant_of-self-in-Err
 invariant_of-self-in-Err c =

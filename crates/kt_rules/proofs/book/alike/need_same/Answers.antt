@@ -1,4 +1,4 @@
-use Rattle.std.proofs.Common.{rules}
+use Rattle.std.proofs.Common.{arith, rules}
 use Rattle.kt_rules.proofs.AlikeLemmas.{alike_more, alike_none}
 use Rattle.kt_rules.proofs.book.alike.need_same.Goals as goal
 
@@ -8,5 +8,4 @@ loop-spot-preserved c = λ rest.
     c.in-Some.after.now c.in-Some-split_first.others_after.now (search rules) (search rules) (c.are_alike.ensures c.if-are_alike.true) rest)
 
 pub returns : goal.returns
-returns c = λ none.
-    c.loop-spot.invariant (alike_none c.args.rules.now.1 c.loop-spot.left.now c.loop-spot.others_left.now (search rules) (search rules))
+returns c = grind (arith, alike_none)

@@ -1,4 +1,4 @@
-use Rattle.std.proofs.Common.{◌≡◌, ◌∙◌, ◌&&◌, ◌++◌, ◌∷◌, if◌then◌else◌, ℕ, nat_eq, List, [], Some, Bool, true, not, is_some, slice_get, get_or, sym, ap}
+use Rattle.std.proofs.Common.{arith, ◌≡◌, ◌∙◌, ◌&&◌, ◌++◌, ◌∷◌, if◌then◌else◌, ℕ, nat_eq, List, [], Some, Bool, true, not, is_some, slice_get, get_or, sym, ap}
 use Rattle.kt_rules.proofs.Common.{Bor, slice_get-get_or, on_err_weaker, on_ok_weaker, is_some-map, Text, Kind, RecipeLine, is_made, is_pattern, is_special, entry_view, numbered_target}
 use Rattle.kt_rules.specs.inner.Lists.{list_at}
 use Rattle.kt_rules.proofs.NoteLemmas.{grew_at_names, target_noted}
@@ -41,9 +41,7 @@ returns-clause-recipes_noted c =
     c.note.ensures.recipes_noted
 
 pub returns-clause-targets_refused : goal.returns-clause-targets_refused
-returns-clause-targets_refused c =
-    on_err_weaker c.note.result (grew_at_names c.args.rule.names.now c.args.spot.entry c.args.spots.now.targets c.note.new.self.targets) c.note.ensures.targets_refused
+returns-clause-targets_refused c = grind (arith, on_err_weaker, grew_at_names)
 
 pub returns-clause-recipes_refused : goal.returns-clause-recipes_refused
-returns-clause-recipes_refused c =
-    on_err_weaker c.note.result (grew_at_names c.args.rule.names.now c.args.spot.entry c.args.spots.now.recipes c.note.new.self.recipes) c.note.ensures.recipes_refused
+returns-clause-recipes_refused c = grind (arith, on_err_weaker, grew_at_names)

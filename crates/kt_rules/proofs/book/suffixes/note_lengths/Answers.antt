@@ -1,4 +1,4 @@
-use Rattle.std.proofs.Common.{◌∙◌, ◌+◌, ◌≤◌, ap, sym, subst, drop, length, arith}
+use Rattle.std.proofs.Common.{◌∙◌, ◌+◌, ap, sym, subst, drop, length, arith}
 use Rattle.kt_rules.proofs.Common.{Text, KeepLengths, lengths_with, with_number}
 use Rattle.kt_rules.proofs.SuffixLemmas.{length_kept, lengths_at, lengths_end}
 use Rattle.kt_rules.proofs.book.suffixes.note_lengths.Goals as goal
@@ -16,6 +16,4 @@ loop-name-preserved c =
     }
 
 pub returns-clause-noted : goal.returns-clause-noted
-returns-clause-noted c =
-    let all : length c.args.names.now ≤ c.loop-name.name-index = omega arith in
-    sym (lengths_end c.loop-name.lengths.keys c.args.names.now c.loop-name.name-index all) ∙ c.loop-name.invariant.left
+returns-clause-noted c = grind (arith, length, lengths_end)

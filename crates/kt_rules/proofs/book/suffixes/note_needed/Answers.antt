@@ -1,4 +1,4 @@
-use Rattle.std.proofs.Common.{◌∙◌, ap, sym, subst, length}
+use Rattle.std.proofs.Common.{arith, ◌∙◌, ap, sym, subst, length}
 use Rattle.kt_rules.proofs.Common.{Text, KeepLengths, with_number, needed_view, names_view}
 use Rattle.kt_rules.proofs.SuffixLemmas.{length_kept, lengths_left, lengths_none}
 use Rattle.kt_rules.proofs.book.suffixes.note_needed.Goals as goal
@@ -28,5 +28,4 @@ loop-name-preserved c =
     }
 
 pub returns-clause-noted : goal.returns-clause-noted
-returns-clause-noted c =
-    sym (lengths_none c.loop-name.lengths.keys (names_view c.loop-name.name-iterator) c.in-None.ensures.steps.0) ∙ c.loop-name.invariant.left
+returns-clause-noted c = grind (arith, lengths_none)

@@ -1,4 +1,4 @@
-use Rattle.std.proofs.Common.{◌≡◌, ◌∙◌, ◌∷◌, ◌+◌, ◌≤◌, ◌||◌, [], List, drop, refl, ap, subst}
+use Rattle.std.proofs.Common.{arith, ◌≡◌, ◌∙◌, ◌∷◌, ◌+◌, ◌||◌, List, drop, ap, subst}
 use Rattle.kt_rules.proofs.Common.{flat_map, drop_all, Text, Rule, is_among, entry_view}
 use Rattle.kt_rules.specs.Known.{named_by}
 use Rattle.kt_rules.specs.inner.Marks.{is_marked}
@@ -8,13 +8,7 @@ use Rattle.kt_rules.proofs.book.book_names.BookNames.of.Goals.{in-Some+in_ok-mar
 use Rattle.kt_rules.proofs.book.book_names.BookNames.of.Goals as goal
 
 pub loop-place-init : goal.loop-place-init
-loop-place-init c =
-    let named = flat_map (named_by c.args.suffixes.now) in
-    let all = named c.args.rules.now.1 in
-    record {
-      marked = marked_start c.args.rules.now.0 all all c.in_ok-marks.marks refl;
-      many = c.in_ok-marks.ensures.many ∙ c.name_count.ensures;
-    }
+loop-place-init c = grind (arith, marked_start)
 
 pub loop-place-preserved : goal.loop-place-preserved
 loop-place-preserved c =
@@ -46,12 +40,4 @@ loop-place-preserved c =
     ]
 
 pub invariant_of-result : goal.invariant_of-result
-invariant_of-result c =
-    let names = c.args.rules.now.0 in
-    let rules = c.args.rules.now.1 in
-    let named = flat_map (named_by c.args.suffixes.now) in
-    let none : drop c.loop-place.place rules ≡ [] = drop_all c.loop-place.place rules (subst (λ n. n ≤ c.loop-place.place) c.len-place-end.ensures c.loop-place-test.false) in
-    λ name.
-    marked_end names (named rules) (named (drop c.loop-place.place rules)) c.in_ok-marks.marks c.loop-place.marks
-    (ap (λ (left : List Rule). named left) none) c.loop-place.invariant.marked name
-    ∙ ap (λ b. b || is_among (named rules) name) (c.in_ok-marks.ensures.none names name)
+invariant_of-result c = grind (arith, drop_all, marked_end)

@@ -1,5 +1,5 @@
-use Rattle.std.proofs.Common.{◌≡◌, ◌<◌, Some, true, length, refl, sym, subst}
-use Rattle.kt_rules.proofs.Common.{with_item, slice_get_within, on_ok_weaker, place_of, number_found, Marks, with_name}
+use Rattle.std.proofs.Common.{arith, ◌≡◌, ◌<◌, Some, true, length, refl, sym, subst}
+use Rattle.kt_rules.proofs.Common.{with_item, slice_get_within, on_ok_weaker, place_of, number_found, Marks}
 use Rattle.kt_rules.proofs.MarkLemmas.{number_marked, other_marked}
 use Rattle.kt_rules.proofs.book.book_names.Marks.mark_name.Goals as goal
 
@@ -15,9 +15,4 @@ returns-in-Some-clause-marked c =
     number_marked names old new c.args.name.now number at within refl refl
 
 pub returns-in-None-clause-marked : goal.returns-in-None-clause-marked
-returns-in-None-clause-marked c =
-    let old = c.args.self.now in
-    let new : Marks = record { alloc = old.alloc; numbers = old.numbers; others = c.add.new.self } in
-    on_ok_weaker c.add.result
-    (λ (added : c.add.new.self ≡ with_name old.others c.args.name.now). other_marked c.args.names.now old new c.args.name.now c.in-None.ensures.place refl added)
-    c.add.ensures.added
+returns-in-None-clause-marked c = grind (arith, on_ok_weaker, other_marked)

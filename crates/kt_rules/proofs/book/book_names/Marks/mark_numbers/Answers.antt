@@ -6,11 +6,7 @@ use Rattle.kt_rules.proofs.NoteLemmas.{place_at}
 use Rattle.kt_rules.proofs.book.book_names.Marks.mark_numbers.Goals as goal
 
 pub index_mut-requires : goal.index_mut-requires
-index_mut-requires c =
-    let i = c.loop-number.number-index in
-    let number = get_or c.args.numbers.now i 0 in
-    let at : number < length c.args.names.now = c.requires.below i 0 c.loop-number-test.true in
-    omega (arith, at, c.loop-number.invariant.many, c.requires.count, c.loop-number.self.numbers.ok.0)
+index_mut-requires c = grind (arith, get_or, length)
 
 pub loop-number-preserved : goal.loop-number-preserved
 loop-number-preserved c =

@@ -1,14 +1,9 @@
-use Rattle.std.proofs.Common.{◌∙◌, List, take, ap}
-use Rattle.kt_rules.proofs.Common.{Text, Rule, rules_held}
+use Rattle.std.proofs.Common.{arith, take}
 use Rattle.kt_rules.proofs.HeldLemmas.{first_held, rules_first}
 use Rattle.kt_rules.proofs.book.rules.Rules.truncate.Goals as goal
 
 pub returns-clause-rules : goal.returns-clause-rules
-returns-clause-rules c =
-    let held = c.self.inside in
-    (λ j. rules_held held.dictionary (c.truncate-2.ensures j) (c.truncate.ensures.items j))
-    ∙ rules_first held.dictionary held.lines held.rows.items c.args.len
-    ∙ ap (λ (both : List Text × List Rule). take c.args.len both.1) c.self.view_is
+returns-clause-rules c = grind (arith, rules_first, take)
 
 pub invariant_of-self : goal.invariant_of-self
 invariant_of-self c =
