@@ -1,5 +1,5 @@
 -- The goals of a command line, word by word.
-use Rattle.std.proofs.Common.{◌≡◌, ℕ, List, ◌∷◌, ◌+◌, ◌<◌, length, get_or, drop, fold, map, sym, ap, ◌∙◌}
+use Rattle.std.proofs.Common.{arith, ◌≡◌, ℕ, List, ◌+◌, ◌<◌, length, get_or, drop, fold, map}
 use Rattle.kt_graph.proofs.Common.{drop_more, Text, with_name, without_dots, without_repeats}
 use Rattle.kt_graph.specs.Goals.{named_goals}
 
@@ -12,6 +12,4 @@ goals_open = tt
 pub word_more : (goals more : List Text) (words : List Text) (i : ℕ) (word : Text) → i < length words → word ≡ get_or words i word
     → more ≡ with_name goals (without_dots word)
     → fold with_name more (map without_dots (drop (i + 1) words)) ≡ fold with_name goals (map without_dots (drop i words))
-word_more goals more words i word within is grown =
-    ap (λ names. fold with_name names (map without_dots (drop (i + 1) words))) grown
-    ∙ sym (ap (λ left. fold with_name goals (map without_dots left)) (drop_more words i word within ∙ ap (λ first. first ∷ drop (i + 1) words) (sym is)))
+word_more goals more words i word within is grown = grind (arith, drop_more)

@@ -1,6 +1,6 @@
 -- Marks for the ends of names.
-use Rattle.std.proofs.Common.{◌≡◌, ℕ, zero, suc, ◌+◌, ◌-◌, ◌<◌, ◌≤◌, Bool, true, false, not, ◌&&◌, ◌||◌, if◌then◌else◌, List, [], ◌∷◌, ◌++◌, length, get_or, fold, slice_get, slice_set, Option, Some, None, option_map, unwrap_or, refl, sym, ap, ◌∙◌, subst, arith, ⊎_elim, true≢false, length-append, ◌==◌}
-use Rattle.kt_graph.proofs.Common.{position_or_len, bytes_eq, cases_eq, cases_lt, eqb-true, ltb-false, append_assoc, drop_all, get_or-append-add, get_or_past, bytes_eq-Decides, and_nothing, or_first, or_second, place_of, number_found, Text, has_percent, is_percent, pattern_back, pattern_front, list_any-place, after_dots, is_among, with_name, without_dots, IsFixedEnd, needed_name}
+use Rattle.std.proofs.Common.{◌≡◌, ℕ, zero, suc, ◌+◌, ◌<◌, ◌≤◌, Bool, true, false, not, ◌&&◌, if◌then◌else◌, List, [], ◌∷◌, ◌++◌, length, get_or, fold, slice_get, slice_set, Option, Some, None, option_map, unwrap_or, refl, sym, ap, ◌∙◌, arith, ⊎_elim, true≢false, length-append, ◌==◌}
+use Rattle.kt_graph.proofs.Common.{cases_eq, cases_lt, eqb-true, ltb-false, append_assoc, drop_all, get_or-append-add, get_or_past, bytes_eq-Decides, and_nothing, or_first, or_second, place_of, number_found, Text, has_percent, pattern_back, pattern_front, list_any-place, after_dots, is_among, with_name, without_dots, IsFixedEnd, needed_name}
 use Rattle.kt_rules.proofs.BookLemmas.{among_fold}
 use Rattle.kt_graph.specs.inner.EndMarks.{AreMarked, AreMarkedTo, KeepsEnds, end_place, is_marked, with_end, with_end_of}
 
@@ -32,38 +32,20 @@ ends_kept ends (name ∷ names) text h = ends_kept (with_end ends name) names te
 
 pub ends_marked : (ends : List Bool) (names : List Text) → AreMarked (fold with_end ends names) names
 ends_marked ends [] name h = absurd (true≢false (sym h))
-ends_marked ends (first ∷ names) name h = by (bytes_eq name first) refl (ends_marked (with_end ends first) names name) h
-  where
-    by : (b : Bool) → bytes_eq name first ≡ b → (is_among names name ≡ true → is_marked (fold with_end (with_end ends first) names) name ≡ true)
-        → is_among (first ∷ names) name ≡ true → is_marked (fold with_end (with_end ends first) names) name ≡ true
-    by true e deeper there =
-        ends_kept (with_end ends first) names name
-        (subst (λ text. is_marked (with_end ends first) text ≡ true) (sym ((bytes_eq-Decides name first).0 e)) (end_itself ends first))
-    by false e deeper there = deeper (sym (ap (λ c. c || is_among names name) e) ∙ there)
+ends_marked ends (first ∷ names) name h = grind (arith, ends_kept, bytes_eq-Decides, end_itself, ends_marked (with_end ends first) names name)
 
 -- ---- names that are chosen by their numbers
 
 pub chosen_kept : (old now new : List Bool) (found : Option Text) (b : Bool) → KeepsEnds old now
     → new ≡ (if b then with_end_of now found else now) → KeepsEnds old new
-chosen_kept old now new found false before is text h = rw is (before text h)
-chosen_kept old now new None true before is text h = rw is (before text h)
-chosen_kept old now new (Some name) true before is text h = rw is (end_kept now name text (before text h))
+chosen_kept old now new found b before is text h = grind (arith, end_kept)
 
 one_kept : (now new : List Bool) (found : Option Text) (b : Bool) → new ≡ (if b then with_end_of now found else now) → KeepsEnds now new
 one_kept now new found b is = chosen_kept now now new found b (λ text h. h) is
 
 pub chosen_marked : (now new : List Bool) (names : List Text) (chosen : List Bool) (i : ℕ) (b : Bool) → b ≡ get_or chosen i false
     → new ≡ (if b then with_end_of now (slice_get names i) else now) → AreMarkedTo i now names chosen → AreMarkedTo (i + 1) new names chosen
-chosen_marked now new names chosen i b at is before number name below found picked = ⊎_elim
-    (λ (same : number ≡ i).
-    let yes : b ≡ true = at ∙ ap (λ n. get_or chosen n false) (sym same) ∙ picked in
-    let here : slice_get names i ≡ Some name = sym (ap (slice_get names) same) ∙ found in
-    let more : new ≡ with_end now name
-    = is ∙ ap (λ c. if c then with_end_of now (slice_get names i) else now) yes ∙ ap (with_end_of now) here in
-    rw more (end_itself now name))
-    (λ (differ : number ≡ i → ⊥). one_kept now new (slice_get names i) b is name
-    (before number name (⊎_elim (λ (less : number < i). less) (λ (past : i ≤ number). absurd (differ (omega arith))) (cases_lt number i)) found picked))
-    (cases_eq number i)
+chosen_marked now new names chosen i b at is before number name below found picked = grind (arith, ⊎_elim, get_or, end_itself, one_kept, cases_lt, cases_eq)
 
 -- the names of a book, as their marks and the others tell them
 pub book_marked : (now new : List Bool) (known names others : List Text) (chosen : List Bool)
@@ -88,32 +70,16 @@ book_marked now new known names others chosen told marked is name h = by (place_
 -- the names of a list and a book
 pub both_marked : (ends now new : List Bool) (listed list book : List Text) → list ≡ fold with_name [] listed → now ≡ fold with_end ends listed
     → KeepsEnds now new → AreMarked new book → AreMarked new (fold with_name list book)
-both_marked ends now new listed list book are is kept marked name h = by (is_among listed name) refl
-  where
-    either : (is_among listed name || is_among book name) ≡ true
-    either = ap (λ c. c || is_among book name) (sym (among_fold [] listed name) ∙ ap (λ (names : List Text). is_among names name) (sym are))
-        ∙ sym (among_fold list book name) ∙ h
-
-    by : (b : Bool) → is_among listed name ≡ b → is_marked new name ≡ true
-    by true there = kept name (rw is (ends_marked ends listed name there))
-    by false none = marked name (sym (ap (λ c. c || is_among book name) none) ∙ either)
+both_marked ends now new listed list book are is kept marked name h = grind (arith, among_fold, ends_marked)
 
 -- ---- what ends alike
 
 same_place : (front end : Text) → 2 ≤ length end → end_place (front ++ end) ≡ end_place end
-same_place front end long =
-    let size : length (front ++ end) ≡ length front + length end = length-append front end in
-    let first : length (front ++ end) - 2 ≡ length front + (length end - 2) = omega (arith, size, long) in
-    let last : length (front ++ end) - 1 ≡ length front + (length end - 1) = omega (arith, size, long) in
-    rw (first, last) (rw (get_or-append-add front end (length end - 2) 0, get_or-append-add front end (length end - 1) 0) refl)
+same_place front end long = grind (arith, length, length-append, get_or-append-add)
 
 -- a name is unknown where its end isn't marked
 pub unmarked : (ends : List Bool) (known : List Text) (name : Text) → AreMarked ends known → is_marked ends name ≡ false → is_among known name ≡ false
-unmarked ends known name marked none = by (is_among known name) refl
-  where
-    by : (b : Bool) → is_among known name ≡ b → b ≡ false
-    by false e = refl
-    by true e = absurd (true≢false (sym (marked name e) ∙ none))
+unmarked ends known name marked none = grind (arith, true≢false)
 
 -- ---- ends without a slash
 
@@ -126,8 +92,7 @@ either_end first last true x y h k = h
 either_end first last false x y h k = k
 
 second_end : (first last : ℕ) (c : Bool) (x y : Text) → c ≡ false → HasEnd first last y → HasEnd first last (if c then x else y)
-second_end first last true x y e h = absurd (true≢false e)
-second_end first last false x y e h = h
+second_end first last c x y e h = grind (arith, true≢false)
 
 no_slash : (c : Bool) (byte : ℕ) → (byte == 47) ≡ false → (c && byte == 47) ≡ false
 no_slash c byte plain = ap (λ d. c && d) plain ∙ and_nothing c
@@ -135,9 +100,7 @@ no_slash c byte plain = ap (λ d. c && d) plain ∙ and_nothing c
 dots_end : (first last : ℕ) → (first == 47) ≡ false → (last == 47) ≡ false → (past : Bool) (front : Text)
     → HasEnd first last (after_dots past (front ++ first ∷ last ∷ []))
 unfolding after_dots
-dots_end first last f l past [] =
-    second_end first last (past && first == 47) _ _ (no_slash past first f)
-    (second_end first last (first == 46 && last == 47) _ _ (no_slash (first == 46) last l) ([], refl))
+dots_end first last f l past [] = grind (arith, second_end, no_slash)
 dots_end first last f l past (x ∷ []) =
     either_end first last (past && x == 47) _ _ (dots_end first last f l true [])
     (second_end first last (x == 46 && first == 47) _ _ (no_slash (x == 46) first f) (x ∷ [], refl))
@@ -146,11 +109,7 @@ dots_end first last f l past (x ∷ y ∷ front) =
     (either_end first last (x == 46 && y == 47) _ _ (dots_end first last f l true front) (x ∷ y ∷ front, refl))
 
 not_zero : (n : ℕ) → 0 < n → (n == 0) ≡ false
-not_zero n h = by (n == 0) refl
-  where
-    by : (b : Bool) → (n == 0) ≡ b → b ≡ false
-    by true e = let none : n ≡ 0 = eqb-true n 0 e in absurd (omega (arith, none, h))
-    by false e = refl
+not_zero n h = grind (arith, eqb-true)
 
 dotless_end : (first last : ℕ) → (first == 47) ≡ false → (last == 47) ≡ false → (front : Text)
     → HasEnd first last (without_dots (front ++ first ∷ last ∷ []))
@@ -183,9 +142,7 @@ stemmed_unknown known name (first ∷ last ∷ []) directory stem has fixed none
 -- a name without a percent sign has nothing after it
 no_back : (pattern : Text) → has_percent pattern ≡ false → length (pattern_back pattern) ≡ 0
 unfolding has_percent pattern_back
-no_back pattern none =
-    let past : length pattern ≤ position_or_len is_percent pattern = ltb-false _ _ (sym (list_any-place is_percent pattern) ∙ none) in
-    ap length (drop_all (position_or_len is_percent pattern + 1) pattern (omega (arith, past)))
+no_back pattern none = grind (arith, length, ltb-false, list_any-place, drop_all)
 
 pub unknown_need : (known : List Text) (name end directory stem : Text) → IsFixedEnd (pattern_back name) end
     → ((front : Text) → is_among known (front ++ end) ≡ false) → is_among known (needed_name directory stem name) ≡ false

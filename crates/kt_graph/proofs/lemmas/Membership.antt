@@ -1,5 +1,5 @@
 -- Elements of lists, and tests of all of them or of any.
-use Rattle.std.proofs.Common.{◌≡◌, Bool, true, false, cond, ◌||◌, List, [], ◌∷◌, filter, Option, Some, None, is_some, refl, sym, ap, ◌∙◌, subst, true≢false, ◌⊎◌, inl, inr, ⊎_elim}
+use Rattle.std.proofs.Common.{arith, ◌≡◌, Bool, true, false, cond, ◌||◌, List, [], ◌∷◌, filter, Option, is_some, refl, sym, ap, ◌∙◌, subst, true≢false, ◌⊎◌, inl, inr, ⊎_elim}
 use Rattle.kt_graph.proofs.Common.{Contains, list_all, list_any, find, option_or, and_parts, or_cases, first_or_rest, in_first, in_rest, none_in_empty}
 
 module _ {X : Type 0} where
@@ -33,15 +33,10 @@ module _ {X : Type 0} where
   -- something is found where a test passes one element
   pub found_any : (p : X → Bool) (xs : List X) → is_some (find p xs) ≡ list_any p xs
   found_any p [] = refl
-  found_any p (x ∷ xs) = by (p x) (found_any p xs)
-    where
-      by : (b : Bool) → is_some (find p xs) ≡ list_any p xs → is_some (cond b (Some x) (find p xs)) ≡ (b || list_any p xs)
-      by true rest = refl
-      by false rest = rest
+  found_any p (x ∷ xs) = grind (arith, cond, found_any p xs)
 
   pub some_or : (one other : Option X) → is_some (option_or one other) ≡ (is_some one || is_some other)
-  some_or None other = refl
-  some_or (Some x) other = refl
+  some_or one other = grind arith
 
   -- the elements that a filter keeps
   pub in_filter : (p : X → Bool) (xs : List X) (x : X) → Contains xs x → p x ≡ true → Contains (filter p xs) x

@@ -1,6 +1,6 @@
 -- Counts of edges to vertices, while vertices are removed.
 use Rattle.std.proofs.Common.{◌≡◌, ℕ, zero, suc, ◌+◌, ◌-◌, ◌<◌, ◌≤◌, Bool, true, false, not, ◌&&◌, ⊎_elim, if◌then◌else◌, List, [], ◌∷◌, ◌++◌, length, get_or, set, drop, replicate, flat_map, fold, cond, nat_eq, All, refl, sym, ap, ◌∙◌, subst, arith}
-use Rattle.kt_graph.proofs.Common.{Contains, range_with_len, cases_eq, cases_lt, eqb-true, eq-eqb, true≢false, append_assoc, drop_more, get_or_append_left, get_or-replicate, get_or-set_same, get_or-set_other, get_or_past, length-replicate, length-set, length_push, set_past, flat_map-append, fold-append, get_or-le-sum_by, sum_by-append, sum_by-cons, sum_by-set, Edges, Leads, Reaches, AreCounted, IsLeftIn, LeavesCircular, arrivals_at, is_left, next_of_all, next_of_left, with_arrival, without_arrival, HasNext, LeadsBack, count_of, holds_in, next_of, rows_of, work_with, count_by}
+use Rattle.kt_graph.proofs.Common.{Contains, range_with_len, cases_eq, cases_lt, eqb-true, eq-eqb, true≢false, append_assoc, drop_more, get_or_append_left, get_or-replicate, get_or-set_same, get_or-set_other, get_or_past, length-replicate, length-set, length_push, set_past, flat_map-append, fold-append, get_or-le-sum_by, sum_by-append, sum_by-cons, sum_by-set, Edges, Leads, Reaches, AreCounted, IsLeftIn, LeavesCircular, arrivals_at, is_left, next_of_all, next_of_left, with_arrival, without_arrival, HasNext, LeadsBack, count_of, holds_in, next_of, rows_of, count_by}
 use Rattle.kt_graph.proofs.lemmas.MemberLemmas.{Contains-none}
 use Rattle.kt_graph.proofs.lemmas.faults.CircleLemmas.{Reaches-join, Reaches-step, has_within}
 
@@ -32,17 +32,10 @@ no_fewer : (vertex other : ℕ) (others : List ℕ) → arrivals_at vertex other
 no_fewer vertex other others = let e = arrivals-cons vertex other others in omega arith
 
 one_other : (vertex other : ℕ) → ¬ (vertex ≡ other) → one_if_same vertex other ≡ 0
-one_other vertex other differ = by (nat_eq vertex other) refl
-  where
-    by : (b : Bool) → nat_eq vertex other ≡ b → one_if_same vertex other ≡ 0
-    by true e = absurd (differ (eqb-true vertex other e))
-    by false e = ap (λ (b : Bool). cond b 1 0) e
+one_other vertex other differ = grind (arith, nat_eq, eqb-true, cond)
 
 pub some_arrival : (vertex : ℕ) (others : List ℕ) → Contains others vertex → 1 ≤ arrivals_at vertex others
-some_arrival vertex others has =
-    let least : one_if_same vertex (get_or others has.0 vertex) ≤ arrivals_at vertex others = get_or-le-sum_by (one_if_same vertex) others has.0 vertex has.1 in
-    let here : one_if_same vertex (get_or others has.0 vertex) ≡ 1 = ap (one_if_same vertex) has.2 ∙ one_itself vertex in
-    omega arith
+some_arrival vertex others has = grind (arith, get_or, get_or-le-sum_by, one_itself)
 
 -- ---- where the remaining vertices lead
 
@@ -78,15 +71,10 @@ stays_left [] rows place new e = refl
 stays_left (count ∷ counts) [] zero new e = refl
 stays_left (count ∷ counts) [] (suc place) new e = refl
 stays_left (count ∷ counts) (row ∷ rows) zero new e = ap (λ (b : Bool). (if b then row else []) ++ next_of_left counts rows) e
-stays_left (count ∷ counts) (row ∷ rows) (suc place) new e =
-    ap (λ (xs : List ℕ). (if is_left count then row else []) ++ xs) (stays_left counts rows place new e)
+stays_left (count ∷ counts) (row ∷ rows) (suc place) new e = grind (arith, stays_left counts rows place new e)
 
 pub is_left_more : (count : ℕ) → 0 < count → is_left count ≡ true
-is_left_more count less = by (nat_eq count 0) refl
-  where
-    by : (b : Bool) → nat_eq count 0 ≡ b → is_left count ≡ true
-    by true e = let none = eqb-true count 0 e in absurd (omega (arith, less))
-    by false e = ap not e
+is_left_more count less = grind (arith, nat_eq, eqb-true, not)
 
 -- what a remaining vertex leads to is among these
 left_leads : (counts : List ℕ) (rows : List (List ℕ)) (from to : ℕ) → IsLeftIn counts from → Contains (get_or rows from []) to
@@ -245,25 +233,7 @@ module _ (edges : Edges) (counts work rest : List ℕ) (place : ℕ) (so_far : A
       (cases_lt place (length counts))
 
   pub one_fewer : AreCounted edges (without_arrival (counts, work) place).0 (without_arrival (counts, work) place).1 rest
-  one_fewer = by (nat_eq (get_or counts place 0) 1) refl
-    where
-      many : (n : ℕ) → ¬ (n ≡ 0) → ¬ (n ≡ 1) → 2 ≤ n
-      many zero some differ = absurd (some refl)
-      many (suc zero) some differ = absurd (differ refl)
-      many (suc (suc n)) some differ = omega arith
-
-      by : (b : Bool) → nat_eq (get_or counts place 0) 1 ≡ b → AreCounted edges (set counts place (get_or counts place 0 - 1)) (work_with b work place) rest
-      by true e =
-          let one = eqb-true (get_or counts place 0) 1 e in
-          let zeroth : 0 ≡ get_or counts place 0 - 1 = omega arith in
-          subst (λ n. AreCounted edges (set counts place n) (work ++ place ∷ []) rest) zeroth (gone_one one)
-      by false e = ⊎_elim
-          (λ (none : get_or counts place 0 ≡ 0). none_one none)
-          (λ some. fewer_one (⊎_elim
-          (λ (one : get_or counts place 0 ≡ 1). absurd (true≢false (sym (eq-eqb (get_or counts place 0) 1 one) ∙ e)))
-          (λ differ. many (get_or counts place 0) some differ)
-          (cases_eq (get_or counts place 0) 1)))
-          (cases_eq (get_or counts place 0) 0)
+  one_fewer = grind (arith, nat_eq, get_or, eqb-true, gone_one, ⊎_elim, none_one, fewer_one, true≢false, eq-eqb, cases_eq)
 
 -- several edges
 pub all_fewer : (edges : Edges) (counts work vertices rest : List ℕ) → AreCounted edges counts work (vertices ++ rest)
@@ -303,43 +273,12 @@ after_more edges counts middle new work more last rest vertex next others so_far
 -- as many remain or are in the work list as before
 many_one : (counts work : List ℕ) (vertex : ℕ)
     → count_left (without_arrival (counts, work) vertex).0 + length (without_arrival (counts, work) vertex).1 ≡ count_left counts + length work
-many_one counts work vertex = by (nat_eq (get_or counts vertex 0) 1) refl
-  where
-    alike : (n : ℕ) → nat_eq n 1 ≡ false → is_left (n - 1) ≡ is_left n
-    alike zero e = refl
-    alike (suc zero) e = absurd (true≢false (sym (eq-eqb (suc zero) 1 refl) ∙ e))
-    alike (suc (suc n)) e = is_left_more (suc (suc n) - 1) (omega arith) ∙ sym (is_left_more (suc (suc n)) (omega arith))
-
-    by : (b : Bool) → nat_eq (get_or counts vertex 0) 1 ≡ b
-        → count_left (set counts vertex (get_or counts vertex 0 - 1)) + length (work_with b work vertex) ≡ count_left counts + length work
-    by true e =
-        let one = eqb-true (get_or counts vertex 0) 1 e in
-        let within : vertex < length counts = ⊎_elim (λ (h : vertex < length counts). h)
-        (λ (past : length counts ≤ vertex). let none = get_or_past counts vertex 0 past in absurd (omega arith)) (cases_lt vertex (length counts)) in
-        let long : length (work_with true work vertex) ≡ length work + 1 = length_push work vertex in
-        let all : count_left (set counts vertex (get_or counts vertex 0 - 1)) + one_if (is_left (get_or counts vertex 0))
-        ≡ count_left counts + one_if (is_left (get_or counts vertex 0 - 1)) =
-        sum_by-set (λ n. one_if (is_left n)) counts vertex (get_or counts vertex 0 - 1) 0 within in
-        let was : one_if (is_left (get_or counts vertex 0)) ≡ 1 = ap (λ n. one_if (is_left n)) one in
-        let is : one_if (is_left (get_or counts vertex 0 - 1)) ≡ 0 = ap (λ n. one_if (is_left (n - 1))) one in
-        omega arith
-    by false e = ⊎_elim
-        (λ (within : vertex < length counts).
-        let all : count_left (set counts vertex (get_or counts vertex 0 - 1)) + one_if (is_left (get_or counts vertex 0))
-        ≡ count_left counts + one_if (is_left (get_or counts vertex 0 - 1)) =
-        sum_by-set (λ n. one_if (is_left n)) counts vertex (get_or counts vertex 0 - 1) 0 within in
-        let same : is_left (get_or counts vertex 0 - 1) ≡ is_left (get_or counts vertex 0) = alike (get_or counts vertex 0) e in
-        let both : one_if (is_left (get_or counts vertex 0 - 1)) ≡ one_if (is_left (get_or counts vertex 0)) = ap one_if same in
-        let stays : length (work_with false work vertex) ≡ length work = refl in
-        omega arith)
-        (λ (past : length counts ≤ vertex). ap (λ (cs : List ℕ). count_left cs + length work) (set_past counts vertex (get_or counts vertex 0 - 1) past))
-        (cases_lt vertex (length counts))
+many_one counts work vertex = grind (arith, nat_eq, get_or, true≢false, eq-eqb, is_left_more, length, eqb-true, ⊎_elim, get_or_past, cases_lt, length_push, sum_by-set, set_past)
 
 pub many_all : (counts work vertices : List ℕ)
     → count_left (fold without_arrival (counts, work) vertices).0 + length (fold without_arrival (counts, work) vertices).1 ≡ count_left counts + length work
 many_all counts work [] = refl
-many_all counts work (vertex ∷ vertices) =
-    many_all (without_arrival (counts, work) vertex).0 (without_arrival (counts, work) vertex).1 vertices ∙ many_one counts work vertex
+many_all counts work (vertex ∷ vertices) = grind (arith, many_one, many_all (without_arrival (counts, work) vertex).0 (without_arrival (counts, work) vertex).1 vertices)
 
 pub many_after : (counts work new last vertices : List ℕ) → (new, last) ≡ fold without_arrival (counts, work) vertices
     → count_left new + length last ≡ count_left counts + length work
@@ -436,9 +375,7 @@ begun edges counts is = record { circular = circular; counted = counted }
 pub next_turn : (edges : Edges) (counts : List ℕ) (vertex : ℕ) → vertex < count_of edges
     → AreCounted edges counts [] (range_with_len vertex (count_of edges - vertex))
     → AreCounted edges counts [] (vertex ∷ range_with_len (vertex + 1) (count_of edges - (vertex + 1)))
-next_turn edges counts vertex within so_far =
-    let more : count_of edges - vertex ≡ suc (count_of edges - (vertex + 1)) = omega arith in
-    subst (λ n. AreCounted edges counts [] (range_with_len vertex n)) more so_far
+next_turn edges counts vertex within so_far = grind arith
 
 pub turn_taken : (edges : Edges) (counts new last : List ℕ) (vertex : ℕ) (rest : List ℕ) → AreCounted edges counts [] (vertex ∷ rest)
     → (new, last) ≡ without_arrival (counts, []) vertex → AreCounted edges new last rest
@@ -487,9 +424,4 @@ held_more arrivals departures held new place both so_far is both_is =
 pub arrived : (rows : List (List ℕ)) (place : ℕ) (counts middle new next more : List ℕ) → place < length rows → next ++ more ≡ get_or rows place []
     → middle ≡ fold with_arrival counts next → new ≡ fold with_arrival middle more
     → fold with_arrival new (flat_map (λ row. row) (drop (place + 1) rows)) ≡ fold with_arrival counts (flat_map (λ row. row) (drop place rows))
-arrived rows place counts middle new next more within is first second =
-    let rest : List ℕ = flat_map (λ (row : List ℕ). row) (drop (place + 1) rows) in
-    ap (λ (cs : List ℕ). fold with_arrival cs rest) (second ∙ ap (λ (cs : List ℕ). fold with_arrival cs more) first ∙ sym (fold-append with_arrival counts next more))
-    ∙ sym (fold-append with_arrival counts (next ++ more) rest)
-    ∙ ap (λ (row : List ℕ). fold with_arrival counts (row ++ rest)) is
-    ∙ ap (λ (rs : List (List ℕ)). fold with_arrival counts (flat_map (λ (row : List ℕ). row) rs)) (sym (drop_more rows place [] within))
+arrived rows place counts middle new next more within is first second = grind (arith, fold-append, drop_more)

@@ -1,6 +1,6 @@
 -- Paths through a graph, and those that lead back.
-use Rattle.std.proofs.Common.{◌≡◌, ℕ, Bool, true, false, ◌⊎◌, ⊎_elim, inl, inr, List, [], ◌∷◌, ◌++◌, length, map, get_or, take, drop, All, Vec, Global, ◌+◌, ◌<◌, ◌≤◌, refl, sym, ap, ◌∙◌, subst, arith}
-use Rattle.kt_graph.proofs.Common.{Contains, cases_lt, false≢true, drop_more, get_or_past, length-append, length-map, take-append-drop, Contains-push, Contains-push_cases, Contains-append_left, Edges, Leads, Reaches, IsLeftIn, LeavesCircular, AreReversed, HasNext, HoldsCircular, IsDoneWith, IsFirstBack, LeadsBack, LeadsOn, Searches, Visits, count_of, holds_in, next_of, row_of, rows_held, rows_of}
+use Rattle.std.proofs.Common.{◌≡◌, ℕ, Bool, true, false, ◌⊎◌, ⊎_elim, inl, inr, List, [], ◌∷◌, ◌++◌, length, get_or, take, drop, All, ◌+◌, ◌<◌, refl, sym, ap, ◌∙◌, subst, arith}
+use Rattle.kt_graph.proofs.Common.{Contains, cases_lt, false≢true, drop_more, get_or_past, length-append, length-map, take-append-drop, Contains-push, Contains-push_cases, Contains-append_left, Edges, Leads, Reaches, IsLeftIn, LeavesCircular, AreReversed, HasNext, HoldsCircular, IsDoneWith, IsFirstBack, LeadsBack, LeadsOn, Searches, Visits, count_of, holds_in, next_of, rows_of}
 use Rattle.kt_graph.proofs.lemmas.MemberLemmas.{Contains-none}
 
 -- a path continues
@@ -67,20 +67,10 @@ reversed_twice edges reversed turned from to = ((turned to from).1, (turned to f
 -- ---- the vertices that lead anywhere
 
 pub length-rows : (edges : Edges) → length (rows_of edges) ≡ count_of edges
-length-rows edges =
-    let all = length-append (map (row_of edges.makings.items) edges.nodes.now) (rows_held edges.rows.items) in
-    let first = length-map edges.nodes.now (row_of edges.makings.items) in
-    let second = length-map edges.rows.items (λ (row : Vec ℕ Global). row.items) in
-    omega arith
+length-rows edges = grind (arith, length-append, length-map)
 
 pub has_within : (edges : Edges) (vertex next : ℕ) → HasNext edges vertex next → vertex < count_of edges
-has_within edges vertex next has = ⊎_elim
-    (λ (h : vertex < count_of edges). h)
-    (λ (past : count_of edges ≤ vertex).
-    let long = length-rows edges in
-    let none : next_of edges vertex ≡ [] = get_or_past (rows_of edges) vertex [] (omega arith) in
-    Contains-none next (rw none at has))
-    (cases_lt vertex (count_of edges))
+has_within edges vertex next has = grind (arith, ⊎_elim, length-rows, get_or_past, Contains-none, cases_lt)
 
 -- what remains in both directions has all that leads back to itself
 pub held_in_both : (edges reversed : Edges) (arrivals departures : List ℕ) (held : List Bool) → AreReversed edges reversed → LeavesCircular edges arrivals
@@ -146,10 +136,7 @@ searches_on edges first other held unvisited visited work more so_far differ vis
 
 never_visited : (edges : Edges) (first : ℕ) (held unvisited : List Bool) → HoldsCircular edges held → Searches edges first held unvisited []
     → (vertex : ℕ) (steps : List ℕ) → LeadsOn edges first vertex → Leads (HasNext edges) vertex steps first → holds_in unvisited vertex ≡ false → ⊥
-never_visited edges first held unvisited circular so_far vertex [] on same off = ⊎_elim
-    (λ (h : Contains [] vertex). absurd (omega (arith, h.1)))
-    (λ (h : IsDoneWith edges first unvisited vertex). h.other same)
-    (so_far.done vertex (circular vertex (around edges vertex first [] same on)) off)
+never_visited edges first held unvisited circular so_far vertex [] on same off = grind (arith, ⊎_elim, around)
 never_visited edges first held unvisited circular so_far vertex (step ∷ steps) on way off = ⊎_elim
     (λ (h : Contains [] vertex). absurd (omega (arith, h.1)))
     (λ (h : IsDoneWith edges first unvisited vertex).

@@ -1,6 +1,6 @@
 -- Edges that are added one by one.
-use Rattle.std.proofs.Common.{◌≡◌, ◌↔◌, ℕ, zero, suc, ◌+◌, ◌-◌, ◌<◌, ◌≤◌, ◌⊎◌, ⊎_elim, inl, inr, List, [], ◌∷◌, ◌++◌, map, length, get_or, set, drop, take, Vec, Global, Option, None, Some, slice_get, All, IfSome, refl, sym, ap, ◌∙◌, subst, arith}
-use Rattle.kt_graph.proofs.Common.{Contains, range_with_len, option_to_list, cases_eq, cases_lt, append-nil, drop_more, get_or-map, map-append, map-set, get_or-replicate, get_or-set_same, get_or-set_other, get_or_past, length-replicate, length-set, set_past, take_more, flat_map-append, All-contains, Contains-append_left, Contains-append_right, Contains-append_cases, Contains-push, Contains-push_cases, map-range_with_len_more, fold-append, none-some, same_Some, Edges, StoredNode, stored_at, AreMadeBelow, AreNeededBelow, HaveEdges, IsRepeated, LeadToVertices, HasNext, IsEdge, LeadsTo, bare_rows, count_of, edges_from, edges_to, making_edges, makings_edges, needed_numbers, numbers_after, one_at, row_by, row_of, rows_of, with_edge, with_edges, first_or_rest, in_first, in_rest}
+use Rattle.std.proofs.Common.{◌≡◌, ◌↔◌, ℕ, zero, suc, ◌+◌, ◌-◌, ◌<◌, ◌≤◌, ◌⊎◌, ⊎_elim, inl, inr, List, [], ◌∷◌, ◌++◌, map, length, get_or, set, drop, take, Vec, Global, Option, None, Some, slice_get, refl, sym, ap, ◌∙◌, subst, arith}
+use Rattle.kt_graph.proofs.Common.{Contains, range_with_len, cases_eq, cases_lt, append-nil, drop_more, get_or-map, map-append, map-set, get_or-replicate, get_or-set_same, get_or-set_other, get_or_past, length-replicate, length-set, set_past, take_more, flat_map-append, All-contains, Contains-append_left, Contains-append_right, Contains-append_cases, Contains-push, Contains-push_cases, map-range_with_len_more, fold-append, none-some, same_Some, Edges, StoredNode, stored_at, AreMadeBelow, AreNeededBelow, HaveEdges, IsRepeated, LeadToVertices, HasNext, IsEdge, LeadsTo, bare_rows, count_of, edges_from, edges_to, making_edges, makings_edges, needed_numbers, numbers_after, one_at, row_by, row_of, rows_of, with_edge, with_edges, first_or_rest, in_first, in_rest}
 use Rattle.kt_graph.proofs.lemmas.MemberLemmas.{Contains-none, Contains-map, Contains-from_map, Contains-slice_get}
 
 -- the edges of vertices from a number on, reversed
@@ -50,11 +50,7 @@ one_adds rows from to within =
 pub rows_set : (rows : List (Vec ℕ Global)) (from to : ℕ) (new old : Vec ℕ Global) → from < length rows → old ≡ get_or rows from old
     → new.items ≡ old.items ++ to ∷ []
     → map (λ row. row.items) (set rows from new) ≡ with_edge (map (λ row. row.items) rows) (from, to)
-rows_set rows from to new old within is pushed =
-    map-set (λ (row : Vec ℕ Global). row.items) rows from new
-    ∙ ap (λ (xs : List ℕ). set (map (λ (row : Vec ℕ Global). row.items) rows) from xs)
-    (pushed ∙ ap (λ (xs : List ℕ). xs ++ to ∷ [])
-    (ap (λ (row : Vec ℕ Global). row.items) is ∙ sym (get_or-map (λ (row : Vec ℕ Global). row.items) rows from old [] within)))
+rows_set rows from to new old within is pushed = grind (arith, map-set, get_or-map)
 
 -- ---- several
 
@@ -87,13 +83,7 @@ edges_there (edge ∷ edges) rows from to within has = ⊎_elim
 
 -- among vertices that led nowhere there are just the edges that were added
 bare_none : (count from to : ℕ) → Contains (get_or (bare_rows count) from []) to → ⊥
-bare_none count from to has = ⊎_elim
-    (λ (within : from < count). Contains-none to (subst (λ (xs : List ℕ). Contains xs to) (get_or-replicate {A = List ℕ} count from [] [] within) has))
-    (λ (past : count ≤ from).
-    let long = length-replicate {A = List ℕ} count [] in
-    let past_rows : length (bare_rows count) ≤ from = omega arith in
-    Contains-none to (subst (λ (xs : List ℕ). Contains xs to) (get_or_past (bare_rows count) from [] past_rows) has))
-    (cases_lt from count)
+bare_none count from to has = grind (arith, ⊎_elim, Contains-none, get_or-replicate, length-replicate, length, get_or_past, cases_lt)
 
 pub bare_added : (count : ℕ) (edges : List (ℕ × ℕ)) (from to : ℕ) → Contains (get_or (with_edges (bare_rows count) edges) from []) to → Contains edges (from, to)
 bare_added count edges from to has = ⊎_elim
@@ -115,13 +105,7 @@ length-with_edges (edge ∷ edges) rows = length-with_edges edges (with_edge row
 pub turned_more : (rows : List (List ℕ)) (place : ℕ) (row : List ℕ) (before after : List (List ℕ)) → place < length rows → row ≡ get_or rows place []
     → after ≡ with_edges before (edges_to place row)
     → with_edges after (turned_from (place + 1) (drop (place + 1) rows)) ≡ with_edges before (turned_from place (drop place rows))
-turned_more rows place row before after within is turned =
-    let next : place + 1 ≡ suc place = omega arith in
-    ap (λ (rs : List (List ℕ)). with_edges rs (turned_from (place + 1) (drop (place + 1) rows))) turned
-    ∙ sym (fold-append with_edge before (edges_to place row) (turned_from (place + 1) (drop (place + 1) rows)))
-    ∙ ap (λ n. with_edges before (edges_to place row ++ turned_from n (drop (place + 1) rows))) next
-    ∙ ap (λ (r : List ℕ). with_edges before (edges_to place r ++ turned_from (suc place) (drop (place + 1) rows))) is
-    ∙ ap (λ (rs : List (List ℕ)). with_edges before (turned_from place rs)) (sym (drop_more rows place [] within))
+turned_more rows place row before after within is turned = grind (arith, fold-append, drop_more)
 
 turned_has : (rows : List (List ℕ)) (number from to : ℕ) → Contains (turned_from number rows) (from, to)
     → (place : ℕ) × (to ≡ number + place) × Contains (get_or rows place []) from
@@ -144,10 +128,7 @@ turned_there [] number place from has = Contains-none from has
 turned_there (row ∷ rows) number zero from has =
     let here : number + zero ≡ number = omega arith in
     subst (λ n. Contains (turned_from number (row ∷ rows)) (from, n)) (sym here) (Contains-append_left (edges_to number row) (turned_from (suc number) rows) (from, number) (Contains-map (λ one. (one, number)) row from has))
-turned_there (row ∷ rows) number (suc place) from has =
-    let later : number + suc place ≡ suc number + place = omega arith in
-    subst (λ n. Contains (turned_from number (row ∷ rows)) (from, n)) (sym later) (Contains-append_right (edges_to number row) (turned_from (suc number) rows) (from, suc number + place)
-    (turned_there rows (suc number) place from has))
+turned_there (row ∷ rows) number (suc place) from has = grind (arith, Contains-append_right, turned_there rows (suc number) place from has)
 
 pub turned_are : (edges : Edges) (rows : List (List ℕ)) → LeadToVertices edges → rows ≡ with_edges (bare_rows (count_of edges)) (turned_from 0 (rows_of edges))
     → (from to : ℕ) → Contains (get_or rows from []) to ↔ HasNext edges to from
@@ -169,10 +150,7 @@ turned_are edges rows within turned from to = (
 -- the edges of a vertex were reversed, in two parts
 pub turned_parts : (before middle after : List (List ℕ)) (place : ℕ) (next more : List ℕ) → middle ≡ with_edges before (edges_to place next)
     → after ≡ with_edges middle (edges_to place more) → after ≡ with_edges before (edges_to place (next ++ more))
-turned_parts before middle after place next more first second =
-    second ∙ ap (λ (rows : List (List ℕ)). with_edges rows (edges_to place more)) first
-    ∙ sym (fold-append with_edge before (edges_to place next) (edges_to place more))
-    ∙ ap (with_edges before) (sym (map-append (λ from. (from, place)) next more))
+turned_parts before middle after place next more first second = grind (arith, fold-append, map-append)
 
 -- ---- the edges of nodes
 
@@ -273,8 +251,7 @@ makings_there (first ∷ nodes) zero node making to at made has =
     Contains-append_left (making_edges first.made_with (needed_numbers first)) (makings_edges nodes) (making, to)
     (subst (λ (s : StoredNode). Contains (making_edges s.made_with (needed_numbers s)) (making, to)) (sym (same_Some first node at))
     (subst (λ (o : Option ℕ). Contains (making_edges o (needed_numbers node)) (making, to)) (sym made) (Contains-map (λ n. (making, n)) (needed_numbers node) to has)))
-makings_there (first ∷ nodes) (suc number) node making to at made has =
-    Contains-append_right (making_edges first.made_with (needed_numbers first)) (makings_edges nodes) (making, to) (makings_there nodes number node making to at made has)
+makings_there (first ∷ nodes) (suc number) node making to at made has = grind (arith, Contains-append_right, makings_there nodes number node making to)
 
 -- ---- the rows of names, and those of makings after them
 
@@ -283,10 +260,7 @@ front_has : (row : StoredNode → List ℕ) (nodes : List StoredNode) (rows : Li
     ⊎ ((place : ℕ) × (from ≡ length nodes + place) × Contains (get_or rows place []) to)
 front_has row [] rows from to has = let zeroth : from ≡ 0 + from = omega arith in inr (from, zeroth, has)
 front_has row (node ∷ nodes) rows zero to has = inl (node, refl, has)
-front_has row (node ∷ nodes) rows (suc from) to has = ⊎_elim
-    (λ (h : (other : StoredNode) × (slice_get nodes from ≡ Some other) × Contains (row other) to). inl h)
-    (λ (h : (place : ℕ) × (from ≡ length nodes + place) × Contains (get_or rows place []) to). let at = h.1 in inr (h.0, omega arith, h.2))
-    (front_has row nodes rows from to has)
+front_has row (node ∷ nodes) rows (suc from) to has = grind (arith, ⊎_elim, length, get_or, front_has row nodes rows from to has)
 
 front_there : (row : StoredNode → List ℕ) (nodes : List StoredNode) (rows : List (List ℕ)) (from : ℕ) (node : StoredNode) (to : ℕ) → slice_get nodes from ≡ Some node
     → Contains (row node) to → Contains (get_or (map row nodes ++ rows) from []) to
@@ -297,9 +271,7 @@ front_there row (first ∷ nodes) rows (suc from) node to at has = front_there r
 back_there : (row : StoredNode → List ℕ) (nodes : List StoredNode) (rows : List (List ℕ)) (place to : ℕ) → Contains (get_or rows place []) to
     → Contains (get_or (map row nodes ++ rows) (length nodes + place) []) to
 back_there row [] rows place to has = let zeroth : place ≡ 0 + place = omega arith in subst (λ n. Contains (get_or rows n []) to) zeroth has
-back_there row (first ∷ nodes) rows place to has =
-    let next : suc (length nodes + place) ≡ length (first ∷ nodes) + place = omega arith in
-    subst (λ n. Contains (get_or (map row (first ∷ nodes) ++ rows) n []) to) next (back_there row nodes rows place to has)
+back_there row (first ∷ nodes) rows place to has = grind (arith, length, get_or, back_there row nodes rows place to has)
 
 pub row_in_front : (row : StoredNode → List ℕ) (nodes : List StoredNode) (rows : List (List ℕ)) (place : ℕ) (node : StoredNode) → place < length nodes
     → node ≡ get_or nodes place node → get_or (map row nodes ++ rows) place [] ≡ row node
@@ -309,12 +281,9 @@ row_in_front row (first ∷ nodes) rows (suc place) node within is = row_in_fron
 
 pub row_after : (row : StoredNode → List ℕ) (nodes : List StoredNode) (rows : List (List ℕ)) (place : ℕ) (at : List ℕ) → length nodes ≤ place
     → at ≡ get_or rows (place - length nodes) [] → at ++ [] ≡ get_or (map row nodes ++ rows) place []
-row_after row [] rows place at past is =
-    let zeroth : place - 0 ≡ place = omega arith in append-nil at ∙ is ∙ ap (λ n. get_or rows n []) zeroth
+row_after row [] rows place at past is = grind (arith, append-nil, get_or)
 row_after row (first ∷ nodes) rows zero at past is = absurd (omega (arith, past))
-row_after row (first ∷ nodes) rows (suc place) at past is =
-    let less : suc place - length (first ∷ nodes) ≡ place - length nodes = omega arith in
-    row_after row nodes rows place at (omega arith) (is ∙ ap (λ n. get_or rows n []) less)
+row_after row (first ∷ nodes) rows (suc place) at past is = grind (arith, length, get_or, row_after row nodes rows place)
 
 -- the vertex of a making
 number_from : (names from count making : ℕ) → making < count
@@ -332,24 +301,16 @@ numbers_more names count number numbers new so_far is pushed =
     ∙ sym (map-range_with_len_more (λ making. names + making) 0 count count (omega arith))
 
 number_at : (names count making : ℕ) → making < count → one_at (numbers_after names count) making ≡ (names + making) ∷ []
-number_at names count making less =
-    let zeroth : names + (0 + making) ≡ names + making = omega arith in
-    ap option_to_list (number_from names 0 count making less) ∙ ap (λ n. n ∷ []) zeroth
+number_at names count making less = grind (arith, number_from)
 
 -- a node's making has a number below the count, and so has what it needs
 made_below : (count : ℕ) (nodes : List StoredNode) (place : ℕ) (node : StoredNode) (making : ℕ) → AreMadeBelow count nodes → slice_get nodes place ≡ Some node
     → node.made_with ≡ Some making → making < count
-made_below count nodes place node making below at made =
-    let one : IfSome node.made_with (λ n. n < count) =
-    All-contains (λ (s : StoredNode). IfSome s.made_with (λ n. n < count)) nodes node below (Contains-slice_get nodes place node at) in
-    subst (λ (o : Option ℕ). IfSome o (λ n. n < count)) made one
+made_below count nodes place node making below at made = grind (arith, All-contains, Contains-slice_get)
 
 needed_below : (nodes : List StoredNode) (place : ℕ) (node : StoredNode) (to : ℕ) → AreNeededBelow nodes → slice_get nodes place ≡ Some node
     → Contains (needed_numbers node) to → to < length nodes
-needed_below nodes place node to below at has =
-    let all : All (λ number. number < length nodes) (needed_numbers node) =
-    All-contains (λ (s : StoredNode). All (λ number. number < length nodes) (needed_numbers s)) nodes node below (Contains-slice_get nodes place node at) in
-    All-contains (λ number. number < length nodes) (needed_numbers node) to all has
+needed_below nodes place node to below at has = grind (arith, length, All-contains, Contains-slice_get)
 
 edge_within : (nodes : List StoredNode) (count from to : ℕ) → AreMadeBelow count nodes → AreNeededBelow nodes → IsEdge nodes from to → to < length nodes + count
 edge_within nodes count from to made needed edge = ⊎_elim
@@ -372,18 +333,11 @@ module _ (nodes : List StoredNode) (count : ℕ) (makings : List ℕ) (rows : Li
 
   leads : (number : ℕ) (node : StoredNode) (to : ℕ) → slice_get nodes number ≡ Some node → (o : Option ℕ) → node.made_with ≡ o → Contains (row_by makings node o) to
       → LeadsTo (length nodes) node o to
-  leads number node to at None made has = has
-  leads number node to at (Some making) made has = ⊎_elim
-      (λ (e : length nodes + making ≡ to). sym e)
-      (λ (h : Contains [] to). Contains-none to h)
-      (first_or_rest (length nodes + making) to [] (subst (λ (xs : List ℕ). Contains xs to) (making_alone number node making at made) has))
+  leads number node to at o made has = grind (arith, ⊎_elim, length, Contains-none, first_or_rest, making_alone)
 
   led : (number : ℕ) (node : StoredNode) (to : ℕ) → slice_get nodes number ≡ Some node → (o : Option ℕ) → node.made_with ≡ o → LeadsTo (length nodes) node o to
       → Contains (row_by makings node o) to
-  led number node to at None made has = has
-  led number node to at (Some making) made same =
-      subst (λ (xs : List ℕ). Contains xs to) (sym (making_alone number node making at made))
-      (subst (λ n. Contains ((length nodes + making) ∷ []) n) (sym same) (in_first (length nodes + making) []))
+  led number node to at o made has = grind (arith, making_alone, length, in_first)
 
   pub edges_are : (from to : ℕ) → Contains (get_or (map (row_of makings) nodes ++ rows) from []) to ↔ IsEdge nodes from to
   edges_are from to = (

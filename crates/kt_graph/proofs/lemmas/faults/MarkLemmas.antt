@@ -1,44 +1,25 @@
 -- Marks of vertices that are removed.
-use Rattle.std.proofs.Common.{◌≡◌, ℕ, zero, suc, ◌+◌, ◌<◌, ◌≤◌, Bool, true, false, ⊎_elim, inl, inr, List, [], ◌∷◌, ◌++◌, length, get_or, set, take, cond, refl, sym, ap, ◌∙◌, arith}
+use Rattle.std.proofs.Common.{◌≡◌, ℕ, zero, suc, ◌+◌, ◌<◌, Bool, true, false, ⊎_elim, inl, inr, List, [], ◌∷◌, ◌++◌, length, get_or, set, take, cond, refl, sym, ap, ◌∙◌, arith}
 use Rattle.kt_graph.proofs.Common.{Contains, cases_eq, cases_lt, false≢true, get_or-set_same, get_or-set_other, get_or_past, set_past, length_push, take_more, Contains-push, Contains-push_cases, Contains-append_cases, Contains-append_left, Contains-append_right, sum_by-set, Visits, count_held, holds_in, work_with}
 
 -- the mark of a vertex that is taken is removed
 pub taken_itself : (marks : List Bool) (place : ℕ) → holds_in (set marks place false) place ≡ false
-taken_itself marks place = ⊎_elim
-    (λ (within : place < length marks). get_or-set_same marks place false false within)
-    (λ (past : length marks ≤ place). ap (λ (ms : List Bool). get_or ms place false) (set_past marks place false past) ∙ get_or_past marks place false past)
-    (cases_lt place (length marks))
+taken_itself marks place = grind (arith, ⊎_elim, length, get_or-set_same, get_or, set_past, get_or_past, cases_lt)
 
 -- and none is added
 pub taken_others : (marks : List Bool) (place other : ℕ) → holds_in marks other ≡ false → holds_in (set marks place false) other ≡ false
-taken_others marks place other off = ⊎_elim
-    (λ (e : other ≡ place). ap (λ n. get_or (set marks place false) n false) e ∙ taken_itself marks place)
-    (λ differ. get_or-set_other marks place other false false differ ∙ off)
-    (cases_eq other place)
+taken_others marks place other off = grind (arith, ⊎_elim, get_or, taken_itself, get_or-set_other, cases_eq)
 
 pub taken_fewer : (marks : List Bool) (place other : ℕ) → holds_in (set marks place false) other ≡ true → holds_in marks other ≡ true
-taken_fewer marks place other on = by (holds_in marks other) refl
-  where
-    by : (b : Bool) → holds_in marks other ≡ b → holds_in marks other ≡ true
-    by true e = e
-    by false e = absurd (false≢true (sym (taken_others marks place other e) ∙ on))
+taken_fewer marks place other on = grind (arith, false≢true, taken_others)
 
 -- a mark that was removed is that of the vertex that was taken
 pub taken_one : (marks : List Bool) (place other : ℕ) → holds_in marks other ≡ true → holds_in (set marks place false) other ≡ false → place ≡ other
-taken_one marks place other on off = ⊎_elim
-    (λ (e : other ≡ place). sym e)
-    (λ differ. absurd (false≢true (sym off ∙ get_or-set_other marks place other false false differ ∙ on)))
-    (cases_eq other place)
+taken_one marks place other on off = grind (arith, ⊎_elim, false≢true, get_or-set_other, cases_eq)
 
 -- the marks that stay, where one was set
 pub count_taken : (marks : List Bool) (place : ℕ) → holds_in marks place ≡ true → count_held (set marks place false) + 1 ≡ count_held marks
-count_taken marks place on = ⊎_elim
-    (λ (within : place < length marks).
-    let all = sum_by-set (λ (is : Bool). cond is 1 0) marks place false false within in
-    let counted : count_held (set marks place false) + cond true 1 0 ≡ count_held marks + cond false 1 0 = rw on at all in
-    omega (arith, counted))
-    (λ (past : length marks ≤ place). absurd (false≢true (sym (get_or_past marks place false past) ∙ on)))
-    (cases_lt place (length marks))
+count_taken marks place on = grind (arith, ⊎_elim, length, sum_by-set, cond, false≢true, get_or_past, cases_lt)
 
 -- and where none was
 pub untaken : (marks : List Bool) (place : ℕ) → holds_in marks place ≡ false → set marks place false ≡ marks

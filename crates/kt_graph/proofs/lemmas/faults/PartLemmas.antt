@@ -1,5 +1,5 @@
 -- The components of a name, the last of them first, and the name that they spell.
-use Rattle.std.proofs.Common.{◌≡◌, ◌-◌, ◌≤◌, ◌==◌, Bool, true, false, not, if◌then◌else◌, fold, get_or, take, drop, List, [], ◌∷◌, ◌++◌, length, map, reverse, flat_map, Option, Some, None, refl, sym, ap, ◌∙◌, arith, MatchOption}
+use Rattle.std.proofs.Common.{◌≡◌, ◌-◌, ◌≤◌, ◌==◌, Bool, true, false, not, if◌then◌else◌, fold, get_or, take, drop, List, [], ◌∷◌, ◌++◌, length, map, reverse, flat_map, Option, sym, ap, ◌∙◌, arith, MatchOption}
 use Rattle.kt_graph.proofs.Common.{Bor, join_with_byte, slice_split, option_to_list, bytes_eq, false≢true, append-nil, map-append, reverse-append, nil_from_length, reverse-reverse, take_rest, Text, above_name, canon_of, ends_in_name, is_rooted, parts_of, step_up, with_part}
 
 -- components as they are held
@@ -10,39 +10,16 @@ last_first : (front : List (Bor Text)) (last : Bor Text) → reverse (told (fron
 last_first front last = ap reverse (map-append (λ (part : Bor Text). part.now) front (last ∷ [])) ∙ reverse-append (told front) (last.now ∷ [])
 
 pub name_taken : (rooted : Bool) (last : Text) (parts : List Text) → not (bytes_eq last above_name) ≡ true → step_up rooted (last ∷ parts) ≡ parts
-name_taken true last parts h = by (bytes_eq last above_name) refl
-  where
-    by : (b : Bool) → bytes_eq last above_name ≡ b → step_up true (last ∷ parts) ≡ parts
-    by true e = absurd (false≢true (rw e at h))
-    by false e = rw e refl
-name_taken false last parts h = by (bytes_eq last above_name) refl
-  where
-    by : (b : Bool) → bytes_eq last above_name ≡ b → step_up false (last ∷ parts) ≡ parts
-    by true e = absurd (false≢true (rw e at h))
-    by false e = rw e refl
+name_taken rooted last parts h = grind (arith, false≢true)
 
 pub above_stays : (rooted : Bool) (last : Text) (parts : List Text) → not (bytes_eq last above_name) ≡ false → step_up rooted (last ∷ parts) ≡ above_name ∷ last ∷ parts
-above_stays true last parts h = by (bytes_eq last above_name) refl
-  where
-    by : (b : Bool) → bytes_eq last above_name ≡ b → step_up true (last ∷ parts) ≡ above_name ∷ last ∷ parts
-    by true e = rw e refl
-    by false e = absurd (false≢true (sym (rw e at h)))
-above_stays false last parts h = by (bytes_eq last above_name) refl
-  where
-    by : (b : Bool) → bytes_eq last above_name ≡ b → step_up false (last ∷ parts) ≡ above_name ∷ last ∷ parts
-    by true e = rw e refl
-    by false e = absurd (false≢true (sym (rw e at h)))
+above_stays rooted last parts h = grind (arith, false≢true)
 
 -- `..` removes a name
 pub taken_up : (rooted : Bool) (old new : List (Bor Text)) (popped : Option (Bor Text)) → ends_in_name (reverse (told old)) ≡ true
     → old ≡ new ++ option_to_list popped → MatchOption popped (length old ≡ 0) (λ _. Unit {0})
     → reverse (told new) ≡ step_up rooted (reverse (told old))
-taken_up rooted old new None ends cut none =
-    let nil : old ≡ [] = nil_from_length old none in
-    absurd (false≢true (rw nil at ends))
-taken_up rooted old new (Some last) ends cut some =
-    let whole : reverse (told old) ≡ last.now ∷ reverse (told new) = ap (λ parts. reverse (told parts)) cut ∙ last_first new last in
-    sym (ap (step_up rooted) whole ∙ name_taken rooted last.now (reverse (told new)) (sym (ap ends_in_name whole) ∙ ends))
+taken_up rooted old new popped ends cut none = grind (arith, nil_from_length, false≢true, reverse, last_first, name_taken)
 
 -- components with slashes between them
 pub joined_after : (first : Text) (after : List (Bor Text)) → join_with_byte 47 (first ∷ told after) ≡ first ++ flat_map (λ (part : Bor Text). 47 ∷ part.now) after
@@ -60,10 +37,4 @@ pub canon_is : (name : Text) (rooted : Bool) (parts : List (Bor Text)) (left : L
     → fold (with_part rooted) (reverse (told parts)) left ≡ fold (with_part rooted) [] (slice_split (λ byte. byte == 47) name)
     → canon_of name ≡ (if rooted then 47 ∷ [] else []) ++ join_with_byte 47 (told parts)
 unfolding canon_of parts_of
-canon_is name rooted parts left is none done =
-    let all : reverse (told parts) ≡ fold (with_part rooted) [] (slice_split (λ byte. byte == 47) name)
-    = sym (ap (fold (with_part rooted) (reverse (told parts))) none) ∙ done in
-    let same : told parts ≡ reverse (fold (with_part rooted) [] (slice_split (λ byte. byte == 47) name))
-    = sym (reverse-reverse (told parts)) ∙ ap reverse all in
-    sym (ap (λ (names : List Text). (if rooted then 47 ∷ [] else []) ++ join_with_byte 47 names) same
-    ∙ ap (λ b. (if b then 47 ∷ [] else []) ++ join_with_byte 47 (reverse (fold (with_part b) [] (slice_split (λ byte. byte == 47) name)))) is)
+canon_is name rooted parts left is none done = grind (arith, reverse, reverse-reverse)

@@ -8,20 +8,13 @@ use Rattle.kt_graph.proofs.lemmas.faults.PartLemmas.{above_stays, name_taken}
 -- ---- components by their kind
 
 kinds : (part : Text) → (is_idle part ≡ true) ⊎ ((part ≡ above_name) ⊎ IsComponent part)
-kinds part = by (is_idle part) refl (bytes_eq part above_name) refl
-  where
-    by : (b : Bool) → is_idle part ≡ b → (c : Bool) → bytes_eq part above_name ≡ c → (is_idle part ≡ true) ⊎ ((part ≡ above_name) ⊎ IsComponent part)
-    by true e c f = inl e
-    by false e true f = inr (inl ((bytes_eq-Decides part above_name).0 f))
-    by false e false f = inr (inr (record { filled = e; plain = f }))
+kinds part = grind (arith, bytes_eq-Decides)
 
 idle_step : (rooted : Bool) (parts : List Text) (part : Text) → is_idle part ≡ true → with_part rooted parts part ≡ parts
 idle_step rooted parts part e = ap (λ b. if b then parts else (if bytes_eq part above_name then step_up rooted parts else part ∷ parts)) e
 
 name_step : (rooted : Bool) (parts : List Text) (part : Text) → IsComponent part → with_part rooted parts part ≡ part ∷ parts
-name_step rooted parts part is =
-    ap (λ b. if b then parts else (if bytes_eq part above_name then step_up rooted parts else part ∷ parts)) is.filled
-    ∙ ap (λ b. if b then step_up rooted parts else part ∷ parts) is.plain
+name_step rooted parts part is = grind arith
 
 up_name : (rooted : Bool) (last : Text) (parts : List Text) → IsComponent last → step_up rooted (last ∷ parts) ≡ parts
 up_name rooted last parts is = name_taken rooted last parts (ap not is.plain)
@@ -39,13 +32,7 @@ record IsStack (rooted : Bool) (parts : List Text) : Type 0 where
   pub under_root : rooted ≡ true → count ≡ zero
 
 none_stacked : (rooted : Bool) → IsStack rooted []
-none_stacked rooted = record {
-  count = zero;
-  names = [];
-  shape = refl;
-  named = All-nil IsComponent;
-  under_root = λ e. refl;
-}
+none_stacked rooted = grind (arith, All-nil)
 
 stack_with : (rooted : Bool) (parts : List Text) (part : Text) → IsComponent part → IsStack rooted parts → IsStack rooted (part ∷ parts)
 stack_with rooted parts part is stack = record {
@@ -64,17 +51,7 @@ record GoesUp (rooted : Bool) (parts : List Text) : Type 0 where
       ⊎ ((last : Text) × (rest : List Text) × IsComponent last × (parts ≡ last ∷ rest) × (step_up rooted parts ≡ rest)))
 
 up_none : (rooted : Bool) → (b : Bool) → rooted ≡ b → GoesUp rooted []
-up_none rooted true e = subst (λ b. GoesUp b []) (sym e) (record { kept = none_stacked true; how = inl (refl, refl, refl) })
-up_none rooted false e = subst (λ b. GoesUp b []) (sym e) (record {
-  kept = record {
-    count = suc zero;
-    names = [];
-    shape = refl;
-    named = All-nil IsComponent;
-    under_root = λ f. absurd (Rattle.std.proofs.lemmas.Bool.false≢true f);
-  };
-  how = inr (inl refl);
-})
+up_none rooted b e = grind (arith, none_stacked, All-nil)
 
 goes_up : (rooted : Bool) (names : List Text) (count : ℕ) → All IsComponent names → (rooted ≡ true → count ≡ zero) → GoesUp rooted (names ++ replicate count above_name)
 goes_up rooted [] zero named under = up_none rooted rooted refl
@@ -108,13 +85,7 @@ up_stack : (rooted : Bool) (parts : List Text) → IsStack rooted parts → Goes
 up_stack rooted parts stack = subst (GoesUp rooted) (sym stack.shape) (goes_up rooted stack.names stack.count stack.named stack.under_root)
 
 stack_kept : (rooted : Bool) (parts : List Text) (part : Text) → IsStack rooted parts → IsStack rooted (with_part rooted parts part)
-stack_kept rooted parts part stack = ⊎_elim
-    (λ (idle : is_idle part ≡ true). subst (IsStack rooted) (sym (idle_step rooted parts part idle)) stack)
-    (λ (other : (part ≡ above_name) ⊎ IsComponent part). ⊎_elim
-    (λ (above : part ≡ above_name). subst (λ (p : Text). IsStack rooted (with_part rooted parts p)) (sym above) (up_stack rooted parts stack).kept)
-    (λ (is : IsComponent part). subst (IsStack rooted) (sym (name_step rooted parts part is)) (stack_with rooted parts part is stack))
-    other)
-    (kinds part)
+stack_kept rooted parts part stack = grind (arith, ⊎_elim, idle_step, up_stack, name_step, stack_with, kinds)
 
 all_stacked : (rooted : Bool) (left parts : List Text) → IsStack rooted parts → IsStack rooted (fold (with_part rooted) parts left)
 all_stacked rooted [] parts stack = stack
@@ -156,8 +127,7 @@ stack_reduced rooted parts stack = record {
 -- ---- what is removed
 
 step_from : (rooted : Bool) (front gone back : List Text) → MayGo rooted front gone → Reaches (Cancels rooted) (front ++ (gone ++ back)) (front ++ back)
-step_from rooted front gone back may = Reaches-step (Cancels rooted) (front ++ (gone ++ back)) (front ++ back)
-    (record { front = front; gone = gone; back = back; may = may; before = refl; after = refl })
+step_from rooted front gone back may = grind (arith, Reaches-step)
 
 abbrev Way : Bool → List Text → List Text → Type 0
 Way rooted left parts = Reaches (Cancels rooted) (reverse parts ++ left) (reverse (fold (with_part rooted) parts left))
@@ -205,32 +175,10 @@ way rooted (part ∷ left) parts stack = ⊎_elim
 -- ---- there is one end
 
 gone_fold : (rooted : Bool) (front gone parts : List Text) → (front ≡ [] → parts ≡ []) → MayGo rooted front gone → fold (with_part rooted) parts gone ≡ parts
-gone_fold rooted front gone parts none may = ⊎_elim
-    (λ (idle : (part : Text) × (gone ≡ part ∷ []) × (is_idle part ≡ true)).
-    ap (fold (with_part rooted) parts) idle.1 ∙ idle_step rooted parts idle.0 idle.2)
-    (λ (other : ((part : Text) × (gone ≡ part ∷ above_name ∷ []) × IsComponent part) ⊎ ((rooted ≡ true) × (front ≡ []) × (gone ≡ above_name ∷ []))). ⊎_elim
-    (λ (taken : (part : Text) × (gone ≡ part ∷ above_name ∷ []) × IsComponent part).
-    ap (fold (with_part rooted) parts) taken.1
-    ∙ ap (λ (ps : List Text). with_part rooted ps above_name) (name_step rooted parts taken.0 taken.2)
-    ∙ up_name rooted taken.0 parts taken.2)
-    (λ (root : (rooted ≡ true) × (front ≡ []) × (gone ≡ above_name ∷ [])).
-    ap (fold (with_part rooted) parts) root.2
-    ∙ ap (λ (ps : List Text). step_up rooted ps) (none root.1)
-    ∙ ap (λ b. step_up b []) root.0
-    ∙ sym (none root.1))
-    other)
-    may
+gone_fold rooted front gone parts none may = grind (arith, ⊎_elim, idle_step, name_step, up_name)
 
 same_fold : (rooted : Bool) (one other : List Text) → Cancels rooted one other → fold (with_part rooted) [] one ≡ fold (with_part rooted) [] other
-same_fold rooted one other step =
-    let held : List Text = fold (with_part rooted) [] step.front in
-    ap (fold (with_part rooted) []) step.before
-    ∙ fold-append (with_part rooted) [] step.front (step.gone ++ step.back)
-    ∙ fold-append (with_part rooted) held step.gone step.back
-    ∙ ap (λ (ps : List Text). fold (with_part rooted) ps step.back)
-    (gone_fold rooted step.front step.gone held (λ e. ap (fold (with_part rooted) []) e) step.may)
-    ∙ sym (fold-append (with_part rooted) [] step.front step.back)
-    ∙ sym (ap (fold (with_part rooted) []) step.after)
+same_fold rooted one other step = grind (arith, fold-append, gone_fold)
 
 same_way : (rooted : Bool) (one : List Text) (steps : List (List Text)) (other : List Text) → Leads (Cancels rooted) one steps other
     → fold (with_part rooted) [] one ≡ fold (with_part rooted) [] other
@@ -239,10 +187,7 @@ same_way rooted one (next ∷ steps) other leads = same_fold rooted one next lea
 
 names_fold : (rooted : Bool) (names parts : List Text) → All IsComponent names → fold (with_part rooted) parts names ≡ reverse names ++ parts
 names_fold rooted [] parts named = refl
-names_fold rooted (name ∷ names) parts named =
-    ap (λ (ps : List Text). fold (with_part rooted) ps names) (name_step rooted parts name (All-head IsComponent name names named))
-    ∙ names_fold rooted names (name ∷ parts) (All-tail IsComponent name names named)
-    ∙ sym (put_over name names parts)
+names_fold rooted (name ∷ names) parts named = grind (arith, name_step, All-head, All-tail, put_over, names_fold rooted names (name ∷ parts) (All-tail IsComponent name names named))
 
 front_fold : (count held : ℕ) → fold (with_part false) (replicate held above_name) (replicate count above_name) ≡ replicate count above_name ++ replicate held above_name
 front_fold zero held = refl
@@ -256,21 +201,11 @@ front_fold (suc count) held =
     one_more (suc n) = up_above false (replicate n above_name)
 
 begun_fold : (rooted : Bool) (count : ℕ) → (rooted ≡ true → count ≡ zero) → fold (with_part rooted) [] (replicate count above_name) ≡ replicate count above_name
-begun_fold true count under =
-    ap (λ n. fold (with_part true) [] (replicate n above_name)) (under refl) ∙ ap (λ n. replicate n above_name) (sym (under refl))
+begun_fold true count under = grind (arith, replicate)
 begun_fold false count under = front_fold count zero ∙ append-nil (replicate count above_name)
 
 reduced_fixed : (rooted : Bool) (parts : List Text) → IsReduced rooted parts → reverse (fold (with_part rooted) [] parts) ≡ parts
-reduced_fixed rooted parts reduced =
-    let front : List Text = replicate reduced.count above_name in
-    ap reverse (ap (fold (with_part rooted) []) reduced.shape
-    ∙ fold-append (with_part rooted) [] front reduced.names
-    ∙ ap (λ (ps : List Text). fold (with_part rooted) ps reduced.names) (begun_fold rooted reduced.count reduced.under_root)
-    ∙ names_fold rooted reduced.names front reduced.named)
-    ∙ reverse-append (reverse reduced.names) front
-    ∙ ap (λ (ps : List Text). ps ++ reverse (reverse reduced.names)) (repeated_back reduced.count above_name)
-    ∙ ap (λ (ps : List Text). front ++ ps) (reverse-reverse reduced.names)
-    ∙ sym reduced.shape
+reduced_fixed rooted parts reduced = grind (arith, replicate, reverse, fold-append, begun_fold, names_fold, reverse-append, repeated_back, reverse-reverse)
 
 pub resolution : (name : Text) → IsResolution name
 unfolding parts_of

@@ -1,6 +1,6 @@
 -- Names that are the canonical spelling of their file.
-use Rattle.std.proofs.Common.{◌≡◌, ℕ, ◌+◌, ◌==◌, ◌&&◌, Bool, true, false, fold, take, drop, List, [], ◌∷◌, ◌++◌, reverse, Some, None, refl, sym, ap, ◌∙◌, arith, bytes_eq}
-use Rattle.kt_graph.proofs.Common.{join_with_byte, slice_split, list_all, position_or_len, eqb-true, false≢true, false_from_ne_true, All-from_get_or, append-nil, append_assoc, reverse-append, IsFirstByte, is_byte, and_first, and_second, Text, first_byte_place, canon_of, parts_of, is_idle, is_rooted, above_name, with_part}
+use Rattle.std.proofs.Common.{◌≡◌, ℕ, ◌+◌, ◌==◌, ◌&&◌, Bool, true, false, fold, take, drop, List, [], ◌∷◌, ◌++◌, reverse, Some, None, refl, sym, ap, ◌∙◌, arith}
+use Rattle.kt_graph.proofs.Common.{join_with_byte, slice_split, list_all, position_or_len, eqb-true, false≢true, false_from_ne_true, All-from_get_or, append-nil, append_assoc, reverse-append, IsFirstByte, is_byte, and_first, and_second, Text, first_byte_place, canon_of, parts_of, is_rooted, with_part}
 use Rattle.std.proofs.lemmas.List.Splits.{join_with_byte-slice_split, slice_split_first, slice_split_none}
 use Rattle.kt_graph.specs.inner.faults.Files.{has_names_only, is_name}
 
@@ -9,12 +9,7 @@ is_slash byte = byte == 47
 
 -- names go after the components before them
 put_name : (rooted : Bool) (parts : List Text) (part : Text) → is_name part ≡ true → with_part rooted parts part ≡ part ∷ parts
-put_name rooted parts part h = by (is_idle part) (bytes_eq part above_name) refl refl
-  where
-    by : (idle above : Bool) → is_idle part ≡ idle → bytes_eq part above_name ≡ above → with_part rooted parts part ≡ part ∷ parts
-    by true above i a = absurd (false≢true (rw i at h))
-    by false true i a = absurd (false≢true (rw (i, a) at h))
-    by false false i a = rw (i, a) refl
+put_name rooted parts part h = grind (arith, false≢true)
 
 put_names : (rooted : Bool) (front parts : List Text) → list_all is_name parts ≡ true → reverse (fold (with_part rooted) front parts) ≡ reverse front ++ parts
 put_names rooted front [] h = sym (append-nil (reverse front))
@@ -59,5 +54,4 @@ no_slash text found =
 
 -- a name under the root, and one without it
 pub rooted_spelling : (name : Text) → is_rooted name ≡ true → has_names_only (drop 1 name) ≡ true → canon_of name ≡ name
-rooted_spelling [] rooted h = absurd (false≢true rooted)
-rooted_spelling (byte ∷ name) rooted h = spelled_from_root (byte ∷ name) name (ap (λ b. b ∷ name) (eqb-true byte 47 rooted)) h
+rooted_spelling name rooted h = grind (arith, false≢true, spelled_from_root, eqb-true)

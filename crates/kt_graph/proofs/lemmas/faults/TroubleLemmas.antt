@@ -1,6 +1,6 @@
 -- What is wrong with a graph, from its nodes.
-use Rattle.std.proofs.Common.{◌≡◌, ◌<◌, Bool, true, false, not, ◌||◌, cond, ◌⊎◌, ⊎_elim, List, [], ◌∷◌, ◌++◌, length, map, filter, find, All, Option, None, Some, option_map, refl, sym, ap, ◌∙◌, subst, arith}
-use Rattle.kt_graph.proofs.Common.{Contains, list_any, IsStrictlySortedBy, nat_cmp, option_map_or, Ordering, Less, slice_cmp, bytes_eq, false≢true, true≢false, lt-ltb, ltb-true, length-map, All-contains, All-filter, All-map, sorted_tail, All-after_first, none-some, same_Some, bytes_eq-Decides, Text, Rule, is_repeated, made_names, Node, is_leaf, node_of, canon_of, is_reserved, ComesFirst, IsCyclic, IsDoubled, IsFirst, IsGraph, IsMade, IsReached, IsReserved, Trouble, no_rule, circular, reserved_name, one_file, is_unmade, unmade_goal, first_or_rest, in_first, in_rest}
+use Rattle.std.proofs.Common.{rules, ◌≡◌, ◌<◌, Bool, true, false, not, ◌||◌, cond, ◌⊎◌, ⊎_elim, List, [], ◌∷◌, ◌++◌, length, map, filter, find, All, Option, None, Some, option_map, refl, sym, ap, ◌∙◌, subst, arith}
+use Rattle.kt_graph.proofs.Common.{Contains, list_any, IsStrictlySortedBy, nat_cmp, option_map_or, Ordering, Less, slice_cmp, bytes_eq, false≢true, true≢false, lt-ltb, ltb-true, length-map, All-contains, All-filter, All-map, sorted_tail, All-after_first, none-some, same_Some, bytes_eq-Decides, Text, Rule, is_repeated, made_names, Node, is_leaf, node_of, canon_of, is_reserved, ComesFirst, IsCyclic, IsDoubled, IsFirst, IsGraph, IsMade, IsReached, IsReserved, Trouble, one_file, is_unmade, unmade_goal, first_or_rest, in_first, in_rest}
 use Rattle.kt_graph.specs.faults.Faults.{IsFileTrouble}
 use Rattle.kt_graph.specs.inner.faults.Files.{count_of}
 use Rattle.kt_graph.specs.nodes.Groups.{made_nodes}
@@ -100,10 +100,7 @@ rises_none = tt
 -- the names after a name in a list that rises aren't below it
 pub none_below : (earlier : List Text) (name : Text) (later : List Text) → Rises (earlier ++ name ∷ later) → (other : Text)
     → Contains (name ∷ later) other → ¬ (order other name ≡ Less)
-none_below [] name later rises other has less = ⊎_elim
-    (λ (same : name ≡ other). never_itself name (subst (λ (n : Text). order n name ≡ Less) (sym same) less))
-    (λ (h : Contains later other). never_both other name less (All-contains (λ n. order name n ≡ Less) later other (All-after_first order name later rises) h))
-    (first_or_rest name other later has)
+none_below [] name later rises other has less = grind (arith, ⊎_elim, never_itself, never_both, All-contains, All-after_first, first_or_rest)
 none_below (first ∷ earlier) name later rises other has less =
     none_below earlier name later (sorted_tail order first (earlier ++ name ∷ later) rises) other has less
 
@@ -274,8 +271,7 @@ module _ (rules : List Rule) (known goals : List Text) (nodes : List Node) (grap
           twice false = refl
 
   pub goals_are : find (λ goal. not (makes_among nodes goal)) goals ≡ unmade_goal rules known goals
-  goals_are = find_agree (λ goal. not (makes_among nodes goal)) (is_unmade rules known) goals
-      (λ goal has. makes_is goal (record { goal = goal; named = has; path = ([], refl) }))
+  goals_are = grind (arith, find_agree, not, makes_is)
 
   -- ---- files
 
@@ -355,13 +351,4 @@ module _ (rules : List Rule) (known goals : List Text) (nodes : List Node) (grap
 -- the parts of what comes first
 pub comes_first : (rules : List Rule) (known goals : List Text) (trouble : Option Trouble) → unmade_goal rules known goals ≡ None
     → ((name : Text) → ¬ IsCyclic rules known goals name) → IsFileTrouble rules known goals trouble → ComesFirst rules known goals trouble
-comes_first rules known goals None made uncircled files = record {
-  free = record { uncircled = record { goals_made = record { made = made }; uncircled = uncircled }; free = files.0 };
-  single = files.1;
-}
-comes_first rules known goals (Some (no_rule goal)) made uncircled files = absurd files
-comes_first rules known goals (Some (circular name)) made uncircled files = absurd files
-comes_first rules known goals (Some reserved_name) made uncircled files =
-    (record { goals_made = record { made = made }; uncircled = uncircled }, files)
-comes_first rules known goals (Some (one_file name)) made uncircled files =
-    (record { uncircled = record { goals_made = record { made = made }; uncircled = uncircled }; free = files.0 }, files.1)
+comes_first rules known goals trouble made uncircled files = grind arith

@@ -1,9 +1,8 @@
 -- One more name gets its node, from the goals on to the last of all.
-use Rattle.std.proofs.Common.{◌≡◌, ℕ, suc, zero, Bool, true, false, ◌+◌, ◌-◌, ◌<◌, ◌≤◌, if◌then◌else◌, List, [], ◌∷◌, ◌++◌, length, map, fold, take, drop, get_or, Option, Some, None, slice_get, unwrap_or, Contains, All, refl, sym, ap, subst, ◌∙◌, arith, ◌⊎◌, inl, inr, ⊎_elim}
+use Rattle.std.proofs.Common.{rules, ◌≡◌, ℕ, suc, zero, Bool, ◌-◌, ◌<◌, ◌≤◌, if◌then◌else◌, List, [], ◌∷◌, ◌++◌, length, map, fold, take, drop, get_or, Option, Some, None, slice_get, unwrap_or, Contains, All, refl, sym, ap, subst, ◌∙◌, arith, ◌⊎◌, inl, inr, ⊎_elim}
 use Rattle.kt_graph.proofs.Common.{option_map, length-append, length_push, take-append-drop, All-nil, All-cons, All-weaker, All-contains_itself, none-some, slice_get_within, slice_get-get_or, get_or_from_slice_get, Text, Target, explicit_rules, Rule, with_name, GraphBuilder, Instance as Held, NodeKind, StoredPart, StoredNode, Candidate, needed_by, Node, Part, all_inputs, node_by, node_of, HasNumbers, IsMaking, IsNumbered, IsStoredAs, SaysNode, SaysPart, SayParts, StandFor, AreBelow, IsReached, AllSay, AreTold, BuildsNode, IsBegun, IsDone, IsOver, reached_text, instance_at, instance_view, name_at, names_at, part_view}
 use Rattle.kt_rules.specs.declared.entry.RecipeLine.{RecipeLine}
 use Rattle.kt_graph.specs.declared.nodes.reached_name.ReachedName.{ReachedName}
-use Rattle.kt_graph.specs.inner.nodes.Stems.{stem_in}
 use Rattle.kt_graph.specs.nodes.Node.{Instance}
 use Rattle.kt_graph.proofs.lemmas.nodes.NumberLemmas.{parts_kept}
 use Rattle.kt_graph.proofs.lemmas.nodes.StepLemmas.{over_kept}
@@ -73,9 +72,7 @@ begun rules known goals names nodes reached none =
     }))
 
 pub told_none : (builder : GraphBuilder) → builder.nodes ≡ [] → AreTold builder
-told_none builder none = record {
-  told = λ number name node at there. absurd (none-some node (ap (λ (l : List StoredNode). slice_get l number) (sym none) ∙ there));
-}
+told_none builder none = grind (arith, none-some)
 
 grown_within : (needed names : List Text) → length names ≤ length (fold with_name names needed)
 grown_within needed names =
@@ -159,16 +156,13 @@ built_more start now built name h at builds =
 -- fewer nodes are left
 pub fewer_left : (names : List Text) (nodes more : List StoredNode) (name : Text) (node : StoredNode) (limit : ℕ) → slice_get names (length nodes) ≡ Some name
     → length names < limit → more ≡ nodes ++ node ∷ [] → limit - length more < limit - length nodes
-fewer_left names nodes more name node limit at small pushed =
-    let one : length more ≡ length nodes + 1 = ap length pushed ∙ length_push nodes node in
-    omega (arith, one, small, slice_get_within names (length nodes) name at)
+fewer_left names nodes more name node limit at small pushed = grind (arith, length, length_push, slice_get_within)
 
 -- ---- at the end
 
 -- no name remains
 pub none_left : (found : Option ReachedName) (at : Option Text) → ((x : ReachedName) → found ≡ Some x → ⊥) → option_map reached_text found ≡ at → None ≡ at
-none_left None at h e = e
-none_left (Some x) at h e = absurd (h x refl)
+none_left found at h e = grind arith
 
 stand_below : (names expected : List Text) (numbers : List ℕ) → StandFor names expected numbers → AreBelow (length names) numbers
 stand_below names expected [] h = All-nil (λ number. number < length names)
@@ -216,13 +210,7 @@ node_from name kind parts made_with = record { name = name; kind = kind; parts =
 
 part_read : (keys : List Text) (name : Text) (expected : Part) (part : StoredPart) → SaysPart keys name expected part
     → part_view keys name part ≡ expected
-part_read keys name expected part h =
-    let first = names_read keys expected.needs.prerequisites part.prerequisites h.needs.prerequisites in
-    let second = names_read keys expected.needs.order_only part.order_only h.needs.order_only in
-    ap (λ r. part_from r (stem_in name part.stem) (names_at keys part.prerequisites) (names_at keys part.order_only)) h.recipe
-    ∙ ap (λ s. part_from expected.recipe s (names_at keys part.prerequisites) (names_at keys part.order_only)) h.stem
-    ∙ ap (λ l. part_from expected.recipe expected.stem l (names_at keys part.order_only)) first
-    ∙ ap (λ l. part_from expected.recipe expected.stem expected.needs.prerequisites l) second
+part_read keys name expected part h = grind (arith, names_read)
 
 parts_read : (keys : List Text) (name : Text) (expected : List Part) (parts : List StoredPart) → SayParts keys name expected parts
     → map (part_view keys name) parts ≡ expected
@@ -252,14 +240,11 @@ says_told keys instances name expected node named h = record {
 }
 
 one_named : (b : Bool) (one other : Node) (name : Text) → one.name ≡ name → other.name ≡ name → (if b then one else other).name ≡ name
-one_named true one other name h k = h
-one_named false one other name h k = k
+one_named b one other name h k = grind arith
 
 by_named : (rules : List Rule) (name : Text) (made : List (Rule × Target)) (used : Option (Rule × Target)) (found : Option (Candidate × Rule))
     → (node_by rules name made used found).name ≡ name
-by_named rules name made (Some used) found = refl
-by_named rules name made None (Some found) = refl
-by_named rules name made None None = refl
+by_named rules name made used found = grind arith
 
 -- the node of a name has that name
 pub node_named : (rules : List Rule) (known : List Text) (name : Text) → (node_of rules known name).name ≡ name

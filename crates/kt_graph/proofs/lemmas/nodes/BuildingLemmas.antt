@@ -1,14 +1,13 @@
 -- The rule whose recipe is used, with those before and after it, and what rules need together.
 use Rattle.std.proofs.Common.{◌≡◌, ℕ, suc, zero, Bool, true, false, not, cond, ◌+◌, ◌-◌, ◌<◌, ◌≤◌, List, [], ◌∷◌, ◌++◌, length, map, filter, fold, take, drop, get_or, Option, Some, None, refl, sym, ap, ◌∙◌, arith, rules}
-use Rattle.kt_graph.proofs.Common.{before_last, after_last, last_or, suffix_len, append-nil, append_assoc, drop_at, get_or-append_right, get_or_at, length-append, length-take, length_push, map-append, take-append-drop, take_all, take_at, take_more, take_rest, flat_map-append, filter-append, fold-append, suffix_len_is, Needs, Target, Rule, needs_for, no_needs, with_name, all_needs, Text, has_recipe, OrderOnly, Prerequisite, joined_after, needed_as, needed_by_parts, rules_needs, Part, joined_needs, needs_after, other_rules}
+use Rattle.kt_graph.proofs.Common.{before_last, after_last, last_or, suffix_len, append-nil, append_assoc, drop_at, get_or-append_right, get_or_at, length-append, length-take, length_push, map-append, take-append-drop, take_all, take_at, take_more, take_rest, flat_map-append, filter-append, fold-append, suffix_len_is, Needs, Target, Rule, needs_for, no_needs, with_name, all_needs, Text, has_recipe, joined_after, needed_by_parts, Part, joined_needs, needs_after, other_rules}
 use Rattle.kt_rules.specs.declared.book.target_rule.TargetRule.{TargetRule}
 
 -- ---- the last that passes
 
 first_fails : {A : Type 0} (p : A → Bool) (x : A) (xs : List A) (b : Bool) → p x ≡ b → cond b (x ∷ filter p xs) (filter p xs) ≡ []
     → (p x ≡ false) × (filter p xs ≡ [])
-first_fails p x xs true e h = cc
-first_fails p x xs false e h = (e, h)
+first_fails p x xs b e h = grind arith
 
 -- if a filter keeps nothing, nothing passes
 none_passes : {A : Type 0} (p : A → Bool) (xs : List A) → filter p xs ≡ [] → (k : ℕ) (d : A) → k < length xs → p (get_or xs k d) ≡ false
@@ -76,16 +75,11 @@ needs_from prerequisites order_only = record { prerequisites = prerequisites; or
 
 pub joined_told : (first : Needs) (earlier later : List (Rule × Target)) → joined_after first earlier later ≡ needs_after first (joined_needs (earlier ++ later))
 unfolding joined_needs
-joined_told first earlier later =
-    let one = flat_map-append (λ (made : Rule × Target). needed_as Prerequisite (needs_for made.0 made.1)) earlier later in
-    let other = flat_map-append (λ (made : Rule × Target). needed_as OrderOnly (needs_for made.0 made.1)) earlier later in
-    ap (λ l. needs_from (first.prerequisites ++ l) (joined_after first earlier later).order_only) (sym one)
-    ∙ ap (λ l. needs_from (first.prerequisites ++ rules_needs Prerequisite (earlier ++ later)) (first.order_only ++ l)) (sym other)
+joined_told first earlier later = grind (arith, flat_map-append)
 
 -- without rules
 pub joined_own : (first : Needs) → joined_after first [] [] ≡ first
-joined_own first =
-    ap (λ l. needs_from l (first.order_only ++ [])) (append-nil first.prerequisites) ∙ ap (λ l. needs_from first.prerequisites l) (append-nil first.order_only)
+joined_own first = grind (arith, append-nil)
 
 -- without later ones
 pub joined_first : (first : Needs) (rules : List (Rule × Target)) → joined_after first rules [] ≡ needs_after first (joined_needs rules)
@@ -99,10 +93,7 @@ joined_alone rules = joined_first no_needs rules
 pub used_needs : (first : Needs) (used : Rule × Target) (rules earlier later : List (Rule × Target)) → first ≡ needs_for used.0 used.1
     → before_last has_recipe rules ≡ earlier → after_last has_recipe rules ≡ later
     → joined_after first earlier later ≡ needs_after (needs_for used.0 used.1) (joined_needs (other_rules rules))
-used_needs first used rules earlier later is before after =
-    joined_told first earlier later ∙ ap (λ f. needs_after f (joined_needs (earlier ++ later))) is
-    ∙ ap (λ l. needs_after (needs_for used.0 used.1) (joined_needs (l ++ later))) (sym before)
-    ∙ ap (λ l. needs_after (needs_for used.0 used.1) (joined_needs (before_last has_recipe rules ++ l))) (sym after)
+used_needs first used rules earlier later is before after = grind (arith, joined_told)
 
 -- ---- the parts of a double-colon node
 
@@ -116,7 +107,4 @@ one_more_part f g rules i rule h at =
 
 pub needed_more : (names middle new : List Text) (parts : List Part) (part : Part) → middle ≡ fold with_name names (needed_by_parts parts)
     → new ≡ fold with_name middle (all_needs part.needs) → new ≡ fold with_name names (needed_by_parts (parts ++ part ∷ []))
-needed_more names middle new parts part one other =
-    other ∙ ap (λ l. fold with_name l (all_needs part.needs)) one ∙ sym (fold-append with_name names (needed_by_parts parts) (all_needs part.needs))
-    ∙ ap (λ l. fold with_name names (needed_by_parts parts ++ l)) (sym (append-nil (all_needs part.needs)))
-    ∙ ap (fold with_name names) (sym (flat_map-append (λ (p : Part). all_needs p.needs) parts (part ∷ [])))
+needed_more names middle new parts part one other = grind (arith, fold-append, append-nil, flat_map-append)

@@ -1,5 +1,5 @@
 -- The groups of a graph are the names that one making makes.
-use Rattle.std.proofs.Common.{◌≡◌, ◌↔◌, Bool, true, false, ◌||◌, ◌⊎◌, ⊎_elim, inl, inr, cond, List, [], ◌∷◌, map, filter, find, All, Option, None, Some, refl, sym, ap, ◌∙◌, subst}
+use Rattle.std.proofs.Common.{arith, rules, ◌≡◌, ◌↔◌, Bool, true, false, ◌||◌, ◌⊎◌, ⊎_elim, inl, inr, cond, List, [], ◌∷◌, map, filter, find, All, Option, None, Some, refl, sym, ap, ◌∙◌, subst}
 use Rattle.kt_graph.proofs.Common.{Contains, IsStrictlySortedBy, option_map_or, nat_cmp, Ordering, slice_cmp, bytes_eq, false≢true, or_cases, All-map, none-some, same_Some, bytes_eq-Decides, equal_when, Text, Rule, Node, is_leaf, node_of, AreOneMaking, IsGraph, IsInGroup, IsReached, beside, itself}
 use Rattle.kt_graph.specs.nodes.Groups.{AreGroups, HasBoth, IsInOne, are_together, groups_among, is_leading, is_one_making, leader_name, made_nodes}
 use Rattle.kt_graph.specs.nodes.Node.{Instance}
@@ -26,43 +26,25 @@ itself_together node = ap (λ b. b || is_one_making node.made_with node.made_wit
 
 first_kept : (p : Node → Bool) (nodes : List Node) (node : Node) → find p nodes ≡ Some node → leader_name (filter p nodes) ≡ node.name
 first_kept p [] node e = absurd (none-some node e)
-first_kept p (first ∷ nodes) node e = by (p first) e (first_kept p nodes node)
-  where
-    by : (b : Bool) → cond b (Some first) (find p nodes) ≡ Some node → (find p nodes ≡ Some node → leader_name (filter p nodes) ≡ node.name)
-        → leader_name (cond b (first ∷ filter p nodes) (filter p nodes)) ≡ node.name
-    by true f more = ap name_in (same_Some first node f)
-    by false f more = more f
+first_kept p (first ∷ nodes) node e = grind (arith, cond, first_kept p nodes node)
 
 -- ---- the nodes of a graph
 
 pub making_told : (one other : Option Instance) → is_one_making one other ≡ true → (making : Instance) × (one ≡ Some making) × (other ≡ Some making)
-making_told None other e = absurd (false≢true e)
-making_told (Some one) other e = (one, refl, sym (one_same (Some one) other e))
+making_told one other e = grind (arith, false≢true, one_same)
 
 -- equal, or made by one making
 abbrev AreOne : Node → Node → Type 0
 AreOne one other = (one ≡ other) ⊎ ((making : Instance) × (one.made_with ≡ Some making) × (other.made_with ≡ Some making))
 
 swapped : (one other : Node) → AreOne one other → AreOne other one
-swapped one other (inl same) = inl (sym same)
-swapped one other (inr (making, first, second)) = inr (making, second, first)
+swapped one other h = grind arith
 
 joined : (one middle other : Node) → AreOne one middle → AreOne middle other → AreOne one other
-joined one middle other (inl same) more = subst (λ (n : Node). AreOne n other) (sym same) more
-joined one middle other (inr made) (inl same) = subst (λ (n : Node). AreOne one n) same (inr made)
-joined one middle other (inr (making, first, second)) (inr (also, third, fourth)) =
-    inr (making, first, fourth ∙ sym third ∙ second)
+joined one middle other h more = grind arith
 
 as_test : (one other : Node) → AreOne one other → are_together one other ≡ true
-as_test one other (inl same) = subst (λ (n : Node). are_together one n ≡ true) same (itself_together one)
-as_test one other (inr (making, first, second)) = by (bytes_eq one.name other.name)
-  where
-    made : is_one_making one.made_with other.made_with ≡ true
-    made = ap (λ (o : Option Instance). is_one_making o other.made_with) first ∙ ap (is_one_making (Some making)) second ∙ one_itself making
-
-    by : (b : Bool) → (b || is_one_making one.made_with other.made_with) ≡ true
-    by true = refl
-    by false = made
+as_test one other h = grind (arith, itself_together, one_itself)
 
 module _ (rules : List Rule) (known goals : List Text) (nodes : List Node) (graph : IsGraph rules known goals nodes) where
   same_node : (one other : Node) → Contains nodes one → Contains nodes other → one.name ≡ other.name → one ≡ other
@@ -73,18 +55,12 @@ module _ (rules : List Rule) (known goals : List Text) (nodes : List Node) (grap
       (kept_by_filter (λ (one : Node). Rattle.std.proofs.Common.not (is_leaf one.kind)) nodes node has).0
 
   by_test : (one other : Node) → Contains (made_nodes nodes) one → Contains (made_nodes nodes) other → are_together one other ≡ true → AreOne one other
-  by_test one other first second e = ⊎_elim
-      (λ (named : bytes_eq one.name other.name ≡ true).
-      inl (same_node one other (in_graph one first) (in_graph other second) ((bytes_eq-Decides one.name other.name).0 named)))
-      (λ (made : is_one_making one.made_with other.made_with ≡ true). inr (making_told one.made_with other.made_with made))
-      (or_cases (bytes_eq one.name other.name) (is_one_making one.made_with other.made_with) e)
+  by_test one other first second e = grind (arith, ⊎_elim, same_node, in_graph, bytes_eq-Decides, making_told, or_cases)
 
   -- nodes that are equal are in groups with the same nodes
   alike : (one other : Node) → Contains (made_nodes nodes) one → Contains (made_nodes nodes) other → AreOne one other
       → (node : Node) → Contains (made_nodes nodes) node → are_together one node ≡ are_together other node
-  alike one other first second same node has = equal_when (are_together one node) (are_together other node)
-      (λ e. as_test other node (joined other one node (swapped one other same) (by_test one node first has e)))
-      (λ e. as_test one node (joined one other node same (by_test other node second has e)))
+  alike one other first second same node has = grind (arith, equal_when, as_test, joined, swapped, by_test)
 
   same_leader : (one other : Node) → Contains (made_nodes nodes) one → Contains (made_nodes nodes) other → AreOne one other
       → find (are_together one) (made_nodes nodes) ≡ find (are_together other) (made_nodes nodes)
@@ -93,13 +69,7 @@ module _ (rules : List Rule) (known goals : List Text) (nodes : List Node) (grap
   -- the first in a leader's group is the leader itself
   leads_itself : (leader : Node) → Contains (made_nodes nodes) leader → is_leading (made_nodes nodes) leader ≡ true
       → find (are_together leader) (made_nodes nodes) ≡ Some leader
-  leads_itself leader has leads = by (find (are_together leader) (made_nodes nodes)) refl leads
-    where
-      by : (o : Option Node) → find (are_together leader) (made_nodes nodes) ≡ o → option_map_or (λ first. bytes_eq first.name leader.name) o false ≡ true
-          → o ≡ Some leader
-      by None is e = absurd (false≢true e)
-      by (Some first) is e = ap (λ (n : Node). Some n)
-          (same_node first leader (in_graph first (found_in (are_together leader) (made_nodes nodes) first is).0) (in_graph leader has) ((bytes_eq-Decides first.name leader.name).0 e))
+  leads_itself leader has leads = grind (arith, false≢true, same_node, in_graph, found_in, bytes_eq-Decides)
 
   abbrev IsLeader : Node → Type 0
   IsLeader leader = Contains (filter (is_leading (made_nodes nodes)) (made_nodes nodes)) leader

@@ -1,7 +1,7 @@
 -- The groups of the first numbers are those of the nodes.
 use Rattle.std.proofs.Common.{◌≡◌, ℕ, suc, ◌+◌, ◌<◌, ◌≤◌, Bool, true, false, not, ◌&&◌, ◌||◌, ⊎_elim, cond, if◌then◌else◌, List, [], ◌∷◌, ◌++◌, length, drop, get_or, map, filter, find, nat_eq, Option, None, Some, IfSome, option_map, slice_get, refl, sym, ap, ◌∙◌, subst, arith}
-use Rattle.kt_graph.proofs.Common.{Contains, cons_option, prefix_len, IsStrictlySortedBy, option_and_then, option_map_or, nat_cmp, is_eq, Less, slice_cmp, bytes_eq, and_parts, cases_eq, eq-eqb, eqb-true, false≢true, true≢false, append-nil, append_assoc, drop_all, drop_more, get_or-replicate, get_or-set_other, get_or-set_same, length-replicate, length-set, map-append, All-contains, filter-append, filter_agree, prefix_len_stops, sorted_tail, is_eq-slice_cmp, All-after_first, bytes_eq-Decides, equal_when, Text, StoredNode, bare_rows, Node, is_leaf, HasNumbers, instance_at, name_at, names_at, node_view, nodes_view, first_or_rest, in_first, in_rest, NodeTable}
-use Rattle.kt_graph.specs.inner.nodes.Grouping.{HasMembers, group_at, groups_left, is_first, is_made_at, is_made_with, is_number, leads_at, leads_by, making_at, members_by, members_of, with_making, with_member}
+use Rattle.kt_graph.proofs.Common.{Contains, cons_option, prefix_len, IsStrictlySortedBy, option_and_then, option_map_or, nat_cmp, is_eq, Less, slice_cmp, bytes_eq, and_parts, cases_eq, eq-eqb, eqb-true, false≢true, true≢false, append-nil, append_assoc, drop_all, drop_more, get_or-replicate, get_or-set_other, get_or-set_same, length-replicate, length-set, map-append, All-contains, filter-append, filter_agree, prefix_len_stops, sorted_tail, is_eq-slice_cmp, All-after_first, bytes_eq-Decides, equal_when, Text, StoredNode, bare_rows, Node, is_leaf, instance_at, name_at, names_at, node_view, nodes_view, first_or_rest, in_first, in_rest, NodeTable}
+use Rattle.kt_graph.specs.inner.nodes.Grouping.{HasMembers, group_at, groups_left, is_first, is_made_at, is_made_with, is_number, leads_at, leads_by, making_at, members_by, members_of, with_member}
 use Rattle.kt_graph.specs.nodes.Groups.{are_together, groups_among, groups_of, is_leading, is_one_making, made_nodes}
 use Rattle.kt_graph.specs.nodes.Node.{Instance}
 use Rattle.kt_graph.specs.inner.nodes.Graph.{IsWhole}
@@ -13,51 +13,11 @@ use Rattle.kt_graph.proofs.lemmas.nodes.WholeLemmas.{instance_there}
 -- ---- the numbers of each making
 
 pub none_noted : (nodes : List StoredNode) (count : ℕ) (members : List (List ℕ)) → members ≡ bare_rows count → HasMembers nodes count [] members
-none_noted nodes count members is = subst (HasMembers nodes count []) (sym is) record {
-  many = length-replicate {A = List ℕ} count [];
-  each = λ making less. get_or-replicate {A = List ℕ} count making [] [] less;
-}
+none_noted nodes count members is = grind (arith, length-replicate, get_or-replicate)
 
 pub one_noted : (nodes : List StoredNode) (count number : ℕ) (numbers : List ℕ) (members new : List (List ℕ)) → HasMembers nodes count numbers members
     → new ≡ with_member nodes members number → HasMembers nodes count (numbers ++ number ∷ []) new
-one_noted nodes count number numbers members new so_far is =
-    subst (HasMembers nodes count (numbers ++ number ∷ [])) (sym is) record {
-      many = many (is_made_at nodes number) (making_at nodes number);
-      each = λ making less.
-          each making less (is_made_at nodes number) (making_at nodes number)
-          ∙ sym (filter-append (is_made_with nodes making) numbers (number ∷ []));
-    }
-  where
-    unlike : (one other : ℕ) → ¬ (one ≡ other) → nat_eq one other ≡ false
-    unlike one other differ = by (nat_eq one other) refl
-      where
-        by : (b : Bool) → nat_eq one other ≡ b → nat_eq one other ≡ false
-        by true e = absurd (differ (eqb-true one other e))
-        by false e = e
-
-    many : (b : Bool) (o : Option ℕ) → length (if b then with_making members number o else members) ≡ count
-    many false o = so_far.many
-    many true None = so_far.many
-    many true (Some making) = length-set members making (get_or members making [] ++ number ∷ []) ∙ so_far.many
-
-    each : (making : ℕ) → making < count → (b : Bool) (o : Option ℕ) → get_or (if b then with_making members number o else members) making []
-        ≡ filter (is_made_with nodes making) numbers ++ cond (b && is_number making o) (number ∷ []) []
-    each making less false o = so_far.each making less ∙ sym (append-nil (filter (is_made_with nodes making) numbers))
-    each making less true None = so_far.each making less ∙ sym (append-nil (filter (is_made_with nodes making) numbers))
-    each making less true (Some other) = ⊎_elim
-        (λ (same : making ≡ other).
-        let long = so_far.many in
-        let within : other < length members = omega arith in
-        ap (λ n. get_or (with_making members number (Some other)) n []) same
-        ∙ get_or-set_same members other (get_or members other [] ++ number ∷ []) [] within
-        ∙ ap (λ n. get_or members n [] ++ number ∷ []) (sym same)
-        ∙ ap (λ (ns : List ℕ). ns ++ number ∷ []) (so_far.each making less)
-        ∙ ap (λ b. filter (is_made_with nodes making) numbers ++ cond b (number ∷ []) []) (sym (eq-eqb making other same)))
-        (λ differ.
-        get_or-set_other members other making (get_or members other [] ++ number ∷ []) [] differ
-        ∙ so_far.each making less ∙ sym (append-nil (filter (is_made_with nodes making) numbers))
-        ∙ ap (λ b. filter (is_made_with nodes making) numbers ++ cond b (number ∷ []) []) (sym (unlike making other differ)))
-        (cases_eq making other)
+one_noted nodes count number numbers members new so_far is = grind (arith, filter-append, nat_eq, eqb-true, length, length-set, get_or, cond, append-nil, ⊎_elim, get_or-set_same, eq-eqb, get_or-set_other, cases_eq)
 
 -- ---- lists
 
@@ -67,18 +27,10 @@ head_of (x ∷ xs) = Some x
 
 find_head : {A : Type 0} (p : A → Bool) (xs : List A) → find p xs ≡ head_of (filter p xs)
 find_head p [] = refl
-find_head {A} p (x ∷ xs) = by (p x) (find_head p xs)
-  where
-    by : (b : Bool) → find p xs ≡ head_of (filter p xs) → cond b (Some x) (find p xs) ≡ head_of (cond b (x ∷ filter p xs) (filter p xs))
-    by true rest = refl
-    by false rest = rest
+find_head {A} p (x ∷ xs) = grind (arith, cond, find_head p xs)
 
 filter_one : {A : Type 0} (p : A → Bool) (x : A) (xs : List A) → filter p (x ∷ xs) ≡ cond (p x) (x ∷ []) [] ++ filter p xs
-filter_one {A} p x xs = by (p x)
-  where
-    by : (b : Bool) → cond b (x ∷ filter p xs) (filter p xs) ≡ cond b (x ∷ []) [] ++ filter p xs
-    by true = refl
-    by false = refl
+filter_one {A} p x xs = grind (arith, cond)
 
 -- ---- the groups of an order
 
@@ -91,24 +43,10 @@ module _ (table : NodeTable) (order : List ℕ) (whole : IsWhole table order)
   made numbers = made_nodes (told numbers)
 
   told_one : (number : ℕ) (numbers : List ℕ) → told (number ∷ numbers) ≡ told (number ∷ []) ++ told numbers
-  told_one number numbers = by (slice_get table.nodes number)
-    where
-      by : (o : Option StoredNode) → cons_option (option_map (node_view table.names table.instances number) o) (told numbers)
-          ≡ cons_option (option_map (node_view table.names table.instances number) o) [] ++ told numbers
-      by None = refl
-      by (Some node) = refl
+  told_one number numbers = grind arith
 
   made_one : (number : ℕ) (numbers : List ℕ) → made (number ∷ numbers) ≡ (if is_made_at table.nodes number then told (number ∷ []) else []) ++ made numbers
-  made_one number numbers = by (slice_get table.nodes number)
-    where
-      made_by : (b : Bool) (node : Node) → cond b (node ∷ made numbers) (made numbers) ≡ (if b then node ∷ [] else []) ++ made numbers
-      made_by true node = refl
-      made_by false node = refl
-
-      by : (o : Option StoredNode) → made_nodes (cons_option (option_map (node_view table.names table.instances number) o) (told numbers))
-          ≡ (if option_map_or (λ node. not (is_leaf node.kind)) o false then cons_option (option_map (node_view table.names table.instances number) o) [] else []) ++ made numbers
-      by None = refl
-      by (Some node) = made_by (not (is_leaf node.kind)) (node_view table.names table.instances number node)
+  made_one number numbers = grind (arith, cond, not)
 
   -- ---- two numbers
 
@@ -128,9 +66,7 @@ module _ (table : NodeTable) (order : List ℕ) (whole : IsWhole table order)
 
   same_making : (one other : Option ℕ) → IsBelow one → IsBelow other → is_one_making (instance_at table.instances one) (instance_at table.instances other) ≡ is_same one other
   same_making None other first second = refl
-  same_making (Some one) None first second =
-      let there : (told : Instance) × (instance_at table.instances (Some one) ≡ Some told) = instance_there table.instances one first in
-      ap (λ (o : Option Instance). is_one_making o None) there.1
+  same_making (Some one) None first second = grind (arith, instance_there)
   same_making (Some one) (Some other) first second = equal_when (is_one_making (instance_at table.instances (Some one)) (instance_at table.instances (Some other))) (nat_eq one other)
       (λ e. eq-eqb one other (whole.held.apart one other first second (one_same (instance_at table.instances (Some one)) (instance_at table.instances (Some other)) e)))
       (λ e.
@@ -139,8 +75,7 @@ module _ (table : NodeTable) (order : List ℕ) (whole : IsWhole table order)
       ap (λ (o : Option Instance). is_one_making o (instance_at table.instances (Some other))) there.1 ∙ ap (is_one_making (Some there.0)) also ∙ one_itself there.0)
 
   below : (number : ℕ) (node : StoredNode) → slice_get table.nodes number ≡ Some node → IsBelow node.made_with
-  below number node at =
-      (All-contains (HasNumbers (length table.names) (length table.instances)) table.nodes node whole.held.numbers (Contains-slice_get table.nodes number node at)).made_with
+  below number node at = grind (arith, All-contains, length, Contains-slice_get)
 
   -- whether a number is in one group with another
   abbrev stands_with : ℕ → ℕ → Bool
@@ -152,45 +87,7 @@ module _ (table : NodeTable) (order : List ℕ) (whole : IsWhole table order)
   with_one : (leader : ℕ) (node : StoredNode) → Contains order leader → slice_get table.nodes leader ≡ Some node → (number : ℕ) → Contains order number
       → filter (are_together (node_view table.names table.instances leader node)) (if is_made_at table.nodes number then told (number ∷ []) else [])
       ≡ told (cond (stands_with leader number) (number ∷ []) [])
-  with_one leader node first at number second = by (slice_get table.nodes number) refl
-    where
-      both : Option ℕ → Bool
-      both making = nat_eq leader number || is_same node.made_with making
-
-      making_is : making_at table.nodes leader ≡ node.made_with
-      making_is = ap (λ (o : Option StoredNode). option_and_then (λ one. one.made_with) o) at
-
-      kept : (b : Bool) (other : StoredNode) → slice_get table.nodes number ≡ Some other
-          → cond b (node_view table.names table.instances number other ∷ []) [] ≡ told (cond b (number ∷ []) [])
-      kept true other is = ap (λ (o : Option StoredNode). cons_option (option_map (node_view table.names table.instances number) o) []) (sym is)
-      kept false other is = refl
-
-      together : (other : StoredNode) → slice_get table.nodes number ≡ Some other
-          → are_together (node_view table.names table.instances leader node) (node_view table.names table.instances number other) ≡ both other.made_with
-      together other is =
-          ap (λ b. b || is_one_making (instance_at table.instances node.made_with) (instance_at table.instances other.made_with)) (same_name leader number first second)
-          ∙ ap (λ b. nat_eq leader number || b) (same_making node.made_with other.made_with (below leader node at) (below number other is))
-
-      made_by : (b : Bool) (other : StoredNode) → slice_get table.nodes number ≡ Some other
-          → filter (are_together (node_view table.names table.instances leader node)) (if b then node_view table.names table.instances number other ∷ [] else [])
-          ≡ told (cond (b && both other.made_with) (number ∷ []) [])
-      made_by false other is = refl
-      made_by true other is =
-          ap (λ b. cond b (node_view table.names table.instances number other ∷ []) []) (together other is) ∙ kept (both other.made_with) other is
-
-      Wanted : Option StoredNode → Option ℕ → Type 0
-      Wanted o making =
-          filter (are_together (node_view table.names table.instances leader node))
-          (if option_map_or (λ one. not (is_leaf one.kind)) o false then cons_option (option_map (node_view table.names table.instances number) o) [] else [])
-          ≡ told (cond (option_map_or (λ one. not (is_leaf one.kind)) o false
-          && (nat_eq leader number || is_same making (option_and_then (λ one. one.made_with) o))) (number ∷ []) [])
-
-      by : (o : Option StoredNode) → slice_get table.nodes number ≡ o
-          → filter (are_together (node_view table.names table.instances leader node)) (if is_made_at table.nodes number then told (number ∷ []) else [])
-          ≡ told (cond (stands_with leader number) (number ∷ []) [])
-      by None is = subst (λ (o : Option StoredNode). Wanted o (making_at table.nodes leader)) (sym is) refl
-      by (Some other) is = subst (λ (o : Option StoredNode). Wanted o (making_at table.nodes leader)) (sym is)
-          (subst (λ (making : Option ℕ). Wanted (Some other) making) (sym making_is) (made_by (not (is_leaf other.kind)) other is))
+  with_one leader node first at number second = grind (arith, nat_eq, cond, same_name, same_making, below, not)
 
   with_all : (leader : ℕ) (node : StoredNode) → Contains order leader → slice_get table.nodes leader ≡ Some node → (numbers : List ℕ)
       → ((number : ℕ) → Contains numbers number → Contains order number)
@@ -267,19 +164,7 @@ module _ (table : NodeTable) (order : List ℕ) (whole : IsWhole table order)
       or_none : (b : Bool) → (b || false) ≡ true → b ≡ true
       or_none true e = refl
       or_none false e = e
-  members_are leader inside on (Some making) is within =
-      filter_agree (stands_with leader) (is_made_with table.nodes making) alike order ∙ sym (has.each making within)
-    where
-      absorbed : (number : ℕ) (b : Bool) → nat_eq leader number ≡ b → (b || is_number making (making_at table.nodes number)) ≡ is_number making (making_at table.nodes number)
-      absorbed number false e = refl
-      absorbed number true e =
-          let also : making_at table.nodes number ≡ Some making = ap (making_at table.nodes) (sym (eqb-true leader number e)) ∙ is in
-          sym (ap (is_number making) also ∙ eq-eqb making making refl)
-
-      alike : (number : ℕ) → stands_with leader number ≡ is_made_with table.nodes making number
-      alike number =
-          ap (λ (o : Option ℕ). is_made_at table.nodes number && (nat_eq leader number || is_same o (making_at table.nodes number))) is
-          ∙ ap (λ b. is_made_at table.nodes number && b) (absorbed number (nat_eq leader number) refl)
+  members_are leader inside on (Some making) is within = grind (arith, filter_agree, nat_eq, eqb-true, eq-eqb)
 
   -- ---- the group of a first number
 
@@ -292,18 +177,11 @@ module _ (table : NodeTable) (order : List ℕ) (whole : IsWhole table order)
   -- its nodes
   group_is : (leader : ℕ) (node : StoredNode) → Contains order leader → slice_get table.nodes leader ≡ Some node → is_made_at table.nodes leader ≡ true
       → filter (are_together (node_view table.names table.instances leader node)) (made order) ≡ told (members_of table.nodes members leader)
-  group_is leader node inside at on =
-      with_all leader node inside at order (λ number h. h)
-      ∙ ap told (members_are leader inside on (making_at table.nodes leader) refl (subst IsBelow (sym (making_of leader node at)) (below leader node at)))
+  group_is leader node inside at on = grind (arith, with_all, members_are, making_of, below)
 
   -- a number that is made has a node
   there_made : (number : ℕ) → is_made_at table.nodes number ≡ true → (node : StoredNode) × (slice_get table.nodes number ≡ Some node)
-  there_made number on = by (slice_get table.nodes number) refl on
-    where
-      by : (o : Option StoredNode) → slice_get table.nodes number ≡ o → option_map_or (λ one. not (is_leaf one.kind)) o false ≡ true
-          → (node : StoredNode) × (slice_get table.nodes number ≡ Some node)
-      by None is e = absurd (false≢true e)
-      by (Some node) is e = (node, is)
+  there_made number on = grind (arith, not, false≢true)
 
   -- whether it is the first in the group
   abbrev is_named : ℕ → List Node → Bool
@@ -342,23 +220,7 @@ module _ (table : NodeTable) (order : List ℕ) (whole : IsWhole table order)
 
   one_group : (number : ℕ) → Contains order number
       → map group_in (filter (is_leading (made order)) (if is_made_at table.nodes number then told (number ∷ []) else [])) ≡ group_at table members number
-  one_group number inside = by (is_made_at table.nodes number) refl
-    where
-      led : (b : Bool) (node : Node) (group : List Node) → group_in node ≡ group → map group_in (cond b (node ∷ []) []) ≡ (if b then group ∷ [] else [])
-      led true node group is = ap (λ (ns : List Node). ns ∷ []) is
-      led false node group is = refl
-
-      by : (b : Bool) → is_made_at table.nodes number ≡ b
-          → map group_in (filter (is_leading (made order)) (if b then told (number ∷ []) else []))
-          ≡ (if b && leads_by members number (making_at table.nodes number) then group_told number ∷ [] else [])
-      by false e = refl
-      by true e =
-          let there : (one : StoredNode) × (slice_get table.nodes number ≡ Some one) = there_made number e in
-          let node : Node = node_view table.names table.instances number there.0 in
-          ap (λ (o : Option StoredNode). map group_in (filter (is_leading (made order)) (cons_option (option_map (node_view table.names table.instances number) o) []))) there.1
-          ∙ led (is_leading (made order) (node_view table.names table.instances number there.0)) (node_view table.names table.instances number there.0) (group_told number)
-          (group_is number there.0 inside there.1 e)
-          ∙ ap (λ b. if b then group_told number ∷ [] else []) (leads_is number there.0 inside there.1 e)
+  one_group number inside = grind (arith, cond, there_made, group_is, leads_is)
 
   all_groups : (numbers : List ℕ) → ((number : ℕ) → Contains numbers number → Contains order number)
       → map group_in (filter (is_leading (made order)) (made numbers)) ≡ groups_left table members numbers
@@ -396,40 +258,15 @@ module _ (table : NodeTable) (members : List (List ℕ)) where
           ∙ more ∙ ap (λ n. left_of (drop n (number ∷ numbers))) next
 
   pub none_next : (numbers : List ℕ) (place : ℕ) → place ≡ prefix_len stays numbers → length numbers ≤ place → left_of numbers ≡ []
-  none_next numbers place is past =
-      skipped numbers ∙ ap (λ n. left_of (drop n numbers)) (sym is) ∙ ap left_of (drop_all place numbers past)
+  none_next numbers place is past = grind (arith, skipped, drop_all)
 
   pub some_next : (numbers : List ℕ) (place number : ℕ) (group : List Node) (rest : List ℕ) → place ≡ prefix_len stays numbers → place < length numbers
       → number ≡ get_or numbers place number → group ≡ nodes_view table (members_of table.nodes members number)
       → rest ≡ drop (place + 1) numbers → left_of numbers ≡ group ∷ left_of rest
-  some_next numbers place number group rest is within at told rest_is =
-      let stops : not (leads_at table.nodes members (get_or numbers (prefix_len stays numbers) number)) ≡ false =
-      prefix_len_stops stays numbers number (subst (λ n. n < length numbers) is within) in
-      let leads : leads_at table.nodes members number ≡ true =
-      not_not (leads_at table.nodes members number) (ap (λ n. not (leads_at table.nodes members n)) (at ∙ ap (λ n. get_or numbers n number) is) ∙ stops) in
-      skipped numbers ∙ ap (λ n. left_of (drop n numbers)) (sym is)
-      ∙ ap left_of (drop_more numbers place number within)
-      ∙ ap (λ n. left_of (n ∷ drop (place + 1) numbers)) (sym at)
-      ∙ ap (λ b. (if b then nodes_view table (members_of table.nodes members number) ∷ [] else []) ++ left_of (drop (place + 1) numbers)) leads
-      ∙ ap (λ (ns : List Node). ns ∷ left_of (drop (place + 1) numbers)) (sym told)
-      ∙ ap (λ (ns : List ℕ). group ∷ left_of ns) (sym rest_is)
-    where
-      not_not : (b : Bool) → not b ≡ false → b ≡ true
-      not_not true e = refl
-      not_not false e = absurd (true≢false e)
+  some_next numbers place number group rest is within at told rest_is = grind (arith, not, get_or, prefix_len_stops, length, skipped, drop_more, true≢false)
 
   -- nodes after others
   pub put_more : (numbers : List ℕ) (place number : ℕ) (before after : List Node) → place < length numbers → number ≡ get_or numbers place number
       → after ≡ before ++ nodes_view table (number ∷ [])
       → after ++ nodes_view table (drop (place + 1) numbers) ≡ before ++ nodes_view table (drop place numbers)
-  put_more numbers place number before after within at put =
-      ap (λ (ns : List Node). ns ++ nodes_view table (drop (place + 1) numbers)) put
-      ∙ append_assoc before (nodes_view table (number ∷ [])) (nodes_view table (drop (place + 1) numbers))
-      ∙ ap (λ (ns : List Node). before ++ ns) (sym (one_more (slice_get table.nodes number)))
-      ∙ ap (λ (ns : List ℕ). before ++ nodes_view table ns)
-      (ap (λ n. n ∷ drop (place + 1) numbers) at ∙ sym (drop_more numbers place number within))
-    where
-      one_more : (o : Option StoredNode) → cons_option (option_map (node_view table.names table.instances number) o) (nodes_view table (drop (place + 1) numbers))
-          ≡ cons_option (option_map (node_view table.names table.instances number) o) [] ++ nodes_view table (drop (place + 1) numbers)
-      one_more None = refl
-      one_more (Some node) = refl
+  put_more numbers place number before after within at put = grind (arith, append_assoc, drop_more)

@@ -1,5 +1,5 @@
 -- Numbers without repeats, and the inputs of parts.
-use Rattle.std.proofs.Common.{◌≡◌, ℕ, ◌+◌, ◌<◌, ◌≤◌, ◌||◌, Bool, not, get_or, List, [], ◌∷◌, ◌++◌, ap, append-nil, append_assoc, arith, fold, length, nat_eq, nat_lt, refl, sym, subst, ◌∙◌, false, true}
+use Rattle.std.proofs.Common.{◌≡◌, ℕ, ◌<◌, ◌≤◌, not, get_or, List, [], ◌∷◌, ◌++◌, ap, append-nil, append_assoc, arith, fold, length, nat_eq, nat_lt, refl, sym, subst, ◌∙◌, false, true}
 use Rattle.kt_graph.proofs.Common.{AllByRecursion, IsDistinct, list_any, IsPermutation, eq-eqb, eqb-false, eqb-true, ltb-true, ne_eqb, true≢false, flat_map-map, IsPermutation-sym, IsDistinct-cons, IsDistinct-head, IsDistinct-tail, IsDistinct-IsPermutation, and_first, and_second, HeldPart, HasOwnInputs, differ, inputs_held, numbers_without, others_held, rise, rise_after, with_number, AreRowsOf, IsPartWithin, StoredPart, input_numbers, order_only_numbers, part_stored, parts_stored}
 
 -- ---- numbers that rise
@@ -24,15 +24,10 @@ after_distinct first (number ∷ numbers) h =
 
 pub rising_distinct : (numbers : List ℕ) → rise numbers ≡ true → IsDistinct nat_eq numbers
 unfolding rise IsDistinct
-rising_distinct [] h = tt
-rising_distinct (first ∷ numbers) h = after_distinct first numbers h
+rising_distinct numbers h = grind (arith, after_distinct)
 
 eqb-flips : (x y : ℕ) → nat_eq x y ≡ nat_eq y x
-eqb-flips x y = by (nat_eq y x) refl
-  where
-    by : (b : Bool) → nat_eq y x ≡ b → nat_eq x y ≡ b
-    by true h = eq-eqb x y (sym (eqb-true y x h))
-    by false h = ne_eqb x y (λ e. eqb-false y x h (sym e))
+eqb-flips x y = grind (arith, nat_eq, eq-eqb, eqb-true, ne_eqb, eqb-false)
 
 pub sorted_distinct : (numbers sorted : List ℕ) → IsPermutation numbers sorted → rise sorted ≡ true → IsDistinct nat_eq numbers
 sorted_distinct numbers sorted moved h =
@@ -69,20 +64,12 @@ all_stay numbers h = all_after [] numbers h
 
 apart : (first : ℕ) (numbers : List ℕ) → not (list_any (nat_eq first) numbers) ≡ true → AllByRecursion (λ y. nat_eq first y ≡ false) numbers
 apart first [] h = tt
-apart first (number ∷ numbers) h = by (nat_eq first number) refl (apart first numbers)
-  where
-    by : (b : Bool) → nat_eq first number ≡ b
-        → (not (list_any (nat_eq first) numbers) ≡ true → AllByRecursion (λ y. nat_eq first y ≡ false) numbers)
-        → AllByRecursion (λ y. nat_eq first y ≡ false) (number ∷ numbers)
-    by true e rest = absurd (true≢false (sym h ∙ ap (λ (b : Bool). not (b || list_any (nat_eq first) numbers)) e))
-    by false e rest = (e, rest (sym (ap (λ (b : Bool). not (b || list_any (nat_eq first) numbers)) e) ∙ h))
+apart first (number ∷ numbers) h = grind (arith, nat_eq, not, true≢false, apart first numbers)
 
 pub differ_distinct : (numbers : List ℕ) → differ numbers ≡ true → IsDistinct nat_eq numbers
 unfolding differ IsDistinct
 differ_distinct [] h = tt
-differ_distinct (first ∷ numbers) h =
-    IsDistinct-cons nat_eq first numbers (apart first numbers (and_first (not (list_any (nat_eq first) numbers)) (differ numbers) h))
-    (differ_distinct numbers (and_second (not (list_any (nat_eq first) numbers)) (differ numbers) h))
+differ_distinct (first ∷ numbers) h = grind (arith, IsDistinct-cons, nat_eq, apart, and_first, not, and_second, differ_distinct numbers (and_second (not (list_any (nat_eq first) numbers)) (differ numbers) h))
 
 -- ---- the inputs of parts
 
@@ -91,10 +78,7 @@ inputs_same rows parts = ap (fold with_number []) (sym (flat_map-map (λ (part :
 
 pub order_only_same : (rows : List (List ℕ)) (parts : List HeldPart)
     → fold with_number [] (numbers_without (inputs_held rows parts) (others_held rows parts)) ≡ order_only_numbers (parts_stored rows parts)
-order_only_same rows parts =
-    ap (λ l. fold with_number [] (numbers_without l (others_held rows parts))) (inputs_same rows parts)
-    ∙ ap (λ l. fold with_number [] (numbers_without (input_numbers (parts_stored rows parts)) l))
-    (sym (flat_map-map (λ (part : StoredPart). part.order_only) (part_stored rows) parts))
+order_only_same rows parts = grind (arith, inputs_same, flat_map-map)
 
 pub one_alone : {A : Type 0} (xs : List A) (x : A) → 1 ≤ length xs → length xs < 2 → x ≡ get_or xs 0 x → xs ≡ x ∷ []
 one_alone [] x some few at = absurd (omega (arith, some))
@@ -104,15 +88,4 @@ one_alone (first ∷ second ∷ xs) x some few at = absurd (omega (arith, few))
 -- the rows of the only part
 pub own_rows : (rows : List (List ℕ)) (part : HeldPart) (parts : List HeldPart) → parts ≡ part ∷ [] → IsPartWithin (length rows) part → HasOwnInputs rows part
     → AreRowsOf rows (input_numbers (parts_stored rows parts)) (order_only_numbers (parts_stored rows parts)) part.needs
-own_rows rows part parts alone within own = subst (λ l. AreRowsOf rows (input_numbers (parts_stored rows l)) (order_only_numbers (parts_stored rows l)) part.needs) (sym alone)
-    (record {
-      within = within;
-      one = sym (all_stay needed own.distinct) ∙ sym (ap (fold with_number []) (append-nil needed));
-      other = own.none ∙ sym (ap (λ l. fold with_number [] (numbers_without (input_numbers (parts_stored rows (part ∷ []))) l)) (append-nil others ∙ own.none));
-    })
-  where
-    needed : List ℕ
-    needed = get_or rows part.needs []
-
-    others : List ℕ
-    others = get_or rows (part.needs + 1) []
+own_rows rows part parts alone within own = grind (arith, all_stay, append-nil, get_or)

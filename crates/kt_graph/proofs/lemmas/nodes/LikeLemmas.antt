@@ -1,5 +1,5 @@
 -- The node of a target that needs what the one before does.
-use Rattle.std.proofs.Common.{◌≡◌, ℕ, zero, suc, Bool, true, false, ◌||◌, ◌-◌, List, [], ◌∷◌, ◌++◌, length, map, fold, take, Option, Some, slice_get, nat_eq, refl, sym, ap, subst, ◌∙◌, arith}
+use Rattle.std.proofs.Common.{rules, ◌≡◌, ℕ, zero, suc, Bool, true, false, ◌||◌, ◌-◌, List, [], ◌∷◌, ◌++◌, length, map, fold, take, Option, Some, slice_get, nat_eq, refl, sym, ap, subst, ◌∙◌, arith}
 use Rattle.kt_graph.proofs.Common.{list_any, pointwise, append-nil, fold-append, none-some, same_Some, bytes_eq-Decides, head_is, Needs, Target, explicit_rules, has_recipe, is_double, rule_needs, Rule, needs_for, is_among, with_name, all_needs, suffixes_of, Text, GraphBuilder, Explicit, AreTold, BuildsNode, IsLeafOf, IsLikeLast, LastNeeds, sole_node, part_with, IsMaking, SayParts, SaysNeeds, SaysNode, SaysPart, StandFor, HasOnePart, StoredNode, StoredPart, node_like, part_like, stored_at, Node, Part, group_of, joined_needs, needs_after, node_of, node_with, other_rules, own_part, part_of}
 use Rattle.std.proofs.Math.Bool.{or-true}
 use Rattle.kt_rules.specs.declared.entry.Kind.{Kind}
@@ -27,11 +27,7 @@ stand_reached names (name ∷ expected) (number ∷ numbers) h =
 
 needs_reached : (names : List Text) (needs : Needs) (first second : List ℕ) → SaysNeeds names needs first second
     → fold with_name names (all_needs needs ++ []) ≡ names
-needs_reached names needs first second h =
-    ap (fold with_name names) (append-nil (all_needs needs))
-    ∙ fold-append with_name names needs.prerequisites needs.order_only
-    ∙ ap (λ (l : List Text). fold with_name l needs.order_only) (stand_reached names needs.prerequisites first h.prerequisites)
-    ∙ stand_reached names needs.order_only second h.order_only
+needs_reached names needs first second h = grind (arith, append-nil, fold-append, stand_reached)
 
 -- ---- one rule with a recipe
 
@@ -58,9 +54,7 @@ one_alike made (other ∷ more ∷ rest) e = cc
 
 one_part : (names : List Text) (name : Text) (expected : Part) (parts : List StoredPart) → SayParts names name (expected ∷ []) parts
     → (part : StoredPart) × (parts ≡ part ∷ []) × SaysPart names name expected part
-one_part names name expected [] h = absurd h
-one_part names name expected (part ∷ []) h = (part, refl, h.0)
-one_part names name expected (part ∷ more ∷ rest) h = absurd h.1
+one_part names name expected parts h = grind arith
 
 -- what the last node needs, the next one does
 pub last_needs : (builder : GraphBuilder) (name : Text) (made : Rule × Target) → AreTold builder → IsLikeLast builder name made

@@ -1,6 +1,6 @@
 -- What implicit nodes need: it is known, or a rule makes it.
-use Rattle.std.proofs.Common.{◌≡◌, ℕ, suc, ◌+◌, ◌<◌, Bool, true, false, not, ◌&&◌, ◌||◌, if◌then◌else◌, List, [], ◌∷◌, ◌++◌, length, filter, map, Option, Some, None, is_some, refl, sym, ap, ◌∙◌, subst, true≢false, ◌⊎◌, inl, inr, ⊎_elim, arith, bytes_eq, fold, nat_le, option_map, slice_get}
-use Rattle.kt_graph.proofs.Common.{option_and_then, option_or, option_to_list, Contains, filter_map, find, flat_map, list_all, list_any, same_text, and_from, and_parts, not_from_false, Contains-append_cases, Contains-append_left, Contains-append_right, none-some, same_Some, first_or_rest, from_flat_map, in_first, in_flat_map, in_rest, none_in_empty, at_place, Text, Target, is_among, without_repeats, Rule, needs_for, all_needs, is_suffix_rule, suffixes_of, explicit_rules, is_double, is_explicit, is_made, is_phony, patterns_of, rules_of, target_rules, DoubleColon, Explicit, Implicit, Phony, Leaf, Candidate, are_short, candidate_by, candidate_of, candidate_with, candidates_for, fit_of, matching_from, shorter, shortest, size_of, unless_long, without_any, known_names, listed_names, named_by, named_with, choice_of, fitting, is_begun, is_inferred, is_met, is_used, open_candidates, unknown_needs, with_rule, Node, all_inputs, chosen_rule, double_node, implicit_node, inputs_of, is_leaf, joined_needs, kind_without, node_by, node_of, order_only_of, searched, used_rule, HasMadeInputs, IsGraph}
+use Rattle.std.proofs.Common.{rules, ◌≡◌, ℕ, suc, ◌+◌, ◌<◌, Bool, true, false, not, ◌&&◌, ◌||◌, if◌then◌else◌, List, [], ◌∷◌, ◌++◌, length, filter, map, Option, Some, None, is_some, refl, sym, ap, ◌∙◌, subst, true≢false, ◌⊎◌, inl, inr, ⊎_elim, arith, bytes_eq, fold, nat_le, option_map}
+use Rattle.kt_graph.proofs.Common.{option_and_then, option_or, option_to_list, Contains, filter_map, find, flat_map, list_all, list_any, same_text, and_from, and_parts, not_from_false, Contains-append_cases, Contains-append_left, Contains-append_right, none-some, same_Some, first_or_rest, from_flat_map, in_first, in_flat_map, in_rest, none_in_empty, at_place, Text, Target, is_among, without_repeats, Rule, needs_for, all_needs, is_suffix_rule, suffixes_of, explicit_rules, is_double, is_explicit, is_made, is_phony, patterns_of, rules_of, target_rules, Implicit, Candidate, are_short, candidate_by, candidate_of, candidates_for, matching_from, shorter, shortest, size_of, unless_long, without_any, known_names, listed_names, named_by, named_with, choice_of, fitting, is_begun, is_inferred, is_met, is_used, open_candidates, unknown_needs, with_rule, Node, all_inputs, chosen_rule, double_node, implicit_node, inputs_of, is_leaf, joined_needs, node_by, node_of, order_only_of, searched, used_rule, HasMadeInputs, IsGraph}
 use Rattle.kt_graph.proofs.lemmas.search.GrowthLemmas.{from_by_size, tree_grows}
 use Rattle.kt_graph.proofs.lemmas.Membership.{any_passes, each_passes, kept_by_filter}
 use Rattle.kt_graph.proofs.lemmas.search.TreeLemmas.{found_as_trees}
@@ -11,11 +11,7 @@ use Rattle.kt_graph.proofs.lemmas.nodes.ReachLemmas.{reached_on}
 
 pub found_in : {X : Type 0} (p : X → Bool) (xs : List X) (x : X) → find p xs ≡ Some x → Contains xs x × (p x ≡ true)
 found_in p [] x e = absurd (none-some x e)
-found_in p (y ∷ xs) x e = by (p y) refl e (found_in p xs x)
-  where
-    by : (b : Bool) → p y ≡ b → (if b then Some y else find p xs) ≡ Some x → (find p xs ≡ Some x → Contains xs x × (p x ≡ true)) → Contains (y ∷ xs) x × (p x ≡ true)
-    by true h e later = let same = same_Some y x e in (subst (λ z. Contains (y ∷ xs) z) same (in_first y xs), ap p (sym same) ∙ h)
-    by false h e later = let found = later e in (in_rest y x xs found.0, found.1)
+found_in p (y ∷ xs) x e = grind (arith, in_first, in_rest, found_in p xs x)
 
 -- ---- the rules of candidates
 
@@ -37,11 +33,7 @@ module _ (number : ℕ) where
       ∙ shorter_rule candidate candidates (h candidate (in_first candidate candidates)) (λ other c. h other (in_rest candidate other candidates c))
 
   by_rule : (rule : Rule) (name : Text) (target : Target) (one : Candidate) → candidate_by number rule name target ≡ Some one → one.rule ≡ number
-  by_rule rule name target one e = by (fit_of target.name name) e
-    where
-      by : (o : Option (Text × Text)) → option_map (candidate_with number rule target.name) o ≡ Some one → one.rule ≡ number
-      by None e = absurd (none-some one e)
-      by (Some fit) e = ap (λ (c : Candidate). c.rule) (sym (same_Some (candidate_with number rule target.name fit) one e))
+  by_rule rule name target one e = grind (arith, none-some)
 
   candidate_rule : (rule : Rule) (name : Text) (one : Candidate) → candidate_of number rule name ≡ Some one → one.rule ≡ number
   unfolding candidate_of
@@ -59,8 +51,7 @@ module _ (number : ℕ) where
           (λ other c. let found = Contains-from_filter_map (candidate_by number rule name) rule.targets other c in by_rule rule name found.0 other found.2) f
 
 pub in_option : {X : Type 0} (o : Option X) (x : X) → Contains (option_to_list o) x → o ≡ Some x
-in_option None x c = absurd (none_in_empty x c)
-in_option (Some y) x c = ⊎_elim (λ e. ap Some e) (λ none. absurd (none_in_empty x none)) (first_or_rest y x [] c)
+in_option o x c = grind (arith, none_in_empty, ⊎_elim, first_or_rest)
 
 matching_rule : (number : ℕ) (rules : List Rule) (name : Text) (one : Candidate) → Contains (matching_from number rules name) one → one.rule < number + length rules
 unfolding matching_from
@@ -123,20 +114,7 @@ module _ (rules : List Rule) (known : List Text) (name : Text) where
   made = explicit_rules rules name
 
   pub searched_choice : (found : Candidate × Rule) → searched rules known name ≡ Some found → choice_of (patterns_of rules) known name ≡ Some found.0
-  searched_choice found e = by (is_phony rules name) e
-    where
-      drawn : (one : Candidate) (o : Option Rule) → option_map (λ rule. (one, rule)) o ≡ Some found → one ≡ found.0
-      drawn one None e = absurd (none-some found e)
-      drawn one (Some rule) e = ap (λ pair. pair.0) (same_Some (one, rule) found e)
-
-      chosen : (o : Option Candidate) → option_and_then (chosen_rule (patterns_of rules)) o ≡ Some found → o ≡ Some found.0
-      chosen None e = absurd (none-some found e)
-      chosen (Some one) e = ap Some (drawn one (slice_get (patterns_of rules) one.rule) e)
-
-      by : (b : Bool) → (if b then None else option_and_then (chosen_rule (patterns_of rules)) (choice_of (patterns_of rules) known name)) ≡ Some found
-          → choice_of (patterns_of rules) known name ≡ Some found.0
-      by true e = absurd (none-some found e)
-      by false e = chosen (choice_of (patterns_of rules) known name) e
+  searched_choice found e = grind (arith, none-some)
 
   -- an implicit node is that of a candidate that is chosen
   pub record IsChosen (node : Node) : Type 0 where
@@ -146,47 +124,22 @@ module _ (rules : List Rule) (known : List Text) (name : Text) where
     pub whole : node ≡ implicit_node name made chosen rule
 
   implicit_by : (u : Option (Rule × Target)) (s : Option (Candidate × Rule)) → searched rules known name ≡ s → (node_by rules name made u s).kind ≡ Implicit → IsChosen (node_by rules name made u s)
-  implicit_by (Some used) s f e = let h : Explicit ≡ Implicit = e in absurd (cc)
-  implicit_by None (Some found) f e = record { chosen = found.0; rule = found.1; is = searched_choice found f; whole = refl }
-  implicit_by None None f e = absurd (by made (is_phony rules name) e)
-    where
-      by : (rules : List (Rule × Target)) (b : Bool) → kind_without rules b ≡ Implicit → ⊥
-      by (one ∷ others) b e = let h : Explicit ≡ Implicit = e in cc
-      by [] true e = let h : Phony ≡ Implicit = e in cc
-      by [] false e = let h : Leaf ≡ Implicit = e in cc
+  implicit_by u s f e = grind (arith, searched_choice)
 
   pub implicit_is : (node_of rules known name).kind ≡ Implicit → IsChosen (node_of rules known name)
   unfolding node_of
-  implicit_is e = by (list_any (λ rule. is_double rule.0.kind) made) e
-    where
-      by : (b : Bool) → (if b then double_node (suffixes_of rules) name made else node_by rules name made (used_rule made) (searched rules known name)).kind ≡ Implicit
-          → IsChosen (if b then double_node (suffixes_of rules) name made else node_by rules name made (used_rule made) (searched rules known name))
-      by true e = let h : DoubleColon ≡ Implicit = e in absurd (cc)
-      by false e = implicit_by (used_rule made) (searched rules known name) refl e
+  implicit_is e = grind (arith, implicit_by)
 
   name_by : (u : Option (Rule × Target)) (s : Option (Candidate × Rule)) → (node_by rules name made u s).name ≡ name
-  name_by (Some used) s = refl
-  name_by None (Some found) = refl
-  name_by None None = refl
+  name_by u s = grind arith
 
   -- a node has its name
   pub node_name : (node_of rules known name).name ≡ name
   unfolding node_of
-  node_name = by (list_any (λ rule. is_double rule.0.kind) made)
-    where
-      by : (b : Bool) → (if b then double_node (suffixes_of rules) name made else node_by rules name made (used_rule made) (searched rules known name)).name ≡ name
-      by true = refl
-      by false = name_by (used_rule made) (searched rules known name)
+  node_name = grind (arith, name_by)
 
   not_leaf_by : (u : Option (Rule × Target)) (s : Option (Candidate × Rule)) → (s ≡ None → is_phony rules name ≡ true) → is_leaf (node_by rules name made u s).kind ≡ false
-  not_leaf_by (Some used) s h = refl
-  not_leaf_by None (Some found) h = refl
-  not_leaf_by None None h = by made (is_phony rules name) (h refl)
-    where
-      by : (rules : List (Rule × Target)) (b : Bool) → b ≡ true → is_leaf (kind_without rules b) ≡ false
-      by (one ∷ others) b e = refl
-      by [] true e = refl
-      by [] false e = absurd (true≢false (sym e))
+  not_leaf_by u s h = grind (arith, true≢false)
 
   -- if the search finds a rule, or a name is phony, its node is no leaf
   pub found_no_leaf : is_some (choice_of (patterns_of rules) known name) ≡ true → is_leaf (node_of rules known name).kind ≡ false

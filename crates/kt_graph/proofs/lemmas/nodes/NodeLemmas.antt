@@ -1,5 +1,5 @@
 -- Nodes of the definitions, and numbers for their names.
-use Rattle.std.proofs.Common.{◌≡◌, ℕ, suc, zero, ◌<◌, Bool, true, false, not, ◌||◌, cond, if◌then◌else◌, ⊎_elim, List, [], ◌∷◌, ◌++◌, length, get_or, map, filter, fold, nat_eq, All, refl, sym, ap, ◌∙◌, subst}
+use Rattle.std.proofs.Common.{arith, ◌≡◌, ℕ, suc, zero, ◌<◌, Bool, true, false, not, ◌||◌, cond, if◌then◌else◌, ⊎_elim, List, [], ◌∷◌, ◌++◌, length, get_or, map, filter, fold, nat_eq, All, refl, sym, ap, ◌∙◌, subst}
 use Rattle.kt_graph.proofs.Common.{flat_map, list_any, bytes_eq, cases_eq, eq-eqb, ne_eqb, eqb-true, false≢true, map-append, All-append, All-head, All-nil, All-push, All-tail, filter-append, bytes_eq-Decides, Text, is_among, with_name, without_repeats, Instance as Held, StoredPart, StoredNode, AreDistinct, Part, inputs_of, order_only_of, HasNumbers, IsNumbered, AreBelow, numbers_without, with_number, input_numbers, name_at, names_at, node_view, part_view, stored_at}
 
 -- ---- numbers of names
@@ -7,14 +7,7 @@ use Rattle.kt_graph.proofs.Common.{flat_map, list_any, bytes_eq, cases_eq, eq-eq
 -- two numbers are equal if their names are
 pub same_number : (names : List Text) → AreDistinct names → (one other : ℕ) → one < length names → other < length names
     → bytes_eq (name_at names one) (name_at names other) ≡ nat_eq one other
-same_number names distinct one other first second = ⊎_elim
-    (λ (e : one ≡ other). (bytes_eq-Decides (name_at names one) (name_at names other)).1 (ap (name_at names) e) ∙ sym (eq-eqb one other e))
-    (λ differ. by differ (bytes_eq (name_at names one) (name_at names other)) refl ∙ sym (ne_eqb one other differ))
-    (cases_eq one other)
-  where
-    by : (one ≡ other → ⊥) → (b : Bool) → bytes_eq (name_at names one) (name_at names other) ≡ b → bytes_eq (name_at names one) (name_at names other) ≡ false
-    by differ false e = e
-    by differ true e = absurd (differ (distinct one other first second ((bytes_eq-Decides (name_at names one) (name_at names other)).0 e)))
+same_number names distinct one other first second = grind (arith, ⊎_elim, bytes_eq-Decides, eq-eqb, ne_eqb, cases_eq)
 
 -- so a name is among others if its number is among theirs
 pub among_numbers : (names : List Text) → AreDistinct names → (numbers : List ℕ) (number : ℕ) → number < length names → AreBelow (length names) numbers
@@ -28,14 +21,7 @@ among_numbers names distinct (first ∷ numbers) number below all =
 -- a name is added to others if its number is
 with_one : (names : List Text) → AreDistinct names → (numbers : List ℕ) (number : ℕ) → number < length names → AreBelow (length names) numbers
     → with_name (names_at names numbers) (name_at names number) ≡ names_at names (with_number numbers number)
-with_one names distinct numbers number below all =
-    ap (λ b. if b then names_at names numbers else names_at names numbers ++ name_at names number ∷ []) (among_numbers names distinct numbers number below all)
-    ∙ by (list_any (nat_eq number) numbers)
-  where
-    by : (b : Bool) → (if b then names_at names numbers else names_at names numbers ++ name_at names number ∷ [])
-        ≡ names_at names (if b then numbers else numbers ++ number ∷ [])
-    by true = refl
-    by false = sym (map-append (name_at names) numbers (number ∷ []))
+with_one names distinct numbers number below all = grind (arith, among_numbers, nat_eq, map-append)
 
 below_one : (count : ℕ) (numbers : List ℕ) (number : ℕ) → number < count → AreBelow count numbers → AreBelow count (with_number numbers number)
 below_one count numbers number below all = by (list_any (nat_eq number) numbers)
@@ -76,16 +62,7 @@ names_pass names p q (number ∷ numbers) same =
 
 any_passing : (p : ℕ → Bool) (number : ℕ) → p number ≡ true → (numbers : List ℕ) → list_any (nat_eq number) (filter p numbers) ≡ list_any (nat_eq number) numbers
 any_passing p number on [] = refl
-any_passing p number on (first ∷ numbers) = by (any_passing p number on numbers) (p first) refl
-  where
-    apart : p first ≡ false → (b : Bool) → nat_eq number first ≡ b → nat_eq number first ≡ false
-    apart e false same = same
-    apart e true same = absurd (false≢true (sym e ∙ ap p (sym (eqb-true number first same)) ∙ on))
-
-    by : list_any (nat_eq number) (filter p numbers) ≡ list_any (nat_eq number) numbers → (b : Bool) → p first ≡ b
-        → list_any (nat_eq number) (cond b (first ∷ filter p numbers) (filter p numbers)) ≡ (nat_eq number first || list_any (nat_eq number) numbers)
-    by rest true e = ap (λ b. nat_eq number first || b) rest
-    by rest false e = rest ∙ ap (λ b. b || list_any (nat_eq number) numbers) (sym (apart e (nat_eq number first) refl))
+any_passing p number on (first ∷ numbers) = grind (arith, nat_eq, false≢true, eqb-true, cond, any_passing p number on numbers)
 
 pass_one : (p : ℕ → Bool) (numbers : List ℕ) (number : ℕ) → filter p (with_number numbers number)
     ≡ fold with_number (filter p numbers) (filter p (number ∷ []))
@@ -109,15 +86,7 @@ pass_one p numbers number = by (p number) refl
 
 pass_all : (p : ℕ → Bool) (more numbers : List ℕ) → filter p (fold with_number numbers more) ≡ fold with_number (filter p numbers) (filter p more)
 pass_all p [] numbers = refl
-pass_all p (number ∷ more) numbers =
-    pass_all p more (with_number numbers number)
-    ∙ ap (λ (acc : List ℕ). fold with_number acc (filter p more)) (pass_one p numbers number)
-    ∙ by (p number)
-  where
-    by : (b : Bool) → fold with_number (fold with_number (filter p numbers) (cond b (number ∷ []) [])) (filter p more)
-        ≡ fold with_number (filter p numbers) (cond b (number ∷ filter p more) (filter p more))
-    by true = refl
-    by false = refl
+pass_all p (number ∷ more) numbers = grind (arith, pass_one, cond, pass_all p more (with_number numbers number))
 
 -- ---- what a node needs
 
@@ -130,16 +99,12 @@ other_numbers parts = flat_map (λ (part : StoredPart). part.order_only) parts
 needed_view : (names : List Text) (name : Text) (parts : List StoredPart)
     → flat_map (λ (part : Part). part.needs.prerequisites) (map (part_view names name) parts) ≡ names_at names (needed_numbers parts)
 needed_view names name [] = refl
-needed_view names name (part ∷ parts) =
-    ap (λ (rest : List Text). names_at names part.prerequisites ++ rest) (needed_view names name parts)
-    ∙ sym (map-append (name_at names) part.prerequisites (needed_numbers parts))
+needed_view names name (part ∷ parts) = grind (arith, map-append, needed_view names name parts)
 
 other_told : (names : List Text) (name : Text) (parts : List StoredPart)
     → flat_map (λ (part : Part). part.needs.order_only) (map (part_view names name) parts) ≡ names_at names (other_numbers parts)
 other_told names name [] = refl
-other_told names name (part ∷ parts) =
-    ap (λ (rest : List Text). names_at names part.order_only ++ rest) (other_told names name parts)
-    ∙ sym (map-append (name_at names) part.order_only (other_numbers parts))
+other_told names name (part ∷ parts) = grind (arith, map-append, other_told names name parts)
 
 needed_below : (count : ℕ) (parts : List StoredPart) → All (λ (part : StoredPart). IsNumbered count part) parts → AreBelow count (needed_numbers parts)
 needed_below count [] all = All-nil (λ n. n < count)

@@ -41,10 +41,7 @@ stand_more names new earlier name numbers number grown at h =
 
 needs_kept : (names needed : List Text) (expected : Needs) (first second : List ℕ) → SaysNeeds names expected first second
     → SaysNeeds (fold with_name names needed) expected first second
-needs_kept names needed expected first second h = record {
-  prerequisites = stand_kept names needed expected.prerequisites first h.prerequisites;
-  order_only = stand_kept names needed expected.order_only second h.order_only;
-}
+needs_kept names needed expected first second h = grind (arith, stand_kept)
 
 part_kept : (names needed : List Text) (name : Text) (expected : Part) (part : StoredPart) → SaysPart names name expected part
     → SaysPart (fold with_name names needed) name expected part
@@ -73,8 +70,7 @@ parts_push names name (first ∷ expected) (other ∷ parts) one part h last = (
 -- one more part after others
 pub parts_more : (names new needed : List Text) (name : Text) (expected : List Part) (parts : List StoredPart) (one : Part) (part : StoredPart) → new ≡ fold with_name names needed
     → SayParts names name expected parts → SaysPart new name one part → SayParts new name (expected ++ one ∷ []) (parts ++ part ∷ [])
-parts_more names new needed name expected parts one part grown h last =
-    parts_push new name expected parts one part (subst (λ l. SayParts l name expected parts) (sym grown) (parts_kept names needed name expected parts h)) last
+parts_more names new needed name expected parts one part grown h last = grind (arith, parts_push, parts_kept)
 
 -- ---- steps
 
@@ -83,10 +79,7 @@ adds_none names numbers = record { reached = refl; say = λ earlier h. subst (λ
 
 pub adds_after : (names middle new first second : List Text) (numbers some more : List ℕ) → AddsNumbers names numbers first middle some → AddsNumbers middle some second new more
     → AddsNumbers names numbers (first ++ second) new more
-adds_after names middle new first second numbers some more one other = record {
-  reached = other.reached ∙ ap (λ l. fold with_name l second) one.reached ∙ sym (fold-append with_name names first second);
-  say = λ earlier h. subst (λ l. StandFor new l more) (append_assoc earlier first second) (other.say (earlier ++ first) (one.say earlier h));
-}
+adds_after names middle new first second numbers some more one other = grind (arith, fold-append, append_assoc)
 
 -- the numbers of the names before the remaining ones
 abbrev pub AddsUpTo : List Text → List ℕ → List Text → List Text → List Text → List ℕ → Type 0
@@ -106,8 +99,7 @@ added_more names middle new all left rest name numbers some more number is grown
 )
 
 pub added_all : (names new all left : List Text) (numbers more : List ℕ) → left ≡ [] → AddsUpTo names numbers all left new more → AddsNumbers names numbers all new more
-added_all names new all left numbers more none h =
-    subst (λ l. AddsNumbers names numbers l new more) (sym (append-nil h.0) ∙ ap (λ l. h.0 ++ l) (sym none) ∙ h.1) h.2
+added_all names new all left numbers more none h = grind (arith, append-nil)
 
 -- what the elements up to a place and one more give
 pub taken_more : {A B : Type 0} (f : B → List Text) (g : A → B) (xs : List A) (i : ℕ) (x : A) → i < length xs → x ≡ get_or xs i x
@@ -130,5 +122,4 @@ both_said names middle new first second none also some numbers empty empty_too o
 
 pub both_reached : (names middle new first second : List Text) (none more some numbers : List ℕ) → AddsNumbers names none first middle some
     → AddsNumbers middle more second new numbers → new ≡ fold with_name names (first ++ second)
-both_reached names middle new first second none more some numbers one other =
-    other.reached ∙ ap (λ l. fold with_name l second) one.reached ∙ sym (fold-append with_name names first second)
+both_reached names middle new first second none more some numbers one other = grind (arith, fold-append)

@@ -1,5 +1,5 @@
 -- Explicit rules of a name are of targets with this name.
-use Rattle.std.proofs.Common.{◌≡◌, ◌<◌, ◌∙◌, ℕ, Bool, true, false, List, [], ◌∷◌, length, get_or, map, filter, cond, not, Option, None, Some, IfSome, ap, refl, sym, subst}
+use Rattle.std.proofs.Common.{arith, rules, ◌≡◌, ◌<◌, ◌∙◌, ℕ, Bool, List, [], ◌∷◌, length, get_or, map, filter, cond, not, Option, None, Some, IfSome, ap, sym, subst}
 use Rattle.kt_graph.proofs.Common.{last_or, bytes_eq, flat_map, get_or-map, length-map, All-cons, All-filter, All-head, All-nil, All-tail, bytes_eq-Decides, none-some, same_Some, Text, Target, Rule, explicit_rules, has_recipe, is_suffix_rule, rule_view, rules_of, suffixes_of, target_rules, used_rule, AreOf}
 use Rattle.kt_rules.specs.declared.book.target_rule.TargetRule.{TargetRule}
 
@@ -11,11 +11,7 @@ names_it name made = bytes_eq name made.1.name
 
 those_of : (name : Text) (rules : List (Rule × Target)) → AreOf name (filter (names_it name) rules)
 those_of name [] = All-nil (IsOf name)
-those_of name (made ∷ rules) = by (names_it name made) refl (those_of name rules)
-  where
-    by : (b : Bool) → names_it name made ≡ b → AreOf name (filter (names_it name) rules) → AreOf name (cond b (made ∷ filter (names_it name) rules) (filter (names_it name) rules))
-    by true e rest = All-cons (IsOf name) made (filter (names_it name) rules) (sym ((bytes_eq-Decides name made.1.name).0 e)) rest
-    by false e rest = rest
+those_of name (made ∷ rules) = grind (arith, cond, All-cons, bytes_eq-Decides, those_of name rules)
 
 pub explicit_of : (rules : List Rule) (name : Text) (made : List (Rule × Target)) → made ≡ explicit_rules rules name → AreOf name made
 unfolding explicit_rules rules_of
@@ -34,8 +30,7 @@ last_of : (name : Text) (rules : List (Rule × Target)) (before : Option (Rule �
     → last_or before rules ≡ Some made → IsOf name made
 last_of name [] None made all first is = absurd (none-some made is)
 last_of name [] (Some one) made all first is = subst (IsOf name) (same_Some one made is) first
-last_of name (one ∷ rules) before made all first is =
-    last_of name rules (Some one) made (All-tail (IsOf name) one rules all) (All-head (IsOf name) one rules all) is
+last_of name (one ∷ rules) before made all first is = grind (arith, All-tail, All-head, last_of name rules (Some one) made (All-tail (IsOf name) one rules all) (All-head (IsOf name) one rules all) is)
 
 -- so is the one whose recipe is used
 pub used_of : (name : Text) (rules : List (Rule × Target)) (made : Rule × Target) → AreOf name rules → used_rule rules ≡ Some made → IsOf name made

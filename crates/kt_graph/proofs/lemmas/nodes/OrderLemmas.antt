@@ -25,11 +25,7 @@ single-swap xs a b in_a in_b single i j d in_i in_j same =
 
 single-range : (n : ℕ) → IsSingle (range_with_len 0 n)
 unfolding IsSingle
-single-range n i j d in_i in_j same =
-    let long : length (range_with_len 0 n) ≡ n = length-range_with_len 0 n in
-    let at_i : get_or (range_with_len 0 n) i d ≡ 0 + i = get_or-range_with_len 0 n i d (omega arith) in
-    let at_j : get_or (range_with_len 0 n) j d ≡ 0 + j = get_or-range_with_len 0 n j d (omega arith) in
-    omega arith
+single-range n i j d in_i in_j same = grind (arith, length, length-range_with_len, get_or, get_or-range_with_len)
 
 -- numbers in another order have no repeats
 single_permuted : (n : ℕ) (order : List ℕ) → IsPermutation (range_with_len 0 n) order → IsSingle order
@@ -37,9 +33,7 @@ single_permuted n order moved =
     IsPermutation-keeps (range_with_len 0 n) IsSingle (single-range n) (λ l i j in_i in_j single. single-swap l i j in_i in_j single) order moved
 
 within_range : (n : ℕ) → All (λ k. k < n) (range_with_len 0 n)
-within_range n k d within =
-    let long : length (range_with_len 0 n) ≡ n = length-range_with_len 0 n in
-    rw (get_or-range_with_len 0 n k d (omega arith)) (omega arith)
+within_range n k d within = grind (arith, length, length-range_with_len, get_or-range_with_len)
 
 -- and have all numbers
 pub has_number : (n : ℕ) (order : List ℕ) → IsPermutation (range_with_len 0 n) order → (number : ℕ) → Contains order number ↔ (number < n)
@@ -153,11 +147,7 @@ sorted_order names fronts sorted distinct first moved up =
 
 range_more : (a n : ℕ) → range_with_len a n ++ (a + n) ∷ [] ≡ range_with_len a (n + 1)
 range_more a zero = ap (λ k. k ∷ []) (add-zero a)
-range_more a (suc n) =
-    let more : suc n + 1 ≡ suc (suc n) = omega arith in
-    let next : n + 1 ≡ suc n = omega arith in
-    let last : a + suc n ≡ a + 1 + n = omega arith in
-    rw (more, last) (ap (λ rest. a ∷ rest) (range_more (a + 1) n ∙ ap (range_with_len (a + 1)) next))
+range_more a (suc n) = grind (arith, range_more (a + 1) n)
 
 pub fronts_more : (names : List Text) (number : ℕ) (fronts more : List Front) (front : Front) → AreFronts names number fronts
     → IsFront names front → front.number ≡ number → more ≡ fronts ++ front ∷ [] → AreFronts names (number + 1) more

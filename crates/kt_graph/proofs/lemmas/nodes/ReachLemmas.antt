@@ -1,5 +1,5 @@
 -- Names that are reached one after another, and what their nodes need.
-use Rattle.std.proofs.Common.{◌≡◌, Bool, true, false, not, cond, if◌then◌else◌, List, [], ◌∷◌, ◌++◌, filter, fold, Contains, All, refl, sym, ap, subst, arith}
+use Rattle.std.proofs.Common.{rules, ◌≡◌, Bool, true, false, not, cond, if◌then◌else◌, List, [], ◌∷◌, ◌++◌, filter, fold, Contains, All, refl, sym, ap, subst, arith}
 use Rattle.kt_graph.proofs.Common.{flat_map, All-nil, All-cons, All-head, All-tail, All-push, All-append, All-weaker, All-contains, Contains-append_left, Contains-append_right, Contains-push, Contains-get_or, Text, Rule, is_among, with_name, without_repeats, needed_by, Node, all_inputs, inputs_of, node_of, order_only_of, HasInput, IsReached, Leads}
 use Rattle.kt_graph.proofs.lemmas.search.UnknownLemmas.{from_among}
 use Rattle.kt_rules.proofs.FindLemmas.{names_grow}
@@ -31,8 +31,7 @@ added_only P names name false h p = All-push P names name h p
 -- and nothing else
 pub reached_only : (P : Text → Type 0) (needed names : List Text) → All P names → All P needed → All P (fold with_name names needed)
 reached_only P [] names h k = h
-reached_only P (name ∷ needed) names h k =
-    reached_only P needed (with_name names name) (added_only P names name (is_among names name) h (All-head P name needed k)) (All-tail P name needed k)
+reached_only P (name ∷ needed) names h k = grind (arith, added_only, All-head, All-tail, reached_only P needed (with_name names name) (added_only P names name (is_among names name) h (All-head P name needed k)) (All-tail P name needed k))
 
 -- ---- what a node needs
 
@@ -43,11 +42,7 @@ kept_in p x y xs false h = h
 -- a filter keeps what passes
 filter_keeps : {A : Type 0} (p : A → Bool) (xs : List A) → All (λ x. p x ≡ true → Contains (filter p xs) x) xs
 filter_keeps p [] = All-nil (λ x. p x ≡ true → Contains [] x)
-filter_keeps p (y ∷ xs) =
-    All-cons (λ x. p x ≡ true → Contains (filter p (y ∷ xs)) x) y xs
-    (λ t. subst (λ b. Contains (cond b (y ∷ filter p xs) (filter p xs)) y) (sym t) (Contains-get_or (y ∷ filter p xs) 0 y (omega arith)))
-    (All-weaker (λ x. p x ≡ true → Contains (filter p xs) x) (λ x. p x ≡ true → Contains (filter p (y ∷ xs)) x)
-    (λ x h t. kept_in p x y (filter p xs) (p y) (h t)) xs (filter_keeps p xs))
+filter_keeps p (y ∷ xs) = grind (arith, All-cons, cond, Contains-get_or, All-weaker, kept_in, filter_keeps p xs)
 
 beside : (inputs others : List Text) (name : Text) (b : Bool) → is_among inputs name ≡ b → Contains others name
     → Contains (inputs ++ filter (λ other. not (is_among inputs other)) others) name

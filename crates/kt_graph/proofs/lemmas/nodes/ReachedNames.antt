@@ -10,27 +10,11 @@ use Rattle.kt_list.proofs.OverLemmas.{slice_get-left}
 from_after : (i : ℕ) (xs ys : List Text) (name : Text)
     → position_from (bytes_eq name) i (xs ++ ys) ≡ option_or (position_from (bytes_eq name) i xs) (position_from (bytes_eq name) (i + length xs) ys)
 from_after i [] ys name = let here : i ≡ i + 0 = omega arith in ap (λ n. position_from (bytes_eq name) n ys) here
-from_after i (x ∷ xs) ys name = by (bytes_eq name x) refl (from_after (i + 1) xs ys name)
-  where
-    by : (b : Bool) → bytes_eq name x ≡ b
-        → position_from (bytes_eq name) (i + 1) (xs ++ ys) ≡ option_or (position_from (bytes_eq name) (i + 1) xs) (position_from (bytes_eq name) (i + 1 + length xs) ys)
-        → position_from (bytes_eq name) i ((x ∷ xs) ++ ys)
-        ≡ option_or (position_from (bytes_eq name) i (x ∷ xs)) (position_from (bytes_eq name) (i + length (x ∷ xs)) ys)
-    by true e rest = rw e refl
-    by false e rest =
-        let on : i + 1 + length xs ≡ i + suc (length xs) = omega arith in
-        rw e (rest ∙ ap (λ n. option_or (position_from (bytes_eq name) (i + 1) xs) (position_from (bytes_eq name) n ys)) on)
+from_after i (x ∷ xs) ys name = grind (arith, length, from_after (i + 1) xs ys name)
 
 from_shift : (i j : ℕ) (ys : List Text) (name : Text) → position_from (bytes_eq name) (i + j) ys ≡ option_map (λ n. i + n) (position_from (bytes_eq name) j ys)
 from_shift i j [] name = refl
-from_shift i j (y ∷ ys) name = by (bytes_eq name y) refl (from_shift i (j + 1) ys name)
-  where
-    by : (b : Bool) → bytes_eq name y ≡ b → position_from (bytes_eq name) (i + (j + 1)) ys ≡ option_map (λ n. i + n) (position_from (bytes_eq name) (j + 1) ys)
-        → position_from (bytes_eq name) (i + j) (y ∷ ys) ≡ option_map (λ n. i + n) (position_from (bytes_eq name) j (y ∷ ys))
-    by true e rest = rw e refl
-    by false e rest =
-        let on : i + j + 1 ≡ i + (j + 1) = omega arith in
-        rw e (ap (λ n. position_from (bytes_eq name) n ys) on ∙ rest)
+from_shift i j (y ∷ ys) name = grind (arith, from_shift i (j + 1) ys name)
 
 -- the place in two lists, one after the other
 pub place_after : (xs ys : List Text) (name : Text) → place_of (xs ++ ys) name ≡ option_or (place_of xs name) (option_map (λ n. length xs + n) (place_of ys name))
@@ -45,24 +29,12 @@ place_after xs ys name =
 
 -- one more name stands last
 place_last : (xs : List Text) (x name : Text) → place_of (xs ++ x ∷ []) name ≡ option_or (place_of xs name) (if bytes_eq name x then Some (length xs) else None)
-place_last xs x name =
-    place_after xs (x ∷ []) name
-    ∙ ap (λ found. option_or (place_of xs name) (option_map (λ n. length xs + n) found)) (position_from-zero (bytes_eq name) (x ∷ []))
-    ∙ ap (λ found. option_or (place_of xs name) found) (by (bytes_eq name x))
-  where
-    by : (b : Bool) → option_map (λ n. length xs + n) (cond b (Some 0) None) ≡ (if b then Some (length xs) else None)
-    by true = let here : length xs + 0 ≡ length xs = omega arith in ap Some here
-    by false = refl
+place_last xs x name = grind (arith, place_after, length, position_from-zero, cond)
 
 -- a name has a place exactly where it is among names
 from_among : (i : ℕ) (names : List Text) (name : Text) → is_some (position_from (bytes_eq name) i names) ≡ is_among names name
 from_among i [] name = refl
-from_among i (x ∷ names) name = by (bytes_eq name x) refl (from_among (i + 1) names name)
-  where
-    by : (b : Bool) → bytes_eq name x ≡ b → is_some (position_from (bytes_eq name) (i + 1) names) ≡ is_among names name
-        → is_some (position_from (bytes_eq name) i (x ∷ names)) ≡ is_among (x ∷ names) name
-    by true e rest = rw e refl
-    by false e rest = rw e rest
+from_among i (x ∷ names) name = grind (arith, from_among (i + 1) names name)
 
 pub placed_among : (names : List Text) (name : Text) → is_some (place_of names name) ≡ is_among names name
 placed_among names name = ap is_some (position_from-zero (bytes_eq name) names) ∙ from_among 0 names name
@@ -95,9 +67,7 @@ below_longer count more numbers h below = λ k d within. let one : get_or number
 -- a mark of no name tells no place
 beyond : (count : ℕ) (marks : List ℕ) → ((number : ℕ) → count ≤ number → get_or marks number 0 ≡ 0) → (found other : Option ℕ)
     → place_held marks (option_or found (option_map (λ n. count + n) other)) ≡ place_held marks found
-beyond count marks free (Some n) other = refl
-beyond count marks free None None = refl
-beyond count marks free None (Some n) = ap place_marked (free (count + n) (omega arith))
+beyond count marks free found other = grind arith
 
 pub placed_more : (names more : List Text) (numbers marks : List ℕ) → IsPlaced names numbers marks → IsPlaced (names ++ more) numbers marks
 placed_more names more numbers marks is =
@@ -121,9 +91,7 @@ others_more table old new numbers marks grown is =
 
 others_named : (table old new : List Text) (numbers marks : List ℕ) → HasMore old new → IsPlaced (table ++ old) numbers marks
     → names_at (table ++ new) numbers ≡ names_at (table ++ old) numbers
-others_named table old new numbers marks grown is =
-    let all : table ++ new ≡ (table ++ old) ++ grown.0 = ap (λ (list : List Text). table ++ list) grown.1 ∙ sym (append_assoc table old grown.0) in
-    ap (λ (names : List Text). names_at names numbers) all ∙ names_longer (table ++ old) grown.0 numbers is.below
+others_named table old new numbers marks grown is = grind (arith, append_assoc, names_longer)
 
 -- ---- marks
 
@@ -135,22 +103,10 @@ no_mark (suc count) (suc n) = no_mark count n
 
 pub placed_none : (names : List Text) (numbers marks : List ℕ) (count : ℕ) → numbers ≡ [] → marks ≡ replicate count 0 → IsPlaced names numbers marks
 unfolding IsDistinct
-placed_none names numbers marks count none free =
-    let unmarked : (n : ℕ) → get_or marks n 0 ≡ 0 = λ n. ap (λ (list : List ℕ). get_or list n 0) free ∙ no_mark count n in
-    subst (λ (list : List ℕ). IsPlaced names list marks) (sym none) (record {
-      told = λ name. sym (by unmarked (place_of names name));
-      differ = tt;
-      below = All-nil (λ n. n < length names);
-      free = λ number past. unmarked number;
-    })
-  where
-    by : ((n : ℕ) → get_or marks n 0 ≡ 0) → (found : Option ℕ) → place_held marks found ≡ None
-    by unmarked None = refl
-    by unmarked (Some n) = ap place_marked (unmarked n)
+placed_none names numbers marks count none free = grind (arith, get_or, no_mark, All-nil, length)
 
 held_same : (old new : List ℕ) → HasSame old new → (found : Option ℕ) → place_held new found ≡ place_held old found
-held_same old new same None = refl
-held_same old new same (Some n) = ap place_marked (same n)
+held_same old new same found = grind arith
 
 -- ---- a name is reached
 
@@ -187,21 +143,14 @@ module _ (names : List Text) (old new : Reached) (name : Text) (number place : �
   not_among = sym (placed_among view name) ∙ ap is_some absent
 
   longer : names_at names new.numbers.items ≡ view ++ name ∷ []
-  longer =
-      ap (names_at names) pushed.numbers ∙ map-append (name_at names) old.numbers.items (number ∷ [])
-      ∙ ap (λ (found : Option Text). view ++ unwrap_or found [] ∷ []) there
+  longer = grind (arith, map-append, there)
 
   new_place : place_held new.marks.items (Some number) ≡ Some (length view)
   new_place = ap place_marked pushed.marked ∙ ap Some (pushed.last ∙ sym (length-map old.numbers.items (name_at names)))
 
   other_place : (other : Text) (b : Bool) → bytes_eq other name ≡ b
       → option_or (place_of view other) (if b then Some (length view) else None) ≡ place_held new.marks.items (place_of names other)
-  other_place other true e =
-      let same : other ≡ name = (bytes_eq-Decides other name).0 e in
-      ap (λ (text : Text). option_or (place_of view text) (Some (length view))) same
-      ∙ ap (λ found. option_or found (Some (length view))) absent
-      ∙ sym new_place
-      ∙ sym (ap (place_held new.marks.items) (ap (place_of names) same ∙ at))
+  other_place other true e = grind (arith, bytes_eq-Decides, length, absent, new_place)
   other_place other false e = alone (place_of view other) ∙ is.told other ∙ by (place_of names other) refl
     where
       alone : (found : Option ℕ) → option_or found None ≡ found
@@ -243,20 +192,13 @@ module _ {E : Type 0} (table others more view : List Text) (grown : HasMore othe
   placed = others_more table others more old.numbers.items old.marks.items grown is
 
   reached_at : IfOk result (IsReachedAt (table ++ more) old.numbers.items name new)
-  reached_at =
-      IfOk-weaker result (ReachesNumber old number new) (IsReachedAt (table ++ more) old.numbers.items name new) (λ place reaches. reaches (table ++ more) name placed at) done
+  reached_at = grind (arith, IfOk-weaker, placed)
 
   pub step_placed : IsPlaced (table ++ more) new.numbers.items new.marks.items
-  step_placed =
-      let P = IsPlaced (table ++ more) new.numbers.items new.marks.items in
-      in_both P result
-      (IfOk-weaker result (IsReachedAt (table ++ more) old.numbers.items name new) (λ place. P) (λ place there. there.placed) reached_at)
-      (on_err_weaker result (λ (stays : StaysPlaced old new). stays (table ++ more) placed) refused)
+  step_placed = grind (arith, in_both, IfOk-weaker, there, reached_at, on_err_weaker, placed)
 
   pub step_numbered : IfOk result (λ place. slice_get (names_at (table ++ more) new.numbers.items) place ≡ Some name)
-  step_numbered =
-      IfOk-weaker result (IsReachedAt (table ++ more) old.numbers.items name new) (λ place. slice_get (names_at (table ++ more) new.numbers.items) place ≡ Some name)
-      (λ place there. there.at) reached_at
+  step_numbered = grind (arith, IfOk-weaker, there, reached_at)
 
   pub step_reached : OnOk result (names_at (table ++ more) new.numbers.items ≡ with_name view name)
   step_reached =

@@ -16,11 +16,7 @@ pub within_more : (count more : ℕ) (span : Span) → count ≤ more → IsSpan
 within_more count more span up h = record { rises = h.rises; ends = omega (arith, up, h.ends) }
 
 pub cut_longer : {A : Type 0} (items more : List A) (span : Span) → IsSpanWithin (length items) span → cut (items ++ more) span ≡ cut items span
-cut_longer items more span h =
-    let rises = h.rises in
-    let ends = h.ends in
-    ap (take (span.end - span.start)) (drop-append-le span.start items more (omega (arith, rises, ends)))
-    ∙ take-append-le (span.end - span.start) (drop span.start items) more (omega (arith, rises, ends, length-drop span.start items))
+cut_longer items more span h = grind (arith, take, drop-append-le, take-append-le, length-drop)
 
 -- ---- rows
 
@@ -32,16 +28,12 @@ rows_longer rows more place h = (get_or_append_left rows more [] place (omega (a
 -- ---- parts
 
 part_longer : (rows more : List (List ℕ)) (part : HeldPart) → IsPartWithin (length rows) part → part_stored (rows ++ more) part ≡ part_stored rows part
-part_longer rows more part h =
-    let both = rows_longer rows more part.needs h in
-    rw (both.0, both.1) refl
+part_longer rows more part h = grind (arith, rows_longer)
 
 parts_longer : (rows more : List (List ℕ)) (parts : List HeldPart) → All (IsPartWithin (length rows)) parts
     → parts_stored (rows ++ more) parts ≡ parts_stored rows parts
 parts_longer rows more [] h = refl
-parts_longer rows more (part ∷ parts) h =
-    ap (λ (p : StoredPart). p ∷ parts_stored (rows ++ more) parts) (part_longer rows more part (All-head (IsPartWithin (length rows)) part parts h))
-    ∙ ap (λ (ps : List StoredPart). part_stored rows part ∷ ps) (parts_longer rows more parts (All-tail (IsPartWithin (length rows)) part parts h))
+parts_longer rows more (part ∷ parts) h = grind (arith, part_longer, All-head, length, All-tail, parts_longer rows more parts (All-tail (IsPartWithin (length rows)) part parts h))
 
 pub parts_within_more : (count more : ℕ) (parts : List HeldPart) → count ≤ more → All (IsPartWithin count) parts → All (IsPartWithin more) parts
 parts_within_more count more parts up h = All-weaker (IsPartWithin count) (IsPartWithin more) (λ part g. omega (arith, up, g)) parts h
@@ -69,10 +61,7 @@ heads_longer parts more_parts rows more (head ∷ heads) within h =
     ∙ ap (λ (ns : List StoredNode). node_stored parts rows head ∷ ns) (heads_longer parts more_parts rows more heads within (All-tail P head heads h))
 
 head_within_more : (parts more_parts rows more : ℕ) (head : Head) → parts ≤ more_parts → rows ≤ more → IsHeadWithin parts rows head → IsHeadWithin more_parts more head
-head_within_more parts more_parts rows more head up_parts up h = record {
-  parts = within_more parts more_parts head.parts up_parts h.parts;
-  inputs = omega (arith, up, h.inputs);
-}
+head_within_more parts more_parts rows more head up_parts up h = grind (arith, within_more)
 
 pub longer : {A : Type 0} (old new : List A) → HasMore old new → length old ≤ length new
 longer old new more = omega (arith, ap length more.1, length-append old more.0)
@@ -95,25 +84,17 @@ stored_push parts new_parts rows new_rows heads more head pushed grew h within =
 -- what was stored is the same when lists grew
 pub nodes_same : (parts new_parts : List HeldPart) (rows new_rows : List (List ℕ)) (heads : List Head) → Grew parts rows new_parts new_rows
     → AreStored parts rows heads → nodes_stored new_parts new_rows heads ≡ nodes_stored parts rows heads
-nodes_same parts new_parts rows new_rows heads grew h =
-    ap (λ (ps : List HeldPart). nodes_stored ps new_rows heads) grew.more_parts.1
-    ∙ ap (λ (ns : List (List ℕ)). nodes_stored (parts ++ grew.more_parts.0) ns heads) grew.more_rows.1
-    ∙ heads_longer parts grew.more_parts.0 rows grew.more_rows.0 heads h.parts_within h.heads_within
+nodes_same parts new_parts rows new_rows heads grew h = grind (arith, heads_longer)
 
 pub nodes_push : (parts new_parts : List HeldPart) (rows new_rows : List (List ℕ)) (heads : List Head) (head : Head) (node : StoredNode) → Grew parts rows new_parts new_rows
     → AreStored parts rows heads → node_stored new_parts new_rows head ≡ node
     → nodes_stored new_parts new_rows (heads ++ head ∷ []) ≡ nodes_stored parts rows heads ++ node ∷ []
-nodes_push parts new_parts rows new_rows heads head node grew h is =
-    map-append (node_stored new_parts new_rows) heads (head ∷ [])
-    ∙ ap (λ (ns : List StoredNode). ns ++ node_stored new_parts new_rows head ∷ []) (nodes_same parts new_parts rows new_rows heads grew h)
-    ∙ ap (λ (n : StoredNode). nodes_stored parts rows heads ++ n ∷ []) is
+nodes_push parts new_parts rows new_rows heads head node grew h is = grind (arith, map-append, nodes_same)
 
 again_told : (parts : List HeldPart) (rows : List (List ℕ)) (heads : List Head) (number : ℕ) (found : Option Head) → slice_get heads number ≡ found
     → nodes_stored parts rows heads ++ option_to_list (option_map (node_stored parts rows) found)
     ≡ nodes_stored parts rows heads ++ option_to_list (slice_get (nodes_stored parts rows heads) number)
-again_told parts rows heads number found at =
-    ap (λ (o : Option StoredNode). nodes_stored parts rows heads ++ option_to_list o)
-    (sym (slice_get-map (node_stored parts rows) heads number ∙ ap (option_map (node_stored parts rows)) at))
+again_told parts rows heads number found at = grind (arith, slice_get-map)
 
 -- one more node like one that is there
 pub nodes_again : (parts : List HeldPart) (rows : List (List ℕ)) (heads : List Head) (number : ℕ) (found : Option Head) → slice_get heads number ≡ found
@@ -141,11 +122,7 @@ grew_after parts mid_parts new_parts rows mid_rows new_rows first second = recor
 
 -- rows alone grew
 pub grew_rows : (parts : List HeldPart) (rows new : List (List ℕ)) → HasMore rows new → Grew parts rows parts new
-grew_rows parts rows new more = record {
-  more_parts = more_none parts;
-  more_rows = more;
-  within = λ h. parts_within_more (length rows) (length new) parts (longer rows new more) h;
-}
+grew_rows parts rows new more = grind (arith, more_none, parts_within_more, length, longer)
 
 -- one part more
 pub grew_part : (parts new : List HeldPart) (rows : List (List ℕ)) (part : HeldPart) → new ≡ parts ++ part ∷ [] → IsPartWithin (length rows) part → Grew parts rows new rows
@@ -236,12 +213,7 @@ module _ (parts : List HeldPart) (rows : List (List ℕ)) (heads : List Head) (n
   grew_like = grew_part parts new rows held pushed (subst (λ n. n + 1 < length rows) (sym (needs ∙ like.needs)) part_within)
 
   cut_like : cut new made.0.parts ≡ held ∷ []
-  cut_like =
-      let one : made.0.parts.end - made.0.parts.start ≡ 1 = omega (arith, like.start, like.end) in
-      ap (λ n. take n (drop made.0.parts.start new)) one
-      ∙ ap (λ n. take 1 (drop n new)) like.start
-      ∙ ap (λ (l : List HeldPart). take 1 (drop (length parts) l)) pushed
-      ∙ ap (take 1) (drop-append_seam parts (held ∷ []))
+  cut_like = grind (arith, take, length, drop-append_seam)
 
   other_stored : stored_at (nodes_stored parts rows heads) number ≡ node_stored parts rows like.other
   other_stored =

@@ -1,6 +1,6 @@
 -- A graph's vertices and the names that they are.
-use Rattle.std.proofs.Common.{◌≡◌, ℕ, ◌+◌, ◌<◌, Bool, true, false, ◌⊎◌, ⊎_elim, inl, inr, List, [], ◌∷◌, ◌++◌, length, get_or, map, filter_map, find, cond, Option, None, Some, IfSome, option_map, slice_get, refl, sym, ap, ◌∙◌, subst, arith}
-use Rattle.kt_graph.proofs.Common.{Contains, cons_option, bytes_eq, false≢true, bytes_eq-Decides, get_or-map, length-map, map-append, All-contains, All-head, All-tail, Contains-append_cases, none-some, same_Some, slice_get-get_or, slice_get_within, at_place, Text, Rule, Edges, Instance as Held, StoredNode, AreEdgesOf, AreMadeBelow, AreNeededBelow, HasNext, IsEdge, LeadsBack, LeadsOn, LeadsTo, needed_numbers, Node, all_inputs, inputs_of, node_of, HasNumbers, AreBelow, AreOneMaking, HasEdge, HasInput, IsCyclic, IsGraph, IsInGroup, IsReached, Leads, Reaches, itself, beside, instance_at, instance_view, name_at, names_at, node_at, node_view, nodes_view, first_or_rest, in_first, in_rest, NodeTable}
+use Rattle.std.proofs.Common.{rules, ◌≡◌, ℕ, ◌+◌, ◌<◌, Bool, true, false, ◌⊎◌, ⊎_elim, inl, inr, List, [], ◌∷◌, length, get_or, map, filter_map, find, cond, Option, None, Some, IfSome, option_map, slice_get, refl, sym, ap, ◌∙◌, subst, arith}
+use Rattle.kt_graph.proofs.Common.{Contains, cons_option, bytes_eq, false≢true, bytes_eq-Decides, get_or-map, length-map, map-append, All-contains, All-head, All-tail, Contains-append_cases, none-some, same_Some, slice_get-get_or, slice_get_within, at_place, Text, Rule, Edges, Instance as Held, StoredNode, AreEdgesOf, AreMadeBelow, AreNeededBelow, HasNext, IsEdge, LeadsBack, LeadsOn, LeadsTo, needed_numbers, Node, all_inputs, node_of, HasNumbers, AreBelow, AreOneMaking, HasEdge, HasInput, IsCyclic, IsGraph, IsInGroup, IsReached, Leads, Reaches, itself, beside, instance_at, instance_view, name_at, names_at, node_at, node_view, nodes_view, first_or_rest, in_first, in_rest, NodeTable}
 use Rattle.kt_graph.specs.nodes.Node.{Instance}
 use Rattle.kt_graph.specs.inner.nodes.Graph.{IsWhole}
 use Rattle.kt_graph.proofs.lemmas.faults.CircleLemmas.{Reaches-join, Reaches-none, Reaches-step, on_step, on_more}
@@ -192,11 +192,7 @@ module _ (table : NodeTable) (order : List ℕ) (whole : IsWhole table order) wh
 
     inputs_named : (number : ℕ) (node : StoredNode) → slice_get table.nodes number ≡ Some node
         → names_at table.names (needed_numbers node) ≡ all_inputs (node_of rules known (name_at table.names number))
-    inputs_named number node at =
-        map-append (name_at table.names) node.inputs node.order_only
-        ∙ ap (λ (xs : List Text). xs ++ names_at table.names node.order_only) (inputs_are table.names table.instances number node whole.held.distinct (numbers_of number node at))
-        ∙ ap (λ (xs : List Text). inputs_of (node_view table.names table.instances number node) ++ xs) (others_are table.names table.instances number node whole.held.distinct (numbers_of number node at))
-        ∙ ap all_inputs (sym (is_node number node at))
+    inputs_named number node at = grind (arith, map-append, inputs_are, numbers_of, others_are, is_node)
 
     input_number : (number : ℕ) (node : StoredNode) (input : Text) → slice_get table.nodes number ≡ Some node → HasInput rules known (name_at table.names number) input
         → (to : ℕ) × Contains (needed_numbers node) to × (name_at table.names to ≡ input)
@@ -232,18 +228,7 @@ module _ (table : NodeTable) (order : List ℕ) (whole : IsWhole table order) wh
     together_made : (one : ℕ) (first : StoredNode) (other : ℕ) (second : StoredNode) → slice_get table.nodes one ≡ Some first → slice_get table.nodes other ≡ Some second
         → AreOneMaking rules known (name_at table.names one) (name_at table.names other)
         → (making : ℕ) × (first.made_with ≡ Some making) × (second.made_with ≡ Some making)
-    together_made one first other second at there together =
-        by first.made_with second.made_with refl refl
-        (ap (instance_at table.instances) refl ∙ sym (made_told one first at) ∙ together.first)
-        (ap (instance_at table.instances) refl ∙ sym (made_told other second there) ∙ together.second)
-      where
-        by : (o p : Option ℕ) → first.made_with ≡ o → second.made_with ≡ p → instance_at table.instances o ≡ Some together.making → instance_at table.instances p ≡ Some together.making
-            → (making : ℕ) × (first.made_with ≡ Some making) × (second.made_with ≡ Some making)
-        by None p e f told also = absurd (none-some together.making told)
-        by (Some m) None e f told also = absurd (none-some together.making also)
-        by (Some m) (Some n) e f told also =
-            let same : n ≡ m = whole.held.apart n m (made_by other second n there f) (made_by one first m at e) (also ∙ sym told) in
-            (m, e, f ∙ ap (λ (k : ℕ). Some k) same)
+    together_made one first other second at there together = grind (arith, made_told, none-some, made_by)
 
     -- ---- edges
 
@@ -306,12 +291,7 @@ module _ (table : NodeTable) (order : List ℕ) (whole : IsWhole table order) wh
       -- a path from a name or its making to a name
       ways : (steps : List ℕ) (vertex number last : ℕ) → number < length table.names → last < length table.names → (vertex ≡ number) ⊎ AtMaking vertex number
           → Leads (HasNext edges) vertex steps last → Reaches (HasEdge rules known goals) (name_at table.names number) (name_at table.names last)
-      ways [] vertex number last below end at same = ⊎_elim
-          (λ (e : vertex ≡ number).
-          subst (λ n. Reaches (HasEdge rules known goals) (name_at table.names number) (name_at table.names n)) (sym e ∙ same)
-          (Reaches-none (HasEdge rules known goals) (name_at table.names number)))
-          (λ (h : AtMaking vertex number). let is = h.4 in let long = whole.as_many in absurd (omega arith))
-          at
+      ways [] vertex number last below end at same = grind (arith, ⊎_elim, Reaches-none)
       ways (step ∷ steps) vertex number last below end at way =
           let onward : Onward number step = ⊎_elim
           (λ (e : vertex ≡ number). from_name number step below (subst (λ v. HasNext edges v step) e way.0))

@@ -1,5 +1,5 @@
 -- The number of rules in the chains of questions.
-use Rattle.std.proofs.Common.{◌≡◌, ℕ, zero, suc, ◌+◌, ◌-◌, ◌≤◌, Bool, true, false, if◌then◌else◌, cond, List, [], ◌∷◌, ◌++◌, length, take, drop, refl, ap, ◌∙◌, ⊎_elim, arith, nat_lt, nat_le, is_some}
+use Rattle.std.proofs.Common.{rules, ◌≡◌, ℕ, zero, suc, ◌+◌, ◌-◌, ◌≤◌, Bool, true, false, if◌then◌else◌, cond, List, [], ◌∷◌, ◌++◌, length, take, drop, refl, ap, ◌∙◌, ⊎_elim, arith, nat_lt, nat_le, is_some}
 use Rattle.kt_graph.proofs.Common.{Contains, list_any, prefix_len, le-leb, lt-leb, ltb-false, ltb-true, append_assoc, take_rest, Contains-append_cases, Text, Rule, Candidate, Sought, Asking, Choosing, asked_among, asked_by, asked_for, asked_inside, asking, fitting, is_inferred, is_met, open_candidates, unknown_needs, with_rule, first_or_rest, none_in_empty}
 use Rattle.kt_graph.specs.inner.search.Chains.{asked_besides}
 
@@ -7,11 +7,7 @@ use Rattle.kt_graph.specs.inner.search.Chains.{asked_besides}
 pub length-with_rule : (rule : ℕ) (used : List ℕ) → length (with_rule rule used) ≡ length used + 1
 unfolding with_rule
 length-with_rule rule [] = refl
-length-with_rule rule (first ∷ used) = by (nat_lt rule first) (length-with_rule rule used)
-  where
-    by : (b : Bool) → length (with_rule rule used) ≡ length used + 1 → length (if b then rule ∷ first ∷ used else first ∷ with_rule rule used) ≡ length (first ∷ used) + 1
-    by true more = omega arith
-    by false more = omega arith
+length-with_rule rule (first ∷ used) = grind (arith, nat_lt, length, length-with_rule rule used)
 
 -- it comes after those that aren't above it
 pub with_rule_is : (rule : ℕ) (used : List ℕ)
@@ -35,10 +31,7 @@ with_rule_is rule (first ∷ used) = by (nat_lt rule first) refl (with_rule_is r
 -- the same for a vector that is joined
 pub put_between : (rule : ℕ) (used : List ℕ) (place : ℕ) → place ≡ prefix_len (λ other. nat_le other rule) used
     → (take place used ++ rule ∷ []) ++ take (length used - place) (drop place used) ≡ with_rule rule used
-put_between rule used place e =
-    append_assoc (take place used) (rule ∷ []) (take (length used - place) (drop place used))
-    ∙ ap (λ rest. take place used ++ rule ∷ rest) (take_rest used place)
-    ∙ ap (λ n. take n used ++ rule ∷ drop n used) e ∙ with_rule_is rule used
+put_between rule used place e = grind (arith, append_assoc, take, length, take_rest, with_rule_is)
 
 module _ (known : List Text) (deeper : Choosing) (ask : Asking)
     (deep : (used : List ℕ) (name : Text) (asked : Sought) → Contains (ask used name) asked → length used ≤ length asked.1) where
@@ -81,8 +74,7 @@ module _ (known : List Text) (deeper : Choosing) (ask : Asking)
 pub asking_deep : (rules : List Rule) (known : List Text) (left : ℕ) (used : List ℕ) (name : Text) (asked : Sought)
     → Contains (asking rules known left used name) asked → length used ≤ length asked.1
 unfolding asking
-asking_deep rules known zero used name asked c =
-    ⊎_elim (λ e. omega (arith, ap (λ a. length a.1) e)) (λ none. absurd (none_in_empty asked none)) (first_or_rest (name, used) asked [] c)
+asking_deep rules known zero used name asked c = grind (arith, ⊎_elim, length, none_in_empty, first_or_rest)
 asking_deep rules known (suc left) used name asked c =
     ⊎_elim (λ e. omega (arith, ap (λ a. length a.1) e))
     (λ after. omega (arith, deep_inside known (fitting rules known left) (asking rules known left) (asking_deep rules known left) used (open_candidates rules used name) asked after))
@@ -100,5 +92,4 @@ after_deep rules known (suc left) used name asked c =
 pub asking_is : (rules : List Rule) (known : List Text) (left : ℕ) (used : List ℕ) (name : Text)
     → asking rules known left used name ≡ (name, used) ∷ asked_besides rules known left used name
 unfolding asking asked_besides
-asking_is rules known zero used name = refl
-asking_is rules known (suc left) used name = refl
+asking_is rules known left used name = grind arith

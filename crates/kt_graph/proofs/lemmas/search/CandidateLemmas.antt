@@ -1,17 +1,12 @@
 -- Candidates of the code, and as those of the definitions.
-use Rattle.std.proofs.Common.{◌≡◌, ℕ, suc, zero, ◌+◌, ◌-◌, ◌<◌, ◌≤◌, Bool, true, false, not, ◌||◌, ◌==◌, if◌then◌else◌, List, [], ◌∷◌, ◌++◌, length, take, drop, get_or, filter, filter_map, flat_map, fold, All, Option, Some, None, option_map, refl, sym, ap, ◌∙◌, subst, arith, slice_get}
-use Rattle.kt_graph.proofs.Common.{cons_option, list_any, range_with_len, slice_range, IsNonDecreasingBy, IsPermutation, IsStableByKey, option_and_then, option_to_list, unwrap_or, nat_cmp, drop_all, drop_more, length-take, length-drop, All-filter, All-head, All-tail, All-weaker, filter_map-append, All-permutation, Text, Needs, Rule, is_terminal, Candidate, are_short, by_size, candidate_by, candidate_of, candidates_for, drops_any, matching_from, shorter, shortest, size_of, unless_long, without_any, AreWithin, IsFitWithin, candidate_at, candidate_view, candidates_view, held_by_size, held_without_any, stays}
+use Rattle.std.proofs.Common.{rules, ◌≡◌, ℕ, suc, zero, ◌+◌, ◌<◌, ◌≤◌, Bool, true, false, not, ◌||◌, ◌==◌, if◌then◌else◌, List, [], ◌∷◌, ◌++◌, length, take, drop, get_or, filter, filter_map, flat_map, fold, All, Option, Some, None, option_map, refl, sym, ap, ◌∙◌, subst, arith, slice_get}
+use Rattle.kt_graph.proofs.Common.{cons_option, list_any, range_with_len, slice_range, IsNonDecreasingBy, IsPermutation, IsStableByKey, option_and_then, option_to_list, unwrap_or, nat_cmp, drop_all, drop_more, length-take, length-drop, All-filter, All-head, All-tail, All-weaker, filter_map-append, All-permutation, Text, Needs, Rule, is_terminal, Candidate, are_short, by_size, candidate_by, candidate_of, candidates_for, matching_from, shorter, shortest, size_of, unless_long, without_any, AreWithin, IsFitWithin, candidate_at, candidate_view, candidates_view, held_by_size, held_without_any, stays}
 use Rattle.kt_graph.proofs.lemmas.search.SizeOrder.{bucket, in_buckets, same_buckets}
 use Rattle.kt_graph.specs.declared.search.candidate.Candidate.{Candidate as HeldCandidate}
 
 -- a stem is as long as its places say
 pub size_at : (name : Text) (rule : Rule) (candidate : HeldCandidate) → IsFitWithin name candidate.fit → size_of (candidate_at name rule candidate) ≡ candidate.fit.size
-size_at name rule candidate within =
-    let directory = within.directory in
-    let stem = within.stem in
-    let name_end = within.name_end in
-    let size = within.size in
-    omega (arith, length-take candidate.fit.directory name, length-take (candidate.fit.end - candidate.fit.start) (drop candidate.fit.start name), length-drop candidate.fit.start name)
+size_at name rule candidate within = grind (arith, length-take, length-drop)
 
 -- ---- the shortest of a rule
 
@@ -31,8 +26,7 @@ told_at rules name candidate rule found = ap (option_map (λ r. candidate_at nam
 pub matching_at : (rules : List Rule) (name : Text) (i : ℕ) (rule : Rule) → i < length rules → rule ≡ get_or rules i rule
     → matching_from i (drop i rules) name ≡ option_to_list (candidate_of i rule name) ++ matching_from (i + 1) (drop (i + 1) rules) name
 unfolding matching_from
-matching_at rules name i rule within is =
-    ap (λ left. matching_from i left name) (drop_more rules i rule within ∙ ap (λ first. first ∷ drop (i + 1) rules) (sym is))
+matching_at rules name i rule within is = grind (arith, drop_more)
 
 pub matching_none : (rules : List Rule) (name : Text) (i : ℕ) → length rules ≤ i → matching_from i (drop i rules) name ≡ []
 unfolding matching_from
@@ -54,11 +48,7 @@ pub matches_unless : (number : ℕ) (rule : Rule) (name : Text) (candidate : Hel
     → directory ≡ take candidate.fit.directory name → stem ≡ slice_range name candidate.fit.start candidate.fit.end → needs ≡ rule.needs
     → b ≡ are_short directory stem needs → (if b then Some (candidate_at name rule candidate) else None) ≡ candidate_of number rule name
 unfolding candidate_of
-matches_unless number rule name candidate directory stem needs b found front middle all short =
-    let same : are_short (take candidate.fit.directory name) (slice_range name candidate.fit.start candidate.fit.end) rule.needs ≡ b
-    = sym (short ∙ ap (λ d. are_short d stem needs) front ∙ ap (λ s. are_short (take candidate.fit.directory name) s needs) middle
-    ∙ ap (are_short (take candidate.fit.directory name) (slice_range name candidate.fit.start candidate.fit.end)) all) in
-    sym (unless_by rule (candidate_at name rule candidate) b same) ∙ ap (option_and_then (unless_long rule)) found
+matches_unless number rule name candidate directory stem needs b found front middle all short = grind (arith, take, slice_range, unless_by)
 
 -- ---- tests of candidates
 
@@ -72,10 +62,7 @@ one_kept : (rules : List Rule) (name : Text) (p : HeldCandidate → Bool) (q : C
     → p candidate ≡ b → candidate_view rules name candidate ≡ Some one → q one ≡ b
     → candidates_view rules name (filter p candidates) ≡ filter q (candidates_view rules name candidates)
     → candidates_view rules name (filter p (candidate ∷ candidates)) ≡ filter q (candidates_view rules name (candidate ∷ candidates))
-one_kept rules name p q candidate one candidates true is told same rest =
-    rw (is, told) (rw same (ap (λ more. one ∷ more) rest))
-one_kept rules name p q candidate one candidates false is told same rest =
-    rw (is, told) (rw same rest)
+one_kept rules name p q candidate one candidates b is told same rest = grind arith
 
 -- tests that agree keep the same elements
 pub told_filter : (rules : List Rule) (name : Text) (p : HeldCandidate → Bool) (q : Candidate → Bool)
@@ -109,17 +96,7 @@ stays_at rules name candidate rule found = ap (λ o. not candidate.is_any || unw
 -- those that stay when nonterminal match-anything rules are dropped
 pub told_without_any : (rules : List Rule) (name : Text) (in_chain : Bool) (candidates : List HeldCandidate) → AreWithin rules name candidates
     → candidates_view rules name (held_without_any rules in_chain candidates) ≡ without_any in_chain (candidates_view rules name candidates)
-told_without_any rules name in_chain candidates within =
-    let some : (in_chain || list_any (λ (c : HeldCandidate). not c.is_any) candidates) ≡ drops_any in_chain (candidates_view rules name candidates)
-    = ap (λ b. in_chain || b) (told_any rules name (λ c. not c.is_any) (λ c. not c.is_any) (λ c rule found w. refl) candidates within) in
-    by (drops_any in_chain (candidates_view rules name candidates)) some
-    (told_filter rules name (stays rules) (λ c. not c.is_any || c.is_last) (λ c rule found w. stays_at rules name c rule found) candidates within)
-  where
-    by : {c : Bool} (b : Bool) → c ≡ b → candidates_view rules name (filter (stays rules) candidates) ≡ filter (λ one. not one.is_any || one.is_last) (candidates_view rules name candidates)
-        → candidates_view rules name (if c then filter (stays rules) candidates else candidates)
-        ≡ (if b then filter (λ one. not one.is_any || one.is_last) (candidates_view rules name candidates) else candidates_view rules name candidates)
-    by true e filtered = rw e filtered
-    by false e filtered = rw e refl
+told_without_any rules name in_chain candidates within = grind (arith, not, told_any, told_filter, stays_at)
 
 -- ---- their order
 
@@ -139,12 +116,7 @@ pub told_by_size : (rules : List Rule) (name : Text) (candidates : List HeldCand
 told_by_size rules name candidates within = told_buckets rules name candidates within (range_with_len 0 (length name + 1))
 
 size_within : (name : Text) (candidate : HeldCandidate) → IsFitWithin name candidate.fit → candidate.fit.size ≤ length name
-size_within name candidate within =
-    let directory = within.directory in
-    let stem = within.stem in
-    let name_end = within.name_end in
-    let size = within.size in
-    omega arith
+size_within name candidate within = grind arith
 
 flat_map-agree : (f g : ℕ → List HeldCandidate) → ((n : ℕ) → f n ≡ g n) → (ns : List ℕ) → flat_map f ns ≡ flat_map g ns
 flat_map-agree f g same [] = refl

@@ -1,6 +1,6 @@
 -- Candidates as those of the definitions, one by one.
-use Rattle.std.proofs.Common.{◌≡◌, ℕ, ◌+◌, ◌<◌, ◌≤◌, Bool, true, false, cond, not, List, [], ◌∷◌, length, get_or, drop, filter, Option, Some, None, is_some, refl, sym, ap, ◌∙◌, subst, arith, ◌==◌, option_map, slice_get, IfSome}
-use Rattle.kt_graph.proofs.Common.{none-some, same_Some, cons_option, filter_map, find, eqb-true, drop_more, drop_all, get_or_default, at_place, Text, Rule, is_terminal, Candidate, is_begun, AreWithin, IsFitWithin, candidate_at, candidate_view, candidates_view}
+use Rattle.std.proofs.Common.{rules, ◌≡◌, ℕ, ◌+◌, ◌<◌, ◌≤◌, Bool, true, false, cond, not, List, [], ◌∷◌, length, get_or, drop, filter, Option, Some, None, is_some, refl, sym, ap, ◌∙◌, subst, arith, ◌==◌, option_map, slice_get, IfSome}
+use Rattle.kt_graph.proofs.Common.{none-some, cons_option, find, eqb-true, drop_more, drop_all, get_or_default, at_place, Text, Rule, is_terminal, Candidate, is_begun, AreWithin, IsFitWithin, candidate_at, candidate_view, candidates_view}
 use Rattle.kt_graph.specs.declared.search.candidate.Candidate.{Candidate as HeldCandidate}
 use Rattle.kt_graph.specs.inner.search.Chains.{IsFound}
 
@@ -22,29 +22,13 @@ module _ (rules : List Rule) (name : Text) where
   pub told_from : (candidates : List HeldCandidate) (i : ℕ) (candidate : HeldCandidate) (told : Candidate) → i < length candidates → candidate ≡ get_or candidates i candidate
       → candidate_view rules name candidate ≡ Some told
       → candidates_view rules name (drop i candidates) ≡ told ∷ candidates_view rules name (drop (i + 1) candidates)
-  told_from candidates i candidate told h is e =
-      ap (candidates_view rules name) (drop_more candidates i candidate h ∙ ap (λ one. one ∷ drop (i + 1) candidates) (sym is))
-      ∙ told_cons candidate (drop (i + 1) candidates) told e
+  told_from candidates i candidate told h is e = grind (arith, drop_more, told_cons)
 
   -- a test of the rules' numbers keeps the same candidates as those of the definitions
   pub filter_told : (p : ℕ → Bool) (candidates : List HeldCandidate)
       → candidates_view rules name (filter (λ candidate. p candidate.rule) candidates) ≡ filter (λ candidate. p candidate.rule) (candidates_view rules name candidates)
   filter_told p [] = refl
-  filter_told p (candidate ∷ candidates) =
-      by (p candidate.rule) (slice_get rules candidate.rule) refl refl (filter_told p candidates)
-    where
-      by : (b : Bool) (o : Option Rule) → p candidate.rule ≡ b → slice_get rules candidate.rule ≡ o
-          → filter_map (candidate_view rules name) (filter (λ (one : HeldCandidate). p one.rule) candidates) ≡ filter (λ (one : Candidate). p one.rule) (candidates_view rules name candidates)
-          → filter_map (candidate_view rules name) (cond b (candidate ∷ filter (λ (one : HeldCandidate). p one.rule) candidates) (filter (λ (one : HeldCandidate). p one.rule) candidates))
-          ≡ filter (λ (one : Candidate). p one.rule) (cons_option (option_map (λ rule. candidate_at name rule candidate) o) (candidates_view rules name candidates))
-      by true None e f same = ap (λ o. cons_option (option_map (λ rule. candidate_at name rule candidate) o) (filter_map (candidate_view rules name) (filter (λ (one : HeldCandidate). p one.rule) candidates))) f ∙ same
-      by false None e f same = same
-      by true (Some rule) e f same =
-          ap (λ o. cons_option (option_map (λ r. candidate_at name r candidate) o) (filter_map (candidate_view rules name) (filter (λ (one : HeldCandidate). p one.rule) candidates))) f
-          ∙ ap (λ rest. candidate_at name rule candidate ∷ rest) same
-          ∙ sym (ap (λ b. cond b (candidate_at name rule candidate ∷ filter (λ (one : Candidate). p one.rule) (candidates_view rules name candidates)) (filter (λ (one : Candidate). p one.rule) (candidates_view rules name candidates))) e)
-      by false (Some rule) e f same =
-          same ∙ sym (ap (λ b. cond b (candidate_at name rule candidate ∷ filter (λ (one : Candidate). p one.rule) (candidates_view rules name candidates)) (filter (λ (one : Candidate). p one.rule) (candidates_view rules name candidates))) e)
+  filter_told p (candidate ∷ candidates) = grind (arith, cond, filter_told p candidates)
 
   -- ---- the first that passes a test
 
@@ -52,10 +36,7 @@ module _ (rules : List Rule) (name : Text) where
       (left : find p (candidates_view rules name (drop i candidates)) ≡ find p (candidates_view rules name candidates)) where
     -- nothing remains
     pub found_none : length candidates ≤ i → IsFound rules name (find p (candidates_view rules name candidates)) None
-    found_none past = record {
-      told = ap (λ rest. find p (candidates_view rules name rest)) (sym (drop_all i candidates past)) ∙ left;
-      within = tt;
-    }
+    found_none past = grind (arith, drop_all)
 
     module _ (candidate : HeldCandidate) (h : i < length candidates) (is : candidate ≡ get_or candidates i candidate)
         (within : AreWithin rules name candidates) (passed : Bool) (tells : IfSome (candidate_view rules name candidate) (λ told. passed ≡ p told)) where
@@ -69,16 +50,11 @@ module _ (rules : List Rule) (name : Text) where
       told_is = (told_at candidate own_within.0).1
 
       rest_is : find p (candidates_view rules name (drop i candidates)) ≡ cond passed (Some told) (find p (candidates_view rules name (drop (i + 1) candidates)))
-      rest_is =
-          ap (find p) (told_from candidates i candidate told h is told_is)
-          ∙ ap (λ b. cond b (Some told) (find p (candidates_view rules name (drop (i + 1) candidates)))) (sym (at_some (candidate_view rules name candidate) (λ one. passed ≡ p one) told told_is tells))
+      rest_is = grind (arith, told_from, told_is, cond, at_some)
 
       -- it is this one
       pub found_this : passed ≡ true → IsFound rules name (find p (candidates_view rules name candidates)) (Some candidate)
-      found_this yes_passed = record {
-        told = told_is ∙ sym (ap (λ b. cond b (Some told) (find p (candidates_view rules name (drop (i + 1) candidates)))) yes_passed) ∙ sym rest_is ∙ left;
-        within = own_within;
-      }
+      found_this yes_passed = grind (arith, told_is, cond, rest_is, own_within)
 
       -- it comes after this one
       pub found_later : passed ≡ false → find p (candidates_view rules name (drop (i + 1) candidates)) ≡ find p (candidates_view rules name candidates)
@@ -93,22 +69,13 @@ found_some rules name expected (Some candidate) is =
 -- a candidate of the definitions has its rule, and is last exactly if its rule is terminal
 module _ (rules : List Rule) (name : Text) (candidate : HeldCandidate) (told : Candidate) where
   pub told_rule : candidate_view rules name candidate ≡ Some told → candidate.rule ≡ told.rule
-  told_rule e = by (slice_get rules candidate.rule) e
-    where
-      by : (o : Option Rule) → option_map (λ rule. candidate_at name rule candidate) o ≡ Some told → candidate.rule ≡ told.rule
-      by None e = absurd (none-some told e)
-      by (Some rule) e = ap (λ (one : Candidate). one.rule) (same_Some (candidate_at name rule candidate) told e)
+  told_rule e = grind (arith, none-some)
 
   pub told_last : candidate_view rules name candidate ≡ Some told → (b : Bool) → IfSome (slice_get rules candidate.rule) (λ rule. b ≡ is_terminal rule.kind) → b ≡ told.is_last
-  told_last e b h = by (slice_get rules candidate.rule) e h
-    where
-      by : (o : Option Rule) → option_map (λ rule. candidate_at name rule candidate) o ≡ Some told → IfSome o (λ rule. b ≡ is_terminal rule.kind) → b ≡ told.is_last
-      by None e h = absurd (none-some told e)
-      by (Some rule) e h = h ∙ ap (λ (one : Candidate). one.is_last) (same_Some (candidate_at name rule candidate) told e)
+  told_last e b h = grind (arith, none-some)
 
 pub if_some : {X : Type 0} (o : Option X) (P : X → Type 0) → ((x : X) → o ≡ Some x → P x) → IfSome o P
-if_some None P h = tt
-if_some (Some x) P h = h x refl
+if_some o P h = grind arith
 
 -- an element that was read is that of its place
 pub read_itself : {X : Type 0} (xs : List X) (i : ℕ) (d : X) → i < length xs → get_or xs i d ≡ get_or xs i (get_or xs i d)
@@ -116,6 +83,4 @@ read_itself xs i d h = get_or_default xs i d (get_or xs i d) h
 
 -- there is a chain exactly if it isn't empty
 pub begun_is : (used : List ℕ) (empty : Bool) → empty ≡ (length used == 0) → not empty ≡ is_begun used
-begun_is [] empty e = ap not e
-begun_is (rule ∷ used) true e = absurd (omega (arith, eqb-true (length (rule ∷ used)) 0 (sym e)))
-begun_is (rule ∷ used) false e = refl
+begun_is used empty e = grind (arith, not, eqb-true, length)

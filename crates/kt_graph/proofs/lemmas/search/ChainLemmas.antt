@@ -1,5 +1,5 @@
 -- The questions of a search before and after a step, with their answers.
-use Rattle.std.proofs.Common.{◌≡◌, ℕ, ◌+◌, ◌<◌, ◌≤◌, true, false, if◌then◌else◌, List, [], ◌∷◌, ◌++◌, length, get_or, set, map, Option, Some, None, refl, sym, ap, ◌∙◌, subst, ◌⊎◌, inl, inr, ⊎_elim, arith, fold, option_map, slice_get, unwrap_or}
+use Rattle.std.proofs.Common.{◌≡◌, ℕ, ◌+◌, ◌<◌, ◌≤◌, true, List, [], ◌∷◌, ◌++◌, length, get_or, set, map, Option, Some, None, refl, sym, ap, ◌∙◌, subst, ◌⊎◌, inl, inr, ⊎_elim, arith, fold, option_map, slice_get, unwrap_or}
 use Rattle.kt_graph.proofs.Common.{Contains, list_any, cases_lt, cases_order, or_left, list_any-append, get_or_append_left, get_or-set_other, get_or-set_same, get_or-take, get_or_at, length-append, length-map, length-set, map-append, get_or_from_slice_get, same_Some, slice_get-get_or, slice_get-map, slice_get_within, unwrap_or-slice_get, Text, Rule, Question, Tried, IsPrefix, Sought, asked_eq, asking, chain_limit, fitting, with_question, question_view}
 use Rattle.kt_graph.specs.declared.search.candidate.Candidate.{Candidate as HeldCandidate}
 use Rattle.kt_graph.specs.inner.search.Chains.{IsFound, IsRight, IsRightFor, KeepsAnswers, HasAnswered, StandsLast, StoodBefore, asked_besides, expected_for, left_for}
@@ -16,8 +16,7 @@ module _ {X : Type 0} where
   front_more xs ys zs one two = (omega (arith, one.0, two.0), λ count h. two.1 count (omega (arith, one.0)) ∙ one.1 count h)
 
   pub front_read : (old new : List X) → IsPrefix old new → (k : ℕ) (d : X) → k < length old → get_or new k d ≡ get_or old k d
-  front_read old new front k d h =
-      sym (get_or-take (length old) new k d h) ∙ ap (λ xs. get_or xs k d) (front.1 (length old) (omega arith)) ∙ get_or-take (length old) old k d h
+  front_read old new front k d h = grind (arith, get_or-take, length, get_or)
 
   -- an element stays at its place
   pub front_kept : (old new : List X) → IsPrefix old new → (k : ℕ) (x : X) → slice_get old k ≡ Some x → slice_get new k ≡ Some x
@@ -44,24 +43,17 @@ pub keeps_all : (tried : Tried) → KeepsAnswers tried tried
 keeps_all tried = record { questions = front_itself tried.questions.keys; answers = front_itself tried.answers.items }
 
 pub keeps_more : (one two three : Tried) → KeepsAnswers one two → KeepsAnswers two three → KeepsAnswers one three
-keeps_more one two three h k = record {
-  questions = front_more one.questions.keys two.questions.keys three.questions.keys h.questions k.questions;
-  answers = front_more one.answers.items two.answers.items three.answers.items h.answers k.answers;
-}
+keeps_more one two three h k = grind (arith, front_more)
 
 module _ (rules : List Rule) (known : List Text) where
   -- what is expected of a question
   pub expected_is : (question : Question) (left : ℕ) (used : List ℕ) (name : Text) → question.name ≡ name → question.used.items ≡ used
       → left + length used ≡ chain_limit → expected_for rules known question ≡ fitting rules known left used name
-  expected_is question left used name n u whole =
-      let e : left_for question ≡ left = omega (arith, ap length u) in
-      λ j. fitting rules known (e j) (u j) (n j)
+  expected_is question left used name n u whole = grind (arith, length)
 
   pub asking_for : (question : Question) (left : ℕ) (used : List ℕ) (name : Text) → question.name ≡ name → question.used.items ≡ used
       → left + length used ≡ chain_limit → asking rules known (left_for question) question.used.items question.name ≡ asking rules known left used name
-  asking_for question left used name n u whole =
-      let e : left_for question ≡ left = omega (arith, ap length u) in
-      λ j. asking rules known (e j) (u j) (n j)
+  asking_for question left used name n u whole = grind (arith, length)
 
   -- a question that was there has its answer, and adds nothing
   module _ (old new : Tried) (question : Question) (answer : Option HeldCandidate) (left : ℕ) (used : List ℕ) (name : Text)
@@ -77,11 +69,7 @@ module _ (rules : List Rule) (known : List Text) where
     long = omega (arith, ap length one_used)
 
     pub stood_found : IsFound rules name (fitting rules known left used name) answer
-    stood_found =
-        let found = right.found stood.place stood.one stood.stands long in
-        rw stood.answered
-        (subst (λ e. IsFound rules name e (unwrap_or (slice_get old.answers.items stood.place) None)) (expected_is stood.one left used name one_name one_used whole)
-        (subst (λ m. IsFound rules m (expected_for rules known stood.one) (unwrap_or (slice_get old.answers.items stood.place) None)) one_name found))
+    stood_found = grind (arith, long, expected_is, one_name, one_used)
 
     pub stood_leaves : HasAnswered rules known old new (length used) (asking rules known left used name)
     stood_leaves = record {
@@ -141,17 +129,10 @@ module _ (rules : List Rule) (known : List Text) where
       told_is = λ j. (n j, u j)
 
       mid_put : map question_view mid.questions.keys ≡ with_question (map question_view old.questions.keys) (name, used)
-      mid_put =
-          let absent : list_any (asked_eq (name, used)) (map question_view old.questions.keys) ≡ false
-          = ap (λ a. list_any (asked_eq a) (map question_view old.questions.keys)) (sym told_is) ∙ last.absent in
-          ap (map question_view) last.questions ∙ map-append question_view old.questions.keys (question ∷ [])
-          ∙ ap (λ a. map question_view old.questions.keys ++ a ∷ []) told_is
-          ∙ sym (ap (λ b. if b then map question_view old.questions.keys else map question_view old.questions.keys ++ (name, used) ∷ []) absent)
+      mid_put = grind (arith, told_is, map-append)
 
       all_asked : map question_view new.questions.keys ≡ fold with_question (map question_view old.questions.keys) (asking rules known left used name)
-      all_asked =
-          leaves.put ∙ ap (λ asked. fold with_question asked (asked_besides rules known left used name)) mid_put
-          ∙ sym (ap (fold with_question (map question_view old.questions.keys)) (asking_is rules known left used name))
+      all_asked = grind (arith, mid_put, asking_is)
 
       mid_size : length mid.questions.keys ≡ length old.questions.keys + 1
       mid_size = ap length last.questions ∙ length-append old.questions.keys (question ∷ [])
@@ -179,24 +160,13 @@ module _ (rules : List Rule) (known : List Text) where
           ∙ front_was mid.questions.keys new.questions.keys keeps.questions k one (omega (arith, mid_size, last.place_after)) at)
 
       older_answer : (k : ℕ) → k < place → unwrap_or (slice_get final.answers.items k) None ≡ unwrap_or (slice_get old.answers.items k) None
-      older_answer k before =
-          let within : k < length old.answers.items = omega (arith, last.place_after, right.as_many) in
-          let more : length mid.answers.items ≡ length old.answers.items + 1 = ap length last.answers ∙ length-append old.answers.items (None ∷ []) in
-          unwrap_or-slice_get final.answers.items k None ∙ ap (λ xs. get_or xs k None) noted
-          ∙ get_or-set_other new.answers.items place k answer None (omega arith)
-          ∙ front_read mid.answers.items new.answers.items keeps.answers k None (omega arith)
-          ∙ ap (λ xs. get_or xs k None) last.answers ∙ get_or_append_left old.answers.items (None ∷ []) None k within
-          ∙ sym (unwrap_or-slice_get old.answers.items k None)
+      older_answer k before = grind (arith, length, length-append, unwrap_or-slice_get, get_or, get_or-set_other, front_read, get_or_append_left)
 
       noted_answer : unwrap_or (slice_get final.answers.items place) None ≡ answer
-      noted_answer =
-          let within : place < length new.answers.items = omega (arith, leaves.right.as_many, slice_get_within new.questions.keys place question placed) in
-          unwrap_or-slice_get final.answers.items place None ∙ ap (λ xs. get_or xs place None) noted ∙ get_or-set_same new.answers.items place answer None within
+      noted_answer = grind (arith, length, slice_get_within, placed, unwrap_or-slice_get, get_or, get_or-set_same)
 
       other_answer : (k : ℕ) → (k ≡ place → ⊥) → unwrap_or (slice_get final.answers.items k) None ≡ unwrap_or (slice_get new.answers.items k) None
-      other_answer k other =
-          unwrap_or-slice_get final.answers.items k None ∙ ap (λ xs. get_or xs k None) noted
-          ∙ get_or-set_other new.answers.items place k answer None other ∙ sym (unwrap_or-slice_get new.answers.items k None)
+      other_answer k other = grind (arith, unwrap_or-slice_get, get_or, get_or-set_other)
 
       abbrev IsRightAt : ℕ → Question → Type 0
       IsRightAt k one =
@@ -205,35 +175,16 @@ module _ (rules : List Rule) (known : List Text) where
           → list_any (asked_eq asked) (map question_view final.questions.keys) ≡ true)
 
       still_put : (asked : Sought) → list_any (asked_eq asked) (map question_view old.questions.keys) ≡ true → list_any (asked_eq asked) (map question_view final.questions.keys) ≡ true
-      still_put asked h =
-          ap (λ keys. list_any (asked_eq asked) (map question_view keys)) same ∙ ap (list_any (asked_eq asked)) all_asked
-          ∙ stays_put asked (map question_view old.questions.keys) (asking rules known left used name) h
+      still_put asked h = grind (arith, all_asked, stays_put)
 
       own_right : (one : Question) → question ≡ one → IsRightAt place one
-      own_right one is =
-          let one_name : one.name ≡ name = ap (λ (q : Question). q.name) (sym is) ∙ n in
-          let one_used : one.used.items ≡ used = ap (λ (q : Question). q.used.items) (sym is) ∙ u in (
-            subst (λ a. IsFound rules one.name (expected_for rules known one) a) (sym noted_answer)
-                (subst (λ e. IsFound rules one.name e answer) (sym (expected_is one left used name one_name one_used whole))
-                (subst (λ m. IsFound rules m (fitting rules known left used name) answer) (sym one_name) found)),
-            λ asked c. ap (λ keys. list_any (asked_eq asked) (map question_view keys)) same ∙ ap (list_any (asked_eq asked)) all_asked
-                ∙ all_put (map question_view old.questions.keys) (asking rules known left used name) asked
-                (subst (λ all. Contains all asked) (asking_for one left used name one_name one_used whole) c),
-          )
+      own_right one is = grind (arith, one_name, one_used, noted_answer, expected_is, all_asked, all_put, asking_for)
 
       older_right : (k : ℕ) (one : Question) → k < place → slice_get new.questions.keys k ≡ Some one → length used ≤ length one.used.items → IsRightAt k one
-      older_right k one before at long =
-          let was = older_at k one before at in (
-            subst (λ a. IsFound rules one.name (expected_for rules known one) a) (sym (older_answer k before)) (right.found k one was long),
-            λ asked c. still_put asked (right.closed k one was long asked c),
-          )
+      older_right k one before at long = grind (arith, older_at, older_answer, long, still_put)
 
       longer_right : (k : ℕ) (one : Question) → place < k → slice_get new.questions.keys k ≡ Some one → IsRightAt k one
-      longer_right k one past at =
-          let long = longer k one past at in (
-            subst (λ a. IsFound rules one.name (expected_for rules known one) a) (sym (other_answer k (λ e. omega arith))) (leaves.right.found k one at long),
-            λ asked c. ap (λ keys. list_any (asked_eq asked) (map question_view keys)) same ∙ leaves.right.closed k one at long asked c,
-          )
+      longer_right k one past at = grind (arith, long, longer, other_answer)
 
       right_at : (k : ℕ) (one : Question) → slice_get final.questions.keys k ≡ Some one → length used ≤ length one.used.items → IsRightAt k one
       right_at k one at long =

@@ -1,6 +1,6 @@
 -- A candidate that the search finds is that of its rule.
-use Rattle.std.proofs.Common.{◌≡◌, ℕ, suc, zero, Bool, true, false, not, ◌||◌, ◌==◌, cond, ◌+◌, if◌then◌else◌, List, [], ◌∷◌, ◌++◌, length, filter, find, fold, Option, Some, None, IfSome, slice_get, All, refl, sym, ap, subst, ◌∙◌}
-use Rattle.kt_graph.proofs.Common.{filter_map, flat_map, cons_option, range_with_len, option_and_then, option_map, option_or, option_to_list, append_assoc, length_push, All-nil, All-cons, All-head, All-tail, All-append, All-filter, Text, Target, Rule, Candidate, candidate_by, candidate_of, candidate_with, candidates_for, drops_any, fit_of, matching_from, needs_with, shorter, shortest, size_of, unless_long, without_any, choice_of, chain_limit, fitting, is_begun, is_inferred, is_met, is_used, open_candidates}
+use Rattle.std.proofs.Common.{arith, rules, ◌≡◌, ℕ, suc, zero, Bool, true, false, not, ◌||◌, ◌==◌, cond, ◌+◌, if◌then◌else◌, List, [], ◌∷◌, ◌++◌, length, filter, find, fold, Option, Some, None, IfSome, slice_get, All, refl, sym, ap, subst, ◌∙◌}
+use Rattle.kt_graph.proofs.Common.{filter_map, flat_map, cons_option, range_with_len, option_and_then, option_map, option_or, option_to_list, append_assoc, length_push, All-nil, All-cons, All-head, All-tail, All-append, All-filter, Text, Target, Rule, Candidate, candidate_by, candidate_of, candidate_with, candidates_for, drops_any, matching_from, needs_with, shorter, shortest, size_of, unless_long, without_any, choice_of, chain_limit, fitting, is_begun, is_inferred, is_met, is_used, open_candidates}
 
 -- a candidate of a rule that has a number
 record IsOf (number : ℕ) (rule : Rule) (candidate : Candidate) : Type 0 where
@@ -13,18 +13,14 @@ NeedsIt rules candidate =
     (rule : Rule) → slice_get rules candidate.rule ≡ Some rule → candidate.needs ≡ needs_with candidate.directory candidate.stem rule.needs
 
 by_fit : (number : ℕ) (rule : Rule) (pattern : Text) (fit : Option (Text × Text)) → IfSome (option_map (candidate_with number rule pattern) fit) (IsOf number rule)
-by_fit number rule pattern None = tt
-by_fit number rule pattern (Some fit) = record { numbered = refl; needing = refl }
+by_fit number rule pattern fit = grind arith
 
 more_of : {A : Type 0} (P : A → Type 0) (x : Option A) (xs : List A) → IfSome x P → All P xs → All P (cons_option x xs)
-more_of P None xs h k = k
-more_of P (Some x) xs h k = All-cons P x xs h k
+more_of P x xs h k = grind (arith, All-cons)
 
 by_targets : (number : ℕ) (rule : Rule) (name : Text) (targets : List Target) → All (IsOf number rule) (filter_map (candidate_by number rule name) targets)
 by_targets number rule name [] = All-nil (IsOf number rule)
-by_targets number rule name (target ∷ targets) =
-    more_of (IsOf number rule) (candidate_by number rule name target) (filter_map (candidate_by number rule name) targets)
-    (by_fit number rule target.name (fit_of target.name name)) (by_targets number rule name targets)
+by_targets number rule name (target ∷ targets) = grind (arith, more_of, by_fit, by_targets number rule name targets)
 
 one_of : {A : Type 0} (P : A → Type 0) (x y : A) (b : Bool) → P x → P y → P (if b then x else y)
 one_of P x y true h k = h
@@ -36,8 +32,7 @@ shortest_of P best (other ∷ candidates) h k =
     shortest_of P (shorter best other) candidates (one_of P best other _ h (All-head P other candidates k)) (All-tail P other candidates k)
 
 unless_kept : (rule : Rule) (P : Candidate → Type 0) (candidate : Candidate) (b : Bool) → P candidate → IfSome (if b then Some candidate else None) P
-unless_kept rule P candidate true h = h
-unless_kept rule P candidate false h = tt
+unless_kept rule P candidate b h = grind arith
 
 shortest_kept : (rule : Rule) (P : Candidate → Type 0) (candidates : List Candidate) → All P candidates → IfSome (option_and_then (unless_long rule) (shortest candidates)) P
 shortest_kept rule P [] h = tt
@@ -50,18 +45,13 @@ of_rule number rule name = shortest_kept rule (IsOf number rule) (filter_map (ca
 
 -- what is of a rule needs what that rule does
 needs_it : (all : List Rule) (number : ℕ) (rule : Rule) (candidate : Candidate) → slice_get all number ≡ Some rule → IsOf number rule candidate → NeedsIt all candidate
-needs_it all number rule candidate at h other found =
-    let same : Some other ≡ Some rule = sym found ∙ ap (slice_get all) h.numbered ∙ at in
-    let e : other ≡ rule = cc in
-    h.needing ∙ ap (λ r. needs_with candidate.directory candidate.stem r.needs) (sym e)
+needs_it all number rule candidate at h other found = grind arith
 
 if_some : {A : Type 0} (P Q : A → Type 0) (o : Option A) → ((x : A) → P x → Q x) → IfSome o P → IfSome o Q
-if_some P Q None f h = tt
-if_some P Q (Some x) f h = f x h
+if_some P Q o f h = grind arith
 
 one_more : {A : Type 0} (P : A → Type 0) (o : Option A) (xs : List A) → IfSome o P → All P xs → All P (option_to_list o ++ xs)
-one_more P None xs h k = k
-one_more P (Some x) xs h k = All-cons P x xs h k
+one_more P o xs h k = grind (arith, All-cons)
 
 at_front : (earlier : List Rule) (rule : Rule) (rules : List Rule) → slice_get (earlier ++ rule ∷ rules) (length earlier) ≡ Some rule
 at_front [] rule rules = refl
@@ -99,16 +89,14 @@ candidates_need rules in_chain name =
 
 find_some : (P : Candidate → Type 0) (p : Candidate → Bool) (x : Candidate) (xs : List Candidate) (b : Bool) → P x → IfSome (find p xs) P
     → IfSome (cond b (Some x) (find p xs)) P
-find_some P p x xs true h k = h
-find_some P p x xs false h k = k
+find_some P p x xs b h k = grind arith
 
 find_holds : (P : Candidate → Type 0) (p : Candidate → Bool) (xs : List Candidate) → All P xs → IfSome (find p xs) P
 find_holds P p [] h = tt
 find_holds P p (x ∷ xs) h = find_some P p x xs (p x) (All-head P x xs h) (find_holds P p xs (All-tail P x xs h))
 
 either_holds : (P : Candidate → Type 0) (one other : Option Candidate) → IfSome one P → IfSome other P → IfSome (option_or one other) P
-either_holds P None other h k = k
-either_holds P (Some x) other h k = h
+either_holds P one other h k = grind arith
 
 chosen_needs : (rules : List Rule) (known : List Text) (left : ℕ) (used : List ℕ) (name : Text) → IfSome (fitting rules known left used name) (NeedsIt rules)
 unfolding fitting

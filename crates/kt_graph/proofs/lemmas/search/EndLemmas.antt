@@ -1,8 +1,7 @@
 -- Rules that are found by the ends of their targets.
-use Rattle.std.proofs.Common.{◌≡◌, ℕ, zero, suc, ◌+◌, ◌-◌, ◌<◌, ◌≤◌, Bool, true, false, ◌&&◌, ◌⊎◌, ⊎_elim, inl, inr, if◌then◌else◌, nat_eq, nat_le, List, [], ◌∷◌, ◌++◌, length, drop, get_or, filter_map, IfSome, Option, Some, None, option_map, slice_get, refl, sym, ap, ◌∙◌, subst, arith}
-use Rattle.kt_graph.proofs.Common.{Contains, cons_option, dedup, ends_with, position_or_len, slice_index, starts_with, IsPermutation, IsSorted, IsStrictlyIncreasing, nat_cmp, option_and_then, option_to_list, cases_eq, cases_lt, false≢true, leb-true, append-nil, append_assoc, drop-drop, drop_all, drop_more, length-drop, All-head, All-push, All-tail, filter_map-append, Contains-permutation, IsStrictlyIncreasing-dedup, get_or_from_slice_get, none-some, slice_get_past, bytes_eq-Decides, IsFirstByte, is_byte, Text, has_percent, is_between, is_percent, pattern_back, pattern_front, stem_span, first_byte_place, Target, Rule, Ends, Candidate, candidate_by, candidate_of, candidate_with, fit_of, has_slash, matched_part, matching_from, shortest, stem_of, unless_long, AreAllNoted, AreNoted, HasAll, IsNoted, candidate_numbered, candidates_numbered, numbers_at, AreWithin, IsFitWithin, candidate_at, candidate_view, candidates_view, found_view, first_or_rest}
+use Rattle.std.proofs.Common.{rules, ◌≡◌, ℕ, zero, suc, ◌+◌, ◌-◌, ◌<◌, ◌≤◌, true, ◌⊎◌, ⊎_elim, inl, inr, nat_eq, nat_le, List, [], ◌∷◌, ◌++◌, length, drop, get_or, filter_map, IfSome, Option, Some, None, option_map, slice_get, refl, sym, ap, ◌∙◌, subst, arith}
+use Rattle.kt_graph.proofs.Common.{Contains, cons_option, dedup, position_or_len, slice_index, IsPermutation, IsSorted, IsStrictlyIncreasing, nat_cmp, option_and_then, option_to_list, cases_eq, cases_lt, false≢true, leb-true, append-nil, append_assoc, drop-drop, drop_all, drop_more, length-drop, All-head, All-push, All-tail, filter_map-append, Contains-permutation, IsStrictlyIncreasing-dedup, get_or_from_slice_get, none-some, slice_get_past, bytes_eq-Decides, IsFirstByte, is_byte, Text, is_between, is_percent, pattern_back, stem_span, first_byte_place, Target, Rule, Ends, Candidate, candidate_by, candidate_of, fit_of, matched_part, matching_from, shortest, stem_of, unless_long, AreAllNoted, AreNoted, HasAll, IsNoted, candidate_numbered, candidates_numbered, numbers_at, AreWithin, IsFitWithin, candidate_at, candidates_view, found_view, first_or_rest}
 use Rattle.std.proofs.lemmas.List.Kept.{Contains-dedup_nat}
-use Rattle.kt_text.specs.Functions.{name_place}
 use Rattle.kt_graph.specs.declared.search.candidate.Candidate.{Candidate as HeldCandidate}
 use Rattle.kt_graph.proofs.lemmas.search.CandidateLemmas.{matching_at, matching_none, rule_at, told_at}
 use Rattle.kt_graph.proofs.lemmas.MemberLemmas.{Contains-none}
@@ -21,57 +20,26 @@ EndsIn name end = (length end ≤ length name) × (drop (length name - length en
 
 between_ends : (front back word : Text) → is_between front back word ≡ true → EndsIn word back
 unfolding is_between
-between_ends front back word is =
-    by (nat_le (length front + length back) (length word)) (starts_with nat_eq word front) (ends_with nat_eq word back) refl refl is
-  where
-    by : (a b c : Bool) → nat_le (length front + length back) (length word) ≡ a → ends_with nat_eq word back ≡ c → (a && (b && c)) ≡ true → EndsIn word back
-    by true true true fits same e = (
-      let long : length front + length back ≤ length word = leb-true _ _ fits in omega (arith, long),
-      sym ((bytes_eq-Decides back (drop (length word - length back) word)).0 same),
-    )
-    by true true false fits same e = absurd (false≢true e)
-    by true false c fits same e = absurd (false≢true e)
-    by false b c fits same e = absurd (false≢true e)
+between_ends front back word is = grind (arith, nat_le, length, nat_eq, leb-true, bytes_eq-Decides, false≢true)
 
 span_ends : (pattern word : Text) (span : ℕ × ℕ) → stem_span pattern word ≡ Some span → EndsIn word (pattern_back pattern)
 unfolding stem_span
-span_ends pattern word span found = by (has_percent pattern) (is_between (pattern_front pattern) (pattern_back pattern) word) refl found
-  where
-    by : (a b : Bool) → is_between (pattern_front pattern) (pattern_back pattern) word ≡ b
-        → (if a && b then Some (length (pattern_front pattern), length word - length (pattern_back pattern)) else None) ≡ Some span → EndsIn word (pattern_back pattern)
-    by true true is e = between_ends (pattern_front pattern) (pattern_back pattern) word is
-    by true false is e = absurd (none-some span e)
-    by false b is e = absurd (none-some span e)
+span_ends pattern word span found = grind (arith, length, between_ends, none-some)
 
 -- what a part after a place ends in, the whole ends in
 rest_ends : (name end : Text) (place : ℕ) → place ≤ length name → EndsIn (drop place name) end → EndsIn name end
-rest_ends name end place within ends =
-    let long = length-drop place name in
-    let at : place + (length (drop place name) - length end) ≡ length name - length end = let fits = ends.0 in omega arith in
-    (let fits = ends.0 in omega arith, sym (drop-drop (length (drop place name) - length end) place name ∙ ap (λ n. drop n name) at) ∙ ends.1)
+rest_ends name end place within ends = grind (arith, length-drop, length, drop-drop)
 
 part_ends : (pattern name end : Text) → EndsIn (matched_part pattern name) end → EndsIn name end
-part_ends pattern name end ends = by (has_slash pattern) ends
-  where
-    by : (b : Bool) → EndsIn (if b then name else drop (name_place name) name) end → EndsIn name end
-    by true e = e
-    by false e = rest_ends name end (name_place name) (omega arith) e
+part_ends pattern name end ends = grind (arith, rest_ends)
 
 fit_ends : (pattern name : Text) (fit : Text × Text) → fit_of pattern name ≡ Some fit → EndsIn name (pattern_back pattern)
 unfolding fit_of stem_of
-fit_ends pattern name fit found = by (stem_span pattern (matched_part pattern name)) refl
-  where
-    by : (o : Option (ℕ × ℕ)) → stem_span pattern (matched_part pattern name) ≡ o → EndsIn name (pattern_back pattern)
-    by None e = absurd (none-some fit (rw e at found))
-    by (Some span) e = part_ends pattern name (pattern_back pattern) (span_ends pattern (matched_part pattern name) span e)
+fit_ends pattern name fit found = grind (arith, none-some, part_ends, span_ends)
 
 target_ends : (number : ℕ) (rule : Rule) (name : Text) (target : Target)
     → (candidate_by number rule name target ≡ None) ⊎ EndsIn name (pattern_back target.name)
-target_ends number rule name target = by (fit_of target.name name) refl
-  where
-    by : (o : Option (Text × Text)) → fit_of target.name name ≡ o → (candidate_by number rule name target ≡ None) ⊎ EndsIn name (pattern_back target.name)
-    by None e = inl (ap (option_map (candidate_with number rule target.name)) e)
-    by (Some fit) e = inr (fit_ends target.name name fit e)
+target_ends number rule name target = grind (arith, fit_ends)
 
 -- ---- a rule that makes a name is found
 
@@ -133,10 +101,7 @@ rises_lower least lower [] below up = tt
 rises_lower least lower (number ∷ numbers) below up = (let above = up.0 in omega arith, up.1)
 
 next_above : (at number : ℕ) → at ≤ number → (number ≡ at → ⊥) → at + 1 ≤ number
-next_above at number above differ = ⊎_elim
-    (λ (less : at < number). omega arith)
-    (λ (more : number ≤ at). absurd (differ (omega arith)))
-    (cases_lt at number)
+next_above at number above differ = grind (arith, ⊎_elim, cases_lt)
 
 rises_past : (number : ℕ) (numbers : List ℕ) → Rises (number + 1) numbers → Contains numbers number → ⊥
 rises_past number [] up there = Contains-none number there
@@ -161,35 +126,20 @@ CoversFrom least rules name numbers =
 -- a rule that isn't among the numbers makes no candidate
 passed_over : (rules : List Rule) (name : Text) (at : ℕ) (numbers : List ℕ) (rule : Rule) → slice_get rules at ≡ Some rule → CoversFrom at rules name numbers
     → Rises (at + 1) numbers → (ones : List Candidate) → option_to_list (candidate_of at rule name) ++ ones ≡ ones
-passed_over rules name at numbers rule found covers up ones = ⊎_elim
-    (λ (none : candidate_of at rule name ≡ None). ap (λ (o : Option Candidate). option_to_list o ++ ones) none)
-    (λ (there : Contains numbers at). absurd (rises_past at numbers up there))
-    (covers at rule (omega arith) found)
+passed_over rules name at numbers rule found covers up ones = grind (arith, ⊎_elim, rises_past)
 
 -- those from the next on
 covers_after : (rules : List Rule) (name : Text) (at : ℕ) (numbers : List ℕ) → CoversFrom at rules name (at ∷ numbers) → CoversFrom (at + 1) rules name numbers
-covers_after rules name at numbers covers number rule above found = ⊎_elim
-    (λ (none : candidate_of number rule name ≡ None). inl none)
-    (λ (there : Contains (at ∷ numbers) number). ⊎_elim
-    (λ (same : at ≡ number). absurd (omega arith))
-    (λ (after : Contains numbers number). inr after)
-    (first_or_rest at number numbers there))
-    (covers number rule (omega arith) found)
+covers_after rules name at numbers covers number rule above found = grind (arith, ⊎_elim, first_or_rest)
 
 first_told : (rules : List Rule) (name : Text) (at : ℕ) (rule : Rule) (ones : List Candidate) → slice_get rules at ≡ Some rule
     → cons_option (candidate_numbered rules name at) ones ≡ option_to_list (candidate_of at rule name) ++ ones
-first_told rules name at rule ones found =
-    ap (λ o. cons_option (option_and_then (λ (one : Rule). candidate_of at one name) o) ones) found ∙ by (candidate_of at rule name)
-  where
-    by : (o : Option Candidate) → cons_option o ones ≡ option_to_list o ++ ones
-    by None = refl
-    by (Some one) = refl
+first_told rules name at rule ones found = grind arith
 
 -- so their candidates are those of all rules
 numbered_from : (rules : List Rule) (name : Text) (left at : ℕ) (numbers : List ℕ) → left + at ≡ length rules → Rises at numbers → CoversFrom at rules name numbers
     → candidates_numbered rules name numbers ≡ matching_from at (drop at rules) name
-numbered_from rules name zero at numbers size up covers =
-    none_numbered rules name numbers at (omega arith) up ∙ sym (matching_none rules name at (omega arith))
+numbered_from rules name zero at numbers size up covers = grind (arith, none_numbered, matching_none)
 numbered_from rules name (suc left) at [] size up covers =
     let there : (rule : Rule) × (slice_get rules at ≡ Some rule) = rule_at rules at (omega arith) in
     numbered_from rules name left (at + 1) [] (omega arith) tt (λ number rule above found. covers number rule (omega arith) found)
@@ -234,9 +184,7 @@ numbers_in_order ends rules name found sorted kept noted all same order once =
 pub told_numbered : (rules : List Rule) (name : Text) (number : ℕ) (rule : Rule) (found : Option HeldCandidate) → slice_get rules number ≡ Some rule
     → IfSome found (λ candidate. (candidate.rule ≡ number) × IsFitWithin name candidate.fit) → option_map (candidate_at name rule) found ≡ candidate_of number rule name
     → found_view rules name found ≡ candidate_numbered rules name number
-told_numbered rules name number rule None there within is = is ∙ sym (ap (option_and_then (λ (one : Rule). candidate_of number one name)) there)
-told_numbered rules name number rule (Some candidate) there within is =
-    told_at rules name candidate rule (ap (slice_get rules) within.0 ∙ there) ∙ is ∙ sym (ap (option_and_then (λ (one : Rule). candidate_of number one name)) there)
+told_numbered rules name number rule found there within is = grind (arith, told_at)
 
 pub told_none : (rules : List Rule) (name : Text) (number : ℕ) → slice_get rules number ≡ None → None ≡ candidate_numbered rules name number
 told_none rules name number none = sym (ap (option_and_then (λ (one : Rule). candidate_of number one name)) none)
@@ -244,8 +192,7 @@ told_none rules name number none = sym (ap (option_and_then (λ (one : Rule). ca
 pub within_numbered : (rules : List Rule) (name : Text) (number : ℕ) (found : Option HeldCandidate) → number < length rules
     → IfSome found (λ candidate. (candidate.rule ≡ number) × IsFitWithin name candidate.fit)
     → IfSome found (λ candidate. (candidate.rule < length rules) × IsFitWithin name candidate.fit)
-within_numbered rules name number None below within = tt
-within_numbered rules name number (Some candidate) below within = (let same = within.0 in omega arith, within.1)
+within_numbered rules name number found below within = grind arith
 
 -- one more number
 pub numbered_more : (rules : List Rule) (name : Text) (numbers : List ℕ) (i number : ℕ) (candidates more : List HeldCandidate) (found : Option HeldCandidate)
@@ -253,22 +200,7 @@ pub numbered_more : (rules : List Rule) (name : Text) (numbers : List ℕ) (i nu
     → more ≡ candidates ++ option_to_list found
     → candidates_view rules name more ++ candidates_numbered rules name (drop (i + 1) numbers)
     ≡ candidates_view rules name candidates ++ candidates_numbered rules name (drop i numbers)
-numbered_more rules name numbers i number candidates more found within at is grown =
-    ap (λ (ones : List Candidate). ones ++ candidates_numbered rules name (drop (i + 1) numbers))
-    (ap (candidates_view rules name) grown ∙ filter_map-append (candidate_view rules name) candidates (option_to_list found))
-    ∙ append_assoc (candidates_view rules name candidates) (candidates_view rules name (option_to_list found)) (candidates_numbered rules name (drop (i + 1) numbers))
-    ∙ ap (λ (ones : List Candidate). candidates_view rules name candidates ++ ones)
-    (by found (candidates_numbered rules name (drop (i + 1) numbers))
-    ∙ ap (λ o. cons_option o (candidates_numbered rules name (drop (i + 1) numbers))) is
-    ∙ sym (ap (candidates_numbered rules name) (drop_more numbers i number within ∙ ap (λ first. first ∷ drop (i + 1) numbers) (sym at))))
-  where
-    by : (o : Option HeldCandidate) (rest : List Candidate) → candidates_view rules name (option_to_list o) ++ rest ≡ cons_option (found_view rules name o) rest
-    by None rest = refl
-    by (Some one) rest = by_told (candidate_view rules name one) rest
-      where
-        by_told : (t : Option Candidate) (rest : List Candidate) → cons_option t [] ++ rest ≡ cons_option t rest
-        by_told None rest = refl
-        by_told (Some told) rest = refl
+numbered_more rules name numbers i number candidates more found within at is grown = grind (arith, filter_map-append, append_assoc, drop_more)
 
 pub within_with : (rules : List Rule) (name : Text) (candidates more : List HeldCandidate) (found : Option HeldCandidate)
     → IfSome found (λ candidate. (candidate.rule < length rules) × IsFitWithin name candidate.fit) → more ≡ candidates ++ option_to_list found
@@ -276,5 +208,4 @@ pub within_with : (rules : List Rule) (name : Text) (candidates more : List Held
 within_with rules name candidates more (Some candidate) there grown within =
     subst (λ (cs : List HeldCandidate). AreWithin rules name cs) (sym grown)
     (All-push (λ (c : HeldCandidate). (c.rule < length rules) × IsFitWithin name c.fit) candidates candidate within there)
-within_with rules name candidates more None there grown within =
-    subst (λ (cs : List HeldCandidate). AreWithin rules name cs) (sym (grown ∙ append-nil candidates)) within
+within_with rules name candidates more None there grown within = grind (arith, append-nil)

@@ -1,6 +1,6 @@
 -- Trees stay when a chain has fewer rules and more may be added: what makes a name after a chain makes it without one.
-use Rattle.std.proofs.Common.{◌≡◌, ℕ, zero, suc, ◌+◌, ◌≤◌, Bool, true, false, not, ◌||◌, if◌then◌else◌, List, [], ◌∷◌, length, filter, refl, sym, ap, ◌∙◌, true≢false, ⊎_elim, arith, ◌==◌, nat_eq, nat_lt}
-use Rattle.kt_graph.proofs.Common.{Contains, list_any, range_with_len, eq-eqb, false_from_ne_true, or_cases, or_left, or_right, All-weaker, or_swap, from_flat_map, in_flat_map, Text, Rule, Candidate, by_size, candidates_for, matching_from, size_of, without_any, HasTree, is_begun, is_used, unknown_needs, with_rule}
+use Rattle.std.proofs.Common.{rules, ◌≡◌, ℕ, zero, suc, ◌+◌, ◌≤◌, Bool, true, false, not, ◌||◌, if◌then◌else◌, List, [], ◌∷◌, length, filter, refl, sym, ◌∙◌, true≢false, ⊎_elim, arith, ◌==◌, nat_eq, nat_lt}
+use Rattle.kt_graph.proofs.Common.{Contains, list_any, range_with_len, eq-eqb, false_from_ne_true, or_cases, or_left, or_right, All-weaker, from_flat_map, in_flat_map, Text, Rule, Candidate, by_size, candidates_for, matching_from, size_of, without_any, HasTree, is_begun, is_used, unknown_needs, with_rule}
 use Rattle.kt_graph.proofs.lemmas.Membership.{in_filter, kept_by_filter}
 
 -- ---- candidates outside a chain
@@ -39,18 +39,10 @@ HasAll used fewer = (rule : ℕ) → is_used fewer rule ≡ true → is_used use
 used_with : (rule other : ℕ) (used : List ℕ) → is_used (with_rule rule used) other ≡ (nat_eq other rule || is_used used other)
 unfolding with_rule
 used_with rule other [] = refl
-used_with rule other (first ∷ used) = by (nat_lt rule first) (used_with rule other used)
-  where
-    by : (b : Bool) → is_used (with_rule rule used) other ≡ (nat_eq other rule || is_used used other)
-        → is_used (if b then rule ∷ first ∷ used else first ∷ with_rule rule used) other ≡ (nat_eq other rule || is_used (first ∷ used) other)
-    by true more = refl
-    by false more = ap (λ b. nat_eq other first || b) more ∙ or_swap (nat_eq other first) (nat_eq other rule) (is_used used other)
+used_with rule other (first ∷ used) = grind (arith, nat_lt, nat_eq, used_with rule other used)
 
 has_all_with : (rule : ℕ) (used fewer : List ℕ) → HasAll used fewer → HasAll (with_rule rule used) (with_rule rule fewer)
-has_all_with rule used fewer all other h =
-    used_with rule other used
-    ∙ ⊎_elim (λ same. or_left (nat_eq other rule) (is_used used other) same) (λ rest. or_right (nat_eq other rule) (is_used used other) (all other rest))
-    (or_cases (nat_eq other rule) (is_used fewer other) (sym (used_with rule other fewer) ∙ h))
+has_all_with rule used fewer all other h = grind (arith, used_with, ⊎_elim, or_left, nat_eq, or_right, or_cases)
 
 -- a candidate after a chain is one after a chain with fewer rules
 fewer_candidates : (rules : List Rule) (name : Text) (used fewer : List ℕ) → HasAll used fewer → (one : Candidate)

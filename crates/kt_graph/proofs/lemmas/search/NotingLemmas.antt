@@ -1,5 +1,5 @@
 -- The numbers of ends, as more are noted and as they are found.
-use Rattle.std.proofs.Common.{◌≡◌, ℕ, ◌+◌, ◌-◌, ◌<◌, ◌≤◌, Bool, true, false, ⊎_elim, nat_eq, if◌then◌else◌, List, [], ◌∷◌, ◌++◌, length, drop, take, get_or, Some, slice_get, refl, sym, ap, ◌∙◌, subst, arith}
+use Rattle.std.proofs.Common.{rules, ◌≡◌, ℕ, ◌+◌, ◌-◌, ◌<◌, ◌≤◌, Bool, true, false, ⊎_elim, nat_eq, if◌then◌else◌, List, [], ◌∷◌, ◌++◌, length, drop, take, get_or, Some, slice_get, refl, sym, ap, ◌∙◌, subst, arith}
 use Rattle.kt_graph.proofs.Common.{Contains, list_any, bytes_eq, cases_eq, cases_lt, eqb-true, nat_list_eq_equiv, append-nil, take_more, All-push, All-weaker, Contains-append_left, Contains-append_right, Contains-append_cases, same_Some, slice_get_read, slice_get_within, insert_key, Contains-insert_key, Text, pattern_back, Target, Rule, Ends, AreAllNoted, AreNoted, HasAll, IsNoted, KeepsNoted, NotesEnd, NotesAll, numbers_at, first_or_rest, in_first}
 use Rattle.kt_graph.proofs.lemmas.MemberLemmas.{Contains-none}
 
@@ -50,10 +50,7 @@ abbrev pub AreNotedTo : ℕ → Ends → List Rule → Type 0
 AreNotedTo count ends rules = (number : ℕ) (rule : Rule) → number < count → slice_get rules number ≡ Some rule → AreNoted ends rule.targets number
 
 below_next : (number i : ℕ) → number < i + 1 → (number ≡ i → ⊥) → number < i
-below_next number i below differ = ⊎_elim
-    (λ (less : number < i). less)
-    (λ (more : i ≤ number). absurd (differ (omega arith)))
-    (cases_lt number i)
+below_next number i below differ = grind (arith, ⊎_elim, cases_lt)
 
 still_noted : (old new : Ends) (number : ℕ) → KeepsNoted old new → (targets : List Target) → AreNoted old targets number → AreNoted new targets number
 still_noted old new number kept targets there =

@@ -1,5 +1,5 @@
 -- Where a question is placed among others, in the set that holds them.
-use Rattle.std.proofs.Common.{◌≡◌, ℕ, ◌+◌, Bool, true, false, cond, not, ◌&&◌, ◌||◌, if◌then◌else◌, List, [], ◌∷◌, ◌++◌, length, map, Option, Some, None, refl, sym, ap, ◌∙◌, true≢false, arith, nat_eq, slice_get, unwrap_or}
+use Rattle.std.proofs.Common.{◌≡◌, ℕ, Bool, true, false, cond, not, ◌&&◌, ◌||◌, if◌then◌else◌, List, [], ◌∷◌, ◌++◌, length, map, Option, Some, None, refl, sym, ap, ◌∙◌, true≢false, arith, nat_eq, slice_get, unwrap_or}
 use Rattle.kt_graph.proofs.Common.{list_any, position_or_len, pointwise, same_text, and_parts, not-true, not-false, insert_key, Question, Tried, asked_eq, question_view}
 use Rattle.kt_graph.specs.declared.search.candidate.Candidate.{Candidate as HeldCandidate}
 use Rattle.kt_graph.specs.inner.search.Chains.{StandsLast, StoodBefore}
@@ -14,26 +14,13 @@ any_told question (other ∷ others) = ap (λ b. questions_eq question other || 
 
 place_after : (p : Question → Bool) (others : List Question) → list_any p others ≡ false → position_or_len p others ≡ length others
 place_after p [] h = refl
-place_after p (other ∷ others) h = by (p other) refl (place_after p others)
-  where
-    by : (b : Bool) → p other ≡ b → (list_any p others ≡ false → position_or_len p others ≡ length others) → position_or_len p (other ∷ others) ≡ length (other ∷ others)
-    by true e rest = absurd (true≢false (sym (ap (λ b. b || list_any p others) e) ∙ h))
-    by false e rest =
-        let later : position_or_len p others ≡ length others = rest (sym (ap (λ b. b || list_any p others) e) ∙ h) in
-        ap (λ b. cond (not b) (1 + position_or_len p others) 0) e ∙ omega arith
+place_after p (other ∷ others) h = grind (arith, length, true≢false, cond, not, place_after p others)
 
 -- a new one is added at the end
 pub placed_last : (old new : Tried) (question : Question) (place : ℕ) (is_new : Bool) → is_new ≡ true → is_new ≡ not (list_any (questions_eq question) old.questions.keys)
     → new.questions.keys ≡ insert_key questions_eq old.questions.keys question → place ≡ position_or_len (questions_eq question) old.questions.keys
     → new.answers.items ≡ old.answers.items ++ None ∷ [] → StandsLast old new question place
-placed_last old new question place is_new yes_new tells grown at pushed =
-    let absent : list_any (questions_eq question) old.questions.keys ≡ false = not-true _ (sym tells ∙ yes_new) in
-    record {
-      place_after = at ∙ place_after (questions_eq question) old.questions.keys absent;
-      absent = sym (any_told question old.questions.keys) ∙ absent;
-      questions = grown ∙ ap (λ b. if b then old.questions.keys else old.questions.keys ++ question ∷ []) absent;
-      answers = pushed;
-    }
+placed_last old new question place is_new yes_new tells grown at pushed = grind (arith, not-true, place_after, any_told)
 
 -- another one is where it was
 pub placed_before : (old new : Tried) (question : Question) (place : ℕ) (is_new : Bool) (answer : Option HeldCandidate) → is_new ≡ false

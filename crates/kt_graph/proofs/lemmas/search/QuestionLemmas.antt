@@ -9,18 +9,10 @@ any_in_more : (question : Sought) (asked more : List Sought) → list_any (asked
 any_in_more question asked more h = list_any-append (asked_eq question) asked more ∙ or_left _ _ h
 
 stays_with_one : (question one : Sought) (asked : List Sought) → list_any (asked_eq question) asked ≡ true → list_any (asked_eq question) (with_question asked one) ≡ true
-stays_with_one question one asked h = by (list_any (asked_eq one) asked)
-  where
-    by : (b : Bool) → list_any (asked_eq question) (if b then asked else asked ++ one ∷ []) ≡ true
-    by true = h
-    by false = any_in_more question asked (one ∷ []) h
+stays_with_one question one asked h = grind (arith, any_in_more)
 
 is_put : (one : Sought) (asked : List Sought) → list_any (asked_eq one) (with_question asked one) ≡ true
-is_put one asked = by (list_any (asked_eq one) asked) refl
-  where
-    by : (b : Bool) → list_any (asked_eq one) asked ≡ b → list_any (asked_eq one) (if b then asked else asked ++ one ∷ []) ≡ true
-    by true e = e
-    by false e = list_any-append (asked_eq one) asked (one ∷ []) ∙ or_right (list_any (asked_eq one) asked) _ (or_left _ _ (asked_itself one))
+is_put one asked = grind (arith, list_any-append, or_right, or_left, asked_itself)
 
 -- a question that is there stays there
 pub stays_put : (question : Sought) (asked more : List Sought) → list_any (asked_eq question) asked ≡ true → list_any (asked_eq question) (fold with_question asked more) ≡ true
@@ -49,19 +41,7 @@ record IsBehind (asked more all : List Sought) : Type 0 where
 
 after : (asked more : List Sought) → IsBehind asked more (fold with_question asked more)
 after asked [] = record { added = []; whole = sym (append-nil asked); from = λ question c. c }
-after asked (one ∷ more) = by (list_any (asked_eq one) asked) (after asked more) (after (asked ++ one ∷ []) more)
-  where
-    by : (b : Bool) → IsBehind asked more (fold with_question asked more) → IsBehind (asked ++ one ∷ []) more (fold with_question (asked ++ one ∷ []) more)
-        → IsBehind asked (one ∷ more) (fold with_question (if b then asked else asked ++ one ∷ []) more)
-    by true rest _ =
-        record { added = rest.added; whole = rest.whole; from = λ question c. in_rest one question more (rest.from question c) }
-    by false _ rest =
-        record {
-          added = one ∷ rest.added;
-          whole = rest.whole ∙ append_assoc asked (one ∷ []) rest.added;
-          from = λ question c. ⊎_elim (λ e. subst (λ q. Contains (one ∷ more) q) e (in_first one more))
-              (λ later. in_rest one question more (rest.from question later)) (first_or_rest one question rest.added c);
-        }
+after asked (one ∷ more) = grind (arith, in_rest, append_assoc, ⊎_elim, in_first, first_or_rest, after asked more, after (asked ++ one ∷ []) more)
 
 pub put_after : (asked more : List Sought) (place : ℕ) (question : Sought) → length asked ≤ place
     → slice_get (fold with_question asked more) place ≡ Some question → Contains more question

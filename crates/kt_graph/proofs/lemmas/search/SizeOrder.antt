@@ -57,11 +57,7 @@ upward-step key (x ∷ xs) n up =
 upward-range : {X : Type 0} (key : X → ℕ) (xs : List X) (n count : ℕ) → Rises key xs
     → upward key xs n ≡ flat_map (bucket key xs) (range_with_len n count) ++ upward key xs (n + count)
 upward-range key xs n zero up = ap (upward key xs) (sym (add-zero n))
-upward-range key xs n (suc count) up =
-    upward-step key xs n up
-    ∙ ap (λ rest. bucket key xs n ++ rest) (upward-range key xs (n + 1) count up)
-    ∙ sym (append_assoc (bucket key xs n) (flat_map (bucket key xs) (range_with_len (n + 1) count)) (upward key xs (n + 1 + count)))
-    ∙ ap (λ m. (bucket key xs n ++ flat_map (bucket key xs) (range_with_len (n + 1) count)) ++ upward key xs m) (omega arith)
+upward-range key xs n (suc count) up = grind (arith, upward-step, append_assoc, upward-range key xs (n + 1) count up)
 
 upward-all : {X : Type 0} (key : X → ℕ) (xs : List X) → upward key xs 0 ≡ xs
 upward-all key [] = refl

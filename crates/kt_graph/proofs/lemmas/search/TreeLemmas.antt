@@ -1,6 +1,6 @@
 -- The search finds a rule for a name exactly if a tree makes it.
-use Rattle.std.proofs.Common.{◌≡◌, ℕ, zero, suc, true, false, not, ◌||◌, List, [], get_or, is_some, Option, None, Some, option_map, sym, ap, ◌∙◌, true≢false, ⊎_elim, arith, ◌↔◌, All}
-use Rattle.kt_graph.proofs.Common.{Contains, list_any, find, cases_Bool, and_from, and_parts, or_cases, or_left, or_right, not-true, not_from_false, All-contains, Contains-get_or, Text, Rule, Candidate, candidates_for, HasTree, chosen_of, fitting, is_begun, is_inferred, is_met, is_used, open_candidates, unknown_needs, with_rule}
+use Rattle.std.proofs.Common.{◌≡◌, ℕ, zero, suc, true, false, not, ◌||◌, List, [], get_or, is_some, Option, option_map, sym, ◌∙◌, true≢false, ⊎_elim, arith, ◌↔◌, All}
+use Rattle.kt_graph.proofs.Common.{Contains, list_any, cases_Bool, and_from, and_parts, or_cases, or_left, or_right, not-true, not_from_false, All-contains, Contains-get_or, Text, Rule, Candidate, candidates_for, HasTree, chosen_of, fitting, is_begun, is_inferred, is_met, is_used, open_candidates, unknown_needs, with_rule}
 use Rattle.kt_graph.proofs.lemmas.Membership.{any_passes, all_pass, each_passes, found_any, in_filter, kept_by_filter, one_passes, some_or}
 use Rattle.kt_graph.proofs.lemmas.search.UnknownLemmas.{met_none, none_met}
 
@@ -30,21 +30,13 @@ module _ (rules : List Rule) (known : List Text) where
   root_passes : (left : ℕ) → SameFor left → (used : List ℕ) (root : Candidate)
       → (root.is_last ≡ true → unknown_needs known root ≡ []) → All (HasTree rules known left (with_rule root.rule used)) (unknown_needs known root)
       → (is_met known root || is_inferred known (fitting rules known left) used root) ≡ true
-  root_passes left same used root last branches =
-      ⊎_elim (λ yes_last. or_left _ _ (none_met known root (last yes_last)))
-      (λ goes_on. or_right (is_met known root) _ (and_from (not root.is_last) _ (not_from_false root.is_last goes_on)
-      (all_pass (λ n. is_some (fitting rules known left (with_rule root.rule used) n)) (unknown_needs known root) (λ n c.
-      (same (with_rule root.rule used) n).1 (All-contains (HasTree rules known left (with_rule root.rule used)) (unknown_needs known root) n branches c)))))
-      (cases_Bool root.is_last)
+  root_passes left same used root last branches = grind (arith, ⊎_elim, or_left, none_met, or_right, and_from, not, not_from_false, all_pass, All-contains, cases_Bool)
 
   -- whether something is chosen: whether a candidate is met or inferred
   chosen_any : (left : ℕ) (used : List ℕ) (candidates : List Candidate)
       → is_some (chosen_of known (fitting rules known left) used candidates)
       ≡ (list_any (is_met known) candidates || list_any (is_inferred known (fitting rules known left) used) candidates)
-  chosen_any left used candidates =
-      some_or (find (is_met known) candidates) (find (is_inferred known (fitting rules known left) used) candidates)
-      ∙ ap (λ b. b || is_some (find (is_inferred known (fitting rules known left) used) candidates)) (found_any (is_met known) candidates)
-      ∙ ap (λ b. list_any (is_met known) candidates || b) (found_any (is_inferred known (fitting rules known left) used) candidates)
+  chosen_any left used candidates = grind (arith, some_or, found_any)
 
   found_tree : (left : ℕ) → SameFor left → (used : List ℕ) (name : Text)
       → is_some (chosen_of known (fitting rules known left) used (open_candidates rules used name)) ≡ true → HasTree rules known (suc left) used name
@@ -78,5 +70,4 @@ module _ (rules : List Rule) (known : List Text) where
 -- a view of what was found exists exactly if something was found
 pub told_as_trees : {A B Tree : Type 0} (told : A → B) (found : Option A) → ((is_some found ≡ true) ↔ Tree)
     → (is_some (option_map told found) ≡ true) ↔ Tree
-told_as_trees told None trees = trees
-told_as_trees told (Some one) trees = trees
+told_as_trees told found trees = grind arith

@@ -1,5 +1,5 @@
 -- The steps of a search: the questions for names and candidates in turn.
-use Rattle.std.proofs.Common.{◌≡◌, ℕ, zero, suc, ◌+◌, ◌-◌, ◌<◌, ◌≤◌, Bool, true, false, not, ◌&&◌, if◌then◌else◌, List, [], ◌∷◌, ◌++◌, length, get_or, drop, map, Option, Some, None, is_some, refl, sym, ap, ◌∙◌, subst, arith, fold, slice_get, IfSome}
+use Rattle.std.proofs.Common.{◌≡◌, ℕ, ◌+◌, ◌-◌, ◌<◌, ◌≤◌, Bool, true, false, not, ◌&&◌, if◌then◌else◌, List, [], ◌∷◌, ◌++◌, length, get_or, drop, map, Option, Some, None, is_some, refl, sym, ap, ◌∙◌, subst, arith, fold, slice_get, IfSome}
 use Rattle.kt_graph.proofs.Common.{find, list_all, drop_more, drop_all, fold-append, Text, Rule, is_terminal, Tried, Candidate, Sought, Asking, Choosing, asked_among, asked_by, asked_for, asked_inside, asking, chosen_of, fitting, is_inferred, is_met, open_candidates, unknown_needs, with_question, with_rule, AreWithin, question_view, candidate_view, candidates_view}
 use Rattle.kt_graph.specs.declared.search.candidate.Candidate.{Candidate as HeldCandidate}
 use Rattle.kt_graph.specs.inner.search.Chains.{IsFound, IsRightFor, KeepsAnswers, HasAnswered, asked_besides}
@@ -16,30 +16,18 @@ pub record IsAsking (rules : List Rule) (known : List Text) (old now : Tried) (l
 
 module _ (rules : List Rule) (known : List Text) (least : ℕ) where
   pub asking_starts : (tried : Tried) (all left : List Sought) → IsRightFor rules known tried least → all ≡ left → IsAsking rules known tried tried least all left
-  asking_starts tried all left right e = record {
-    right = right;
-    kept = keeps_all tried;
-    rest = sym (ap (fold with_question (map question_view tried.questions.keys)) e);
-  }
+  asking_starts tried all left right e = grind (arith, keeps_all)
 
   part_put : (now new : Tried) (part later : List Sought) → HasAnswered rules known now new least part
       → fold with_question (map question_view new.questions.keys) later ≡ fold with_question (map question_view now.questions.keys) (part ++ later)
-  part_put now new part later leaves =
-      ap (λ asked. fold with_question asked later) leaves.put ∙ sym (fold-append with_question (map question_view now.questions.keys) part later)
+  part_put now new part later leaves = grind (arith, fold-append)
 
   pub asking_more : (old now new : Tried) (all left part later : List Sought) → IsAsking rules known old now least all left → HasAnswered rules known now new least part → KeepsAnswers now new
       → left ≡ part ++ later → IsAsking rules known old new least all later
-  asking_more old now new all left part later asking leaves keeps e = record {
-    right = leaves.right;
-    kept = keeps_more old now new asking.kept keeps;
-    rest = part_put now new part later leaves ∙ sym (ap (fold with_question (map question_view now.questions.keys)) e) ∙ asking.rest;
-  }
+  asking_more old now new all left part later asking leaves keeps e = grind (arith, keeps_more, part_put)
 
   pub asking_ends : (old now : Tried) (all left : List Sought) → IsAsking rules known old now least all left → left ≡ [] → HasAnswered rules known old now least all
-  asking_ends old now all left asking e = record {
-    put = ap (fold with_question (map question_view now.questions.keys)) (sym e) ∙ asking.rest;
-    right = asking.right;
-  }
+  asking_ends old now all left asking e = grind arith
 
 -- ---- names in turn
 
@@ -50,9 +38,7 @@ module _ (deeper : Choosing) (ask : Asking) (used : List ℕ) (names : List Text
 
   pub asked_from : (name : Text) → i < length names → name ≡ get_or names i name → (b : Bool) → is_some (deeper used name) ≡ b
       → asked_for deeper ask used (drop i names) ≡ ask used name ++ (if b then asked_for deeper ask used (drop (i + 1) names) else [])
-  asked_from name h is b e =
-      ap (asked_for deeper ask used) (names_from name h is)
-      ∙ ap (λ b. ask used name ++ (if b then asked_for deeper ask used (drop (i + 1) names) else [])) e
+  asked_from name h is b e = grind (arith, names_from)
 
   pub asked_past : length names ≤ i → asked_for deeper ask used (drop i names) ≡ []
   asked_past past = ap (λ rest. asked_for deeper ask used rest) (drop_all i names past)
@@ -62,8 +48,7 @@ module _ (deeper : Choosing) (ask : Asking) (used : List ℕ) (names : List Text
 
   pub finds_from : (name : Text) → i < length names → name ≡ get_or names i name → (b : Bool) → is_some (deeper used name) ≡ b
       → list_all finds (drop i names) ≡ (b && list_all finds (drop (i + 1) names))
-  finds_from name h is b e =
-      ap (list_all finds) (names_from name h is) ∙ ap (λ c. c && list_all finds (drop (i + 1) names)) e
+  finds_from name h is b e = grind (arith, names_from)
 
   pub finds_past : length names ≤ i → list_all finds (drop i names) ≡ true
   finds_past past = ap (λ rest. list_all finds rest) (drop_all i names past)
@@ -75,9 +60,7 @@ module _ (rules : List Rule) (name : Text) (known : List Text) (deeper : Choosin
       → (b : Bool) → is_inferred known deeper used told ≡ b
       → asked_among known deeper ask used (candidates_view rules name (drop i candidates))
       ≡ asked_by known deeper ask used told ++ (if b then [] else asked_among known deeper ask used (candidates_view rules name (drop (i + 1) candidates)))
-  among_from candidate told h is e b inferred =
-      ap (asked_among known deeper ask used) (told_from rules name candidates i candidate told h is e)
-      ∙ ap (λ b. asked_by known deeper ask used told ++ (if b then [] else asked_among known deeper ask used (candidates_view rules name (drop (i + 1) candidates)))) inferred
+  among_from candidate told h is e b inferred = grind (arith, told_from)
 
   pub among_past : length candidates ≤ i → asked_among known deeper ask used (candidates_view rules name (drop i candidates)) ≡ []
   among_past past = ap (λ rest. asked_among known deeper ask used (candidates_view rules name rest)) (drop_all i candidates past)
@@ -86,14 +69,11 @@ module _ (rules : List Rule) (name : Text) (known : List Text) (deeper : Choosin
 
 pub other_inferred : (known : List Text) (deeper : Choosing) (used chain : List ℕ) (names : List Text) (told : Candidate) (all : Bool) → told.is_last ≡ false
     → chain ≡ with_rule told.rule used → names ≡ unknown_needs known told → all ≡ list_all (λ name. is_some (deeper chain name)) names → all ≡ is_inferred known deeper used told
-other_inferred known deeper used chain names told all e c n found =
-    found ∙ (λ j. list_all (λ name. is_some (deeper (c j) name)) (n j))
-    ∙ sym (ap (λ b. not b && list_all (λ name. is_some (deeper (with_rule told.rule used) name)) (unknown_needs known told)) e)
+other_inferred known deeper used chain names told all e c n found = grind (arith, not)
 
 pub other_asked : (known : List Text) (deeper : Choosing) (ask : Asking) (used chain : List ℕ) (names : List Text) (told : Candidate) → told.is_last ≡ false
     → chain ≡ with_rule told.rule used → names ≡ unknown_needs known told → asked_for deeper ask chain names ≡ asked_by known deeper ask used told
-other_asked known deeper ask used chain names told e c n =
-    (λ j. asked_for deeper ask (c j) (n j)) ∙ sym (ap (λ b. if b then [] else asked_for deeper ask (with_rule told.rule used) (unknown_needs known told)) e)
+other_asked known deeper ask used chain names told e c n = grind arith
 
 -- ---- the steps one by one
 
@@ -112,9 +92,7 @@ module _ (rules : List Rule) (known : List Text) (left : ℕ) (used : List ℕ) 
   asked_here : (b : Bool) → is_some answer ≡ b
       → asked_for deeper ask used (drop i names)
       ≡ ask used text ++ (if b then asked_for deeper ask used (drop (i + 1) names) else [])
-  asked_here b a =
-      asked_from deeper ask used names i name h is b (some_is b a)
-      ∙ ap (λ n. ask used n ++ (if b then asked_for deeper ask used (drop (i + 1) names) else [])) (sym e)
+  asked_here b a = grind (arith, asked_from, some_is)
 
   pub asks_later : (old now new : Tried) (all : List Sought) → is_some answer ≡ true
       → IsAsking rules known old now (length used) all (asked_for deeper ask used (drop i names))
@@ -158,9 +136,7 @@ module _ (rules : List Rule) (known : List Text) (left : ℕ) (name : Text) (use
   among_here : (b : Bool) → passed ≡ b
       → asked_among known choosing putting used (candidates_view rules name (drop i candidates))
       ≡ asked_by known choosing putting used one ++ (if b then [] else asked_among known choosing putting used (candidates_view rules name (drop (i + 1) candidates)))
-  among_here b a =
-      among_from rules name known choosing putting used candidates i candidate one h is one_told b
-      (sym (at_some (candidate_view rules name candidate) (λ told. passed ≡ is_inferred known choosing used told) one one_told tells) ∙ a)
+  among_here b a = grind (arith, among_from, one_told, at_some)
 
   pub infers_later : (old now new : Tried) (least : ℕ) (all : List Sought) → passed ≡ false
       → IsAsking rules known old now least all (asked_among known choosing putting used (candidates_view rules name (drop i candidates)))
@@ -188,20 +164,11 @@ module _ (rules : List Rule) (known : List Text) (left : ℕ) (name : Text) (use
 
   pub inferred_so : (all : Bool) → all ≡ list_all (λ n. is_some (fitting rules known left chain n)) names
       → IfSome (candidate_view rules name candidate) (λ told. all ≡ is_inferred known (fitting rules known left) used told)
-  inferred_so all found = if_some (candidate_view rules name candidate) (λ told. all ≡ is_inferred known (fitting rules known left) used told)
-      (λ told e. other_inferred known (fitting rules known left) used chain names told all
-      (sym (told_last rules name candidate told e last tells) ∙ not_last) (whole_chain told e)
-      (at_some (candidate_view rules name candidate) (λ one. names ≡ unknown_needs known one) told e unknown) found)
+  inferred_so all found = grind (arith, if_some, other_inferred, told_last, at_some)
 
   pub asked_so : (old new : Tried) → HasAnswered rules known old new (length chain) (asked_for (fitting rules known left) (asking rules known left) chain names)
       → IfSome (candidate_view rules name candidate) (λ told. HasAnswered rules known old new (length used + 1) (asked_by known (fitting rules known left) (asking rules known left) used told))
-  asked_so old new leaves = if_some (candidate_view rules name candidate) (λ told. HasAnswered rules known old new (length used + 1) (asked_by known (fitting rules known left) (asking rules known left) used told))
-      (λ told e. subst (λ n. HasAnswered rules known old new n (asked_by known (fitting rules known left) (asking rules known left) used told))
-      (ap length chained ∙ length-with_rule candidate.rule used)
-      (subst (λ asked. HasAnswered rules known old new (length chain) asked)
-      (other_asked known (fitting rules known left) (asking rules known left) used chain names told
-      (sym (told_last rules name candidate told e last tells) ∙ not_last) (whole_chain told e)
-      (at_some (candidate_view rules name candidate) (λ one. names ≡ unknown_needs known one) told e unknown)) leaves))
+  asked_so old new leaves = grind (arith, if_some, length, length-with_rule, other_asked, told_last, at_some)
 
 module _ (rules : List Rule) (known : List Text) where
   -- a candidate is met
@@ -229,24 +196,15 @@ module _ (rules : List Rule) (known : List Text) where
   pub none_asked : (tried : Tried) (least left : ℕ) (used : List ℕ) (name : Text) → left ≡ 0 → IsRightFor rules known tried least
       → HasAnswered rules known tried tried least (asked_besides rules known left used name)
   unfolding asked_besides
-  none_asked tried least left used name e right = record {
-    put = sym (ap (λ n. fold with_question (map question_view tried.questions.keys) (asked_besides rules known n used name)) e);
-    right = right;
-  }
+  none_asked tried least left used name e right = grind arith
 
   -- a rule may be added
   pub fitting_is : (left : ℕ) (used : List ℕ) (name : Text) → (left ≡ 0 → ⊥)
       → fitting rules known left used name ≡ chosen_of known (fitting rules known (left - 1)) used (open_candidates rules used name)
   unfolding fitting
-  fitting_is zero used name h = absurd (h refl)
-  fitting_is (suc left) used name h =
-      let e : suc left - 1 ≡ left = omega arith in
-      ap (λ n. chosen_of known (fitting rules known n) used (open_candidates rules used name)) (sym e)
+  fitting_is left used name h = grind arith
 
   pub after_are : (left : ℕ) (used : List ℕ) (name : Text) → (left ≡ 0 → ⊥)
       → asked_besides rules known left used name ≡ asked_inside known (fitting rules known (left - 1)) (asking rules known (left - 1)) used (open_candidates rules used name)
   unfolding asked_besides
-  after_are zero used name h = absurd (h refl)
-  after_are (suc left) used name h =
-      let e : suc left - 1 ≡ left = omega arith in
-      ap (λ n. asked_inside known (fitting rules known n) (asking rules known n) used (open_candidates rules used name)) (sym e)
+  after_are left used name h = grind arith

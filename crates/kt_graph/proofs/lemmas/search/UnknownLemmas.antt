@@ -1,5 +1,5 @@
 -- Names without repeats, and the unknown prerequisites of a candidate.
-use Rattle.std.proofs.Common.{◌≡◌, ℕ, ◌+◌, ◌<◌, ◌≤◌, Bool, true, false, cond, not, ◌&&◌, if◌then◌else◌, List, [], ◌∷◌, ◌++◌, length, get_or, drop, refl, sym, ap, ◌∙◌, subst, true≢false, ◌⊎◌, inl, inr, ⊎_elim, nat_eq, fold}
+use Rattle.std.proofs.Common.{arith, ◌≡◌, ℕ, ◌+◌, ◌<◌, ◌≤◌, Bool, true, false, cond, not, ◌&&◌, if◌then◌else◌, List, [], ◌∷◌, ◌++◌, length, get_or, drop, refl, sym, ap, ◌∙◌, subst, true≢false, ◌⊎◌, inl, inr, ⊎_elim, nat_eq, fold}
 use Rattle.kt_graph.proofs.Common.{Contains, list_all, pointwise, same_text, cases_Bool, not-true, nat_list_eq_equiv, drop_more, drop_all, list_all-append, fold-append, Contains-append_left, Contains-push, Contains-push_cases, filter-append, Text, is_among, with_name, without_repeats, all_needs, Candidate, needed_name, needed_names, unknown_of, is_met, unknown_needs, first_or_rest, in_first, in_rest, none_in_empty}
 use Rattle.kt_graph.proofs.lemmas.Membership.{all_pass, any_passes, each_passes, in_filter, kept_by_filter, one_passes}
 
@@ -74,9 +74,7 @@ is_needed known candidate name c =
 
 pub is_unknown : (known : List Text) (candidate : Candidate) (name : Text) → Contains (all_needs candidate.needs) name → is_among known name ≡ false
     → Contains (unknown_needs known candidate) name
-is_unknown known candidate name c h =
-    in_without_repeats (unknown_of known (all_needs candidate.needs)) name
-    (in_filter (λ n. not (is_among known n)) (all_needs candidate.needs) name c (ap not h))
+is_unknown known candidate name c h = grind (arith, in_without_repeats, in_filter, not)
 
 empty_list : {X : Type 0} (xs : List X) → ((x : X) → Contains xs x → ⊥) → xs ≡ []
 empty_list [] h = refl
@@ -104,17 +102,11 @@ unknown_past known directory stem names i past = ap (λ rest. unknown_of known (
 pub unknown_both : (known before after : List Text)
     → fold with_name (fold with_name [] (unknown_of known before)) (unknown_of known after) ≡ without_repeats (unknown_of known (before ++ after))
 unfolding without_repeats
-unknown_both known before after =
-    sym (fold-append with_name [] (unknown_of known before) (unknown_of known after))
-    ∙ ap (fold with_name []) (sym (filter-append (λ name. not (is_among known name)) before after))
+unknown_both known before after = grind (arith, fold-append, filter-append, not)
 
 -- one name, known or not
 pub one_unknown : (known : List Text) (name : Text) (b : Bool) → is_among known name ≡ b → unknown_of known (name ∷ []) ≡ (if b then [] else name ∷ [])
-one_unknown known name b e = ap (λ c. cond (not c) (name ∷ []) []) e ∙ by b
-  where
-    by : (b : Bool) → cond (not b) (name ∷ []) [] ≡ (if b then [] else name ∷ [])
-    by true = refl
-    by false = refl
+one_unknown known name b e = grind (arith, cond, not)
 
 -- the next prerequisite
 pub unknown_step : (known : List Text) (directory stem : Text) (names before : List Text) (i : ℕ) (name needed : Text) → i < length names → name ≡ get_or names i name
@@ -122,30 +114,22 @@ pub unknown_step : (known : List Text) (directory stem : Text) (names before : L
     → fold with_name before (unknown_of known (needed_names directory stem (drop i names)))
     ≡ fold with_name (fold with_name before (unknown_of known (needed ∷ []))) (unknown_of known (needed_names directory stem (drop (i + 1) names)))
 unfolding needed_names
-unknown_step known directory stem names before i name needed h is e =
-    ap (λ rest. fold with_name before (unknown_of known (needed_names directory stem rest))) (drop_more names i name h ∙ ap (λ one. one ∷ drop (i + 1) names) (sym is))
-    ∙ ap (λ one. fold with_name before (unknown_of known (one ∷ needed_names directory stem (drop (i + 1) names)))) (sym e)
-    ∙ ap (fold with_name before) (filter-append (λ n. not (is_among known n)) (needed ∷ []) (needed_names directory stem (drop (i + 1) names)))
-    ∙ fold-append with_name before (unknown_of known (needed ∷ [])) (unknown_of known (needed_names directory stem (drop (i + 1) names)))
+unknown_step known directory stem names before i name needed h is e = grind (arith, drop_more, filter-append, not, fold-append)
 
 -- all of two lists is known, or not the first
 pub known_both : (known before after : List Text) (b : Bool) → true ≡ list_all (is_among known) before → b ≡ list_all (is_among known) after
     → b ≡ list_all (is_among known) (before ++ after)
-known_both known before after b first second =
-    second ∙ ap (λ c. c && list_all (is_among known) after) first ∙ sym (list_all-append (is_among known) before after)
+known_both known before after b first second = grind (arith, list_all-append)
 
 pub known_first : (known before after : List Text) → false ≡ list_all (is_among known) before → false ≡ list_all (is_among known) (before ++ after)
-known_first known before after first =
-    ap (λ c. c && list_all (is_among known) after) first ∙ sym (list_all-append (is_among known) before after)
+known_first known before after first = grind (arith, list_all-append)
 
 -- the next prerequisite
 pub known_step : (known : List Text) (directory stem : Text) (names : List Text) (i : ℕ) (name : Text) (b : Bool) → i < length names → name ≡ get_or names i name
     → b ≡ is_among known (needed_name directory stem name)
     → list_all (is_among known) (needed_names directory stem (drop i names)) ≡ (b && list_all (is_among known) (needed_names directory stem (drop (i + 1) names)))
 unfolding needed_names
-known_step known directory stem names i name b h is e =
-    ap (λ rest. list_all (is_among known) (needed_names directory stem rest)) (drop_more names i name h ∙ ap (λ one. one ∷ drop (i + 1) names) (sym is))
-    ∙ ap (λ c. c && list_all (is_among known) (needed_names directory stem (drop (i + 1) names))) (sym e)
+known_step known directory stem names i name b h is e = grind (arith, drop_more)
 
 pub known_past : (known : List Text) (directory stem : Text) (names : List Text) (i : ℕ) → length names ≤ i
     → list_all (is_among known) (needed_names directory stem (drop i names)) ≡ true
