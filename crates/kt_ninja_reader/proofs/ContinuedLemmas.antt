@@ -1,6 +1,6 @@
 -- Joined lines and what stands in the file.
 use Rattle.std.proofs.Common.{◌≡◌, ℕ, ◌+◌, ◌-◌, Bool, true, false, not, ◌==◌, ◌&&◌, List, [], ◌∷◌, ◌++◌, refl, sym, ◌∙◌, ap, subst, append_assoc, append-nil, length, take, arith, Option, Some, None, ⊎_elim, ◌⊎◌, inl, inr}
-use Rattle.kt_ninja_reader.proofs.Common.{cases_Bool, false≢true, eqb-true, and_from, and_parts, not-true, list_all-append, flat_map-append, flat_map, list_all, FileLine, JoinedLine, Text, ends_in_dollar, file_lines, first_number, goes_on, is_comment, joined_from, joined_lines, joined_text, with_byte, without_indent}
+use Rattle.kt_ninja_reader.proofs.Common.{cases_Bool, false≢true, eqb-true, and_from, and_parts, not-true, list_all-append, flat_map-append, flat_map, list_all, FileLine, Text, ends_in_dollar, file_lines, first_number, goes_on, is_comment, joined_from, joined_lines, joined_text, with_byte, without_indent}
 use Rattle.kt_list.proofs.general.Booleans.{and_nothing}
 use Rattle.kt_ninja_reader.specs.JoinedLines.{Begun}
 use Rattle.kt_ninja_reader.specs.Continued.{AreContinued, AreUnescaped, Continued, EndsRight, HasNoNewline, IsEnd, JoinedLaw, end_in_file, fronts_in_file, in_file, kept_of, numbered}
@@ -9,9 +9,7 @@ use Rattle.kt_ninja_reader.proofs.JoinedLemmas.{last-append}
 -- ---- one line of the file
 
 free_first : (b : ℕ) (bs : Text) → HasNoNewline (b ∷ bs) → ((b == 10) ≡ false) × HasNoNewline bs
-free_first b bs h =
-    let both = and_parts (not (b == 10)) (list_all (λ c. not (c == 10)) bs) h in
-    (⊎_elim (λ e. absurd (false≢true (sym (ap not e) ∙ both.0))) (λ e. e) (cases_Bool (b == 10)), both.1)
+free_first b bs h = grind (arith, and_parts, not, ⊎_elim, false≢true, cases_Bool)
 
 ended_line : (bytes rest : Text) → HasNoNewline bytes
     → file_lines (bytes ++ 10 ∷ rest) ≡ record { bytes = bytes; ended = true } ∷ file_lines rest
@@ -26,15 +24,12 @@ last_line b [] h = let f = free_first b [] h in rw f.0 refl
 last_line b (c ∷ bs) h = let f = free_first b (c ∷ bs) h in rw f.0 (ap (with_byte b) (last_line c bs f.1))
 
 free_with_dollar : (bytes : Text) → HasNoNewline bytes → HasNoNewline (bytes ++ 36 ∷ [])
-free_with_dollar bytes h =
-    list_all-append (λ b. not (b == 10)) bytes (36 ∷ [])
-    ∙ and_from (list_all (λ b. not (b == 10)) bytes) (list_all (λ b. not (b == 10)) (36 ∷ [])) h refl
+free_with_dollar bytes h = grind (arith, list_all-append, not, and_from)
 
 -- ---- a dollar at the end
 
 one_dollar : (pending : Bool) → (not pending && true) ≡ not pending
-one_dollar true = refl
-one_dollar false = refl
+one_dollar pending = grind arith
 
 dollar_last : (pending : Bool) (bytes : Text)
     → ends_in_dollar pending (bytes ++ 36 ∷ []) ≡ not (ends_in_dollar pending bytes)
@@ -50,19 +45,11 @@ indent_none b bs h = rw h refl
 
 indent_dollar : (bytes : Text) → without_indent (bytes ++ 36 ∷ []) ≡ without_indent bytes ++ 36 ∷ []
 indent_dollar [] = refl
-indent_dollar (b ∷ bs) =
-    ⊎_elim
-    (λ h. indent_one b (bs ++ 36 ∷ []) h ∙ indent_dollar bs
-    ∙ ap (λ (t : Text). t ++ 36 ∷ []) (sym (indent_one b bs h)))
-    (λ h. indent_none b (bs ++ 36 ∷ []) h ∙ ap (λ (t : Text). t ++ 36 ∷ []) (sym (indent_none b bs h)))
-    (cases_Bool (b == 32))
+indent_dollar (b ∷ bs) = grind (arith, ⊎_elim, indent_one, indent_none, cases_Bool, indent_dollar bs)
 
 joined_dollar : (begun : Option Begun) (bytes : Text)
     → joined_text begun (bytes ++ 36 ∷ []) ≡ joined_text begun bytes ++ 36 ∷ []
-joined_dollar None bytes = refl
-joined_dollar (Some begun) bytes =
-    ap (λ (t : Text). begun.front ++ t) (indent_dollar bytes)
-    ∙ sym (append_assoc begun.front (without_indent bytes) (36 ∷ []))
+joined_dollar begun bytes = grind (arith, indent_dollar, append_assoc)
 
 comment_dollar : (text : Text) → is_comment (text ++ 36 ∷ []) ≡ is_comment text
 unfolding is_comment
@@ -132,20 +119,14 @@ fronts_text (Some begun) fronts = begun.front ++ flat_map without_indent fronts
 
 text_more : (number : ℕ) (begun : Option Begun) (front : Text) (fronts : List Text)
     → fronts_text (begun_with number begun (joined_text begun front)) fronts ≡ fronts_text begun (front ∷ fronts)
-text_more number None front fronts = refl
-text_more number (Some begun) front fronts =
-    append_assoc begun.front (without_indent front) (flat_map without_indent fronts)
+text_more number begun front fronts = grind (arith, append_assoc)
 
 text_one : (begun : Option Begun) (bytes : Text) → fronts_text begun (bytes ∷ []) ≡ joined_text begun bytes
-text_one None bytes = append-nil bytes
-text_one (Some begun) bytes = ap (λ (t : Text). begun.front ++ t) (append-nil (without_indent bytes))
+text_one begun bytes = grind (arith, append-nil)
 
 first_plain : (begun : Option Begun) (front : Text) (fronts : List Text)
     → is_comment (fronts_text begun (front ∷ fronts)) ≡ false → is_comment (joined_text begun front) ≡ false
-first_plain None front fronts h = comment_stays front (flat_map without_indent fronts) h
-first_plain (Some begun) front fronts h =
-    comment_stays (begun.front ++ without_indent front) (flat_map without_indent fronts)
-    (ap is_comment (append_assoc begun.front (without_indent front) (flat_map without_indent fronts)) ∙ h)
+first_plain begun front fronts h = grind (arith, comment_stays, append_assoc)
 
 -- the newline that ends a line, after what is begun
 abbrev EndsBehind : Option Begun → List Text → Text → Type 0
@@ -154,8 +135,7 @@ EndsBehind begun fronts last =
 
 no_more : (last text : Text) → (ends_in_dollar false last ≡ false) ⊎ (is_comment text ≡ true)
     → (ends_in_dollar false last && not (is_comment text)) ≡ false
-no_more last text (inl h) = rw h refl
-no_more last text (inr h) = rw h (and_nothing (ends_in_dollar false last))
+no_more last text h = grind (arith, and_nothing)
 
 end_stops : (number : ℕ) (begun : Option Begun) (last rest : Text) → HasNoNewline last → EndsBehind begun [] last
     → joined_from number begun (file_lines (last ++ 10 ∷ rest))
@@ -164,18 +144,7 @@ end_stops : (number : ℕ) (begun : Option Begun) (last rest : Text) → HasNoNe
       text = fronts_text begun (last ∷ []);
       ended = true;
     } ∷ joined_from (number + 1) None (file_lines rest)
-end_stops number begun last rest free ends =
-    let line : FileLine = record { bytes = last; ended = true } in
-    let is = text_one begun last in
-    let off : goes_on line (joined_text begun last) ≡ false =
-    ap (λ (t : Text). ends_in_dollar false last && not (is_comment t)) (sym is)
-    ∙ no_more last (fronts_text begun (last ∷ [])) ends in
-    ap (joined_from number begun) (ended_line last rest free) ∙ stops number begun line (file_lines rest) off
-    ∙ ap (λ (t : Text). record {
-      number = first_number number begun;
-      text = t;
-      ended = true;
-    } ∷ joined_from (number + 1) None (file_lines rest)) (sym is)
+end_stops number begun last rest free ends = grind (arith, text_one, not, no_more, ended_line, stops)
 
 line_ended : (fronts : List Text) (number : ℕ) (begun : Option Begun) (last rest : Text) → AreUnescaped fronts
     → is_comment (fronts_text begun fronts) ≡ false → HasNoNewline last → EndsBehind begun fronts last
@@ -185,13 +154,7 @@ line_ended : (fronts : List Text) (number : ℕ) (begun : Option Begun) (last re
       text = fronts_text begun (fronts ++ last ∷ []);
       ended = true;
     } ∷ joined_from (number + length fronts + 1) None (file_lines rest)
-line_ended [] number begun last rest are plain free ends =
-    end_stops number begun last rest free ends
-    ∙ ap (λ (n : ℕ). record {
-      number = first_number number begun;
-      text = fronts_text begun (last ∷ []);
-      ended = true;
-    } ∷ joined_from n None (file_lines rest)) (omega arith)
+line_ended [] number begun last rest are plain free ends = grind (arith, end_stops)
 line_ended (f ∷ fs) number begun last rest are plain free ends =
     let next = begun_with number begun (joined_text begun f) in
     let whole : Text = fronts_in_file fs ++ (last ++ 10 ∷ rest) in
@@ -221,13 +184,8 @@ open_stops : (last : Text) (number : ℕ) (begun : Option Begun) → HasNoNewlin
     } ∷ []
 unfolding file_lines joined_from
 open_stops [] number None free some = absurd (some refl refl)
-open_stops [] number (Some begun) free some =
-    ap (λ (t : Text). record { number = begun.first; text = t; ended = false } ∷ []) (sym (append-nil begun.front))
-open_stops (c ∷ cs) number begun free some =
-    ap (joined_from number begun) (last_line c cs free)
-    ∙ stops number begun (record { bytes = c ∷ cs; ended = false }) [] refl
-    ∙ ap (λ (t : Text). record { number = first_number number begun; text = t; ended = false } ∷ [])
-    (sym (text_one begun (c ∷ cs)))
+open_stops [] number (Some begun) free some = grind (arith, append-nil)
+open_stops (c ∷ cs) number begun free some = grind (arith, last_line, stops, text_one)
 
 is_some : {P : Type 0} (begun : Begun) → Some begun ≡ None → P
 is_some begun e = absurd (cc e)
@@ -241,8 +199,7 @@ line_unended : (fronts : List Text) (number : ℕ) (begun : Option Begun) (last 
       text = fronts_text begun (fronts ++ last ∷ []);
       ended = false;
     } ∷ []
-line_unended [] number begun last are plain free some =
-    open_stops last number begun free (λ n e. some n (ap (λ (t : Text). t ∷ []) e))
+line_unended [] number begun last are plain free some = grind (arith, open_stops)
 line_unended (f ∷ fs) number begun last are plain free some =
     let next = begun_with number begun (joined_text begun f) in
     let more : (ms : List Text) → fronts_text next ms ≡ fronts_text begun (f ∷ ms) = text_more number begun f in
@@ -263,13 +220,7 @@ by_end : (ended : Bool) (fronts : List Text) (last : Text) (ls : List Continued)
       text = kept_of (fronts ++ last ∷ []);
       ended = ended;
     } ∷ numbered (number + length fronts + 1) ls
-by_end true fronts last ls number are plain free ends later =
-    line_ended fronts number None last (in_file ls) are plain free ends
-    ∙ ap (λ (ms : List JoinedLine). record { number = number; text = kept_of (fronts ++ last ∷ []); ended = true } ∷ ms)
-    (later (number + length fronts + 1))
-by_end false fronts last ls number are plain free ends later =
-    rw ends.0 (ap (λ (t : Text). joined_from number None (file_lines (fronts_in_file fronts ++ t))) (append-nil last)
-    ∙ line_unended fronts number None last are plain free (λ n. ends.1))
+by_end ended fronts last ls number are plain free ends later = grind (arith, line_ended, length, append-nil, line_unended)
 
 joins_all : (lines : List Continued) (number : ℕ) → AreContinued lines
     → joined_from number None (file_lines (in_file lines)) ≡ numbered number lines
@@ -300,9 +251,7 @@ last_dollar : (bytes : Text) → ends_in_dollar false bytes ≡ true
 last_dollar bytes h = ⊎_elim (λ e. absurd (false≢true e.1)) (λ e. e) (dollar_cut false bytes h)
 
 free_part : (front back : Text) → HasNoNewline (front ++ back) → HasNoNewline front
-free_part front back h =
-    (and_parts (list_all (λ b. not (b == 10)) front) (list_all (λ b. not (b == 10)) back)
-    (sym (list_all-append (λ b. not (b == 10)) front back) ∙ h)).0
+free_part front back h = grind (arith, and_parts, not, list_all-append)
 
 fronts_more : (fronts : List Text) (front : Text) → AreUnescaped fronts → HasNoNewline front
     → ends_in_dollar false front ≡ false → AreUnescaped (fronts ++ front ∷ [])
@@ -312,10 +261,7 @@ fronts_more (f ∷ fs) front are free dollar = (are.0, are.1, fronts_more fs fro
 in_file_more : (fronts : List Text) (front rest : Text)
     → fronts_in_file (fronts ++ front ∷ []) ++ rest ≡ fronts_in_file fronts ++ (front ++ 36 ∷ 10 ∷ rest)
 in_file_more [] front rest = append_assoc front (36 ∷ 10 ∷ []) rest
-in_file_more (f ∷ fs) front rest =
-    append_assoc f (36 ∷ 10 ∷ fronts_in_file (fs ++ front ∷ [])) rest
-    ∙ ap (λ (t : Text). f ++ 36 ∷ 10 ∷ t) (in_file_more fs front rest)
-    ∙ sym (append_assoc f (36 ∷ 10 ∷ fronts_in_file fs) (front ++ 36 ∷ 10 ∷ rest))
+in_file_more (f ∷ fs) front rest = grind (arith, append_assoc, in_file_more fs front rest)
 
 -- what is begun where these fronts are put together
 abbrev begun_by : List Text → Option Begun
@@ -323,20 +269,11 @@ begun_by [] = None
 begun_by (f ∷ fs) = Some (record { first = 0; front = kept_of (f ∷ fs) })
 
 kept_more : (fronts : List Text) (bytes : Text) → kept_of (fronts ++ bytes ∷ []) ≡ joined_text (begun_by fronts) bytes
-kept_more [] bytes = append-nil bytes
-kept_more (f ∷ fs) bytes =
-    ap (λ (t : Text). f ++ t)
-    (flat_map-append without_indent fs (bytes ∷ [])
-    ∙ ap (λ (t : Text). flat_map without_indent fs ++ t) (append-nil (without_indent bytes)))
-    ∙ sym (append_assoc f (flat_map without_indent fs) (without_indent bytes))
+kept_more fronts bytes = grind (arith, append-nil, flat_map-append, append_assoc)
 
 plain_more : (fronts : List Text) (front : Text) → is_comment (kept_of (fronts ++ (front ++ 36 ∷ []) ∷ [])) ≡ false
     → is_comment (kept_of (fronts ++ front ∷ [])) ≡ false
-plain_more fronts front h =
-    let text = joined_text (begun_by fronts) front in
-    ap is_comment (kept_more fronts front) ∙ sym (comment_dollar text)
-    ∙ ap is_comment (sym (joined_dollar (begun_by fronts) front))
-    ∙ ap is_comment (sym (kept_more fronts (front ++ 36 ∷ []))) ∙ h
+plain_more fronts front h = grind (arith, kept_more, comment_dollar, joined_dollar)
 
 none_plain : is_comment (kept_of []) ≡ false
 unfolding is_comment

@@ -1,8 +1,8 @@
 -- Joined lines, line by line of the file.
-use Rattle.std.proofs.Common.{◌≡◌, ℕ, suc, zero, ◌+◌, ◌-◌, ◌<◌, ◌≤◌, Bool, true, false, not, ◌==◌, ◌&&◌, unwrap_or, List, [], ◌∷◌, ◌++◌, refl, sym, ◌∙◌, ap, append_assoc, length, length-append, take, drop, get_or, slice_index_or, subst, arith, Option, Some, None, find, if◌then◌else◌, ⊎_elim}
-use Rattle.kt_ninja_reader.proofs.Common.{cases_Bool, false≢true, false_from_ne_true, eqb-true, and_parts, not-true, list_all-append, take-append-add, drop-cons, Begun as OpenLine, position_or_len_is, IsFirstByte, is_byte, position_or_len, FileLine, JoinedLine, Text, ends_in_dollar, file_lines, first_number, goes_on, is_blank, is_comment, joined_from, joined_text, left_over, with_byte, without_indent}
+use Rattle.std.proofs.Common.{◌≡◌, ℕ, suc, zero, ◌+◌, ◌-◌, ◌<◌, ◌≤◌, Bool, true, false, not, ◌==◌, ◌&&◌, unwrap_or, List, [], ◌∷◌, ◌++◌, refl, sym, ◌∙◌, ap, append_assoc, length, length-append, take, drop, get_or, slice_index_or, arith, Option, Some, None, find, if◌then◌else◌, ⊎_elim}
+use Rattle.kt_ninja_reader.proofs.Common.{cases_Bool, false≢true, false_from_ne_true, eqb-true, and_parts, not-true, list_all-append, take-append-add, drop-cons, Begun as OpenLine, position_or_len_is, IsFirstByte, is_byte, position_or_len, FileLine, JoinedLine, Text, ends_in_dollar, file_lines, first_number, is_blank, is_comment, joined_from, joined_text, left_over, with_byte, without_indent}
 use Rattle.kt_ninja_reader.specs.declared.joined.FileLine.{FileLine as CutLine}
-use Rattle.kt_ninja_reader.specs.inner.Joining.{Joins, added_text, file_line, kept_text, text_with}
+use Rattle.kt_ninja_reader.specs.inner.Joining.{Joins, added_text, file_line, kept_text}
 use Rattle.kt_ninja_reader.specs.JoinedLines.{Begun}
 
 -- what was begun, if a line goes on
@@ -28,9 +28,7 @@ comment_found text found h = ap is_hash h ∙ sym (comment_place text)
 pub newline_found : (text : Text) (found : Option ℕ) → IsFirstByte (is_byte 10) text found → unwrap_or found (length text) ≡ position_or_len (λ b. b == 10) text
 newline_found text None h =
     sym (position_or_len_is (λ b. b == 10) text (length text) 0 (omega arith) (λ k l. false_from_ne_true _ (h k (omega arith) l)) (λ l. absurd (omega arith)))
-newline_found text (Some place) h =
-    let low : place ≤ length text = omega (arith, h.0.high) in
-    sym (position_or_len_is (λ b. b == 10) text place 0 low (λ k l. false_from_ne_true _ (h.0.before k (omega arith) l)) (λ l. h.1))
+newline_found text (Some place) h = grind (arith, length, position_or_len_is, false_from_ne_true)
 
 -- the file lines of a text by its first newline: what stands after the place
 abbrev pub lines_at : Text → Text → List FileLine
@@ -38,8 +36,7 @@ lines_at bytes [] = record { bytes = bytes; ended = false } ∷ []
 lines_at bytes (b ∷ after) = record { bytes = bytes; ended = true } ∷ file_lines after
 
 with_lines_at : (b : ℕ) (bytes after : Text) → with_byte b (lines_at bytes after) ≡ lines_at (b ∷ bytes) after
-with_lines_at b bytes [] = refl
-with_lines_at b bytes (c ∷ after) = refl
+with_lines_at b bytes after = grind arith
 
 pub file_lines_at : (text : Text) → 0 < length text
     → file_lines text ≡ lines_at (take (position_or_len (λ b. b == 10) text) text) (drop (position_or_len (λ b. b == 10) text) text)
@@ -53,8 +50,7 @@ file_lines_at (b ∷ c ∷ bs) some =
 -- a text that is cut at its first newline
 pub lines_cut : (text bytes rest tail : Text) (n : ℕ) → 0 < length text → n ≡ position_or_len (λ b. b == 10) text → bytes ≡ take n text → rest ≡ drop n text → rest ≡ tail
     → file_lines text ≡ lines_at bytes tail
-lines_cut text bytes rest tail n some place front back is =
-    file_lines_at text some ∙ rw (sym place) (rw (sym front) (ap (lines_at bytes) (sym back ∙ is)))
+lines_cut text bytes rest tail n some place front back is = grind (arith, file_lines_at)
 
 pub lines_none : (rest : Text) → rest ≡ [] → file_lines rest ≡ []
 unfolding file_lines
@@ -64,9 +60,7 @@ lines_none rest h = rw h refl
 pub dollar_step : (pending : Bool) (text : Text) (i : ℕ) → i < length text
     → ends_in_dollar pending (drop i text) ≡ ends_in_dollar (not pending && get_or text i 0 == 36) (drop (i + 1) text)
 unfolding ends_in_dollar
-dollar_step pending text i low =
-    let e : i + 1 ≡ suc i = omega arith in
-    rw (e, drop-cons text i 0 low) refl
+dollar_step pending text i low = grind (arith, drop-cons)
 
 -- a comment in two parts: the second counts where the first is blank
 pub comment-append : (front back : Text) → is_comment (front ++ back) ≡ (if is_blank front then is_comment back else is_comment front)
@@ -75,8 +69,7 @@ comment-append [] back = refl
 comment-append (b ∷ bs) back = ⊎_elim (λ h. rw h (comment-append bs back)) (λ h. rw h refl) (cases_Bool (b == 32))
 
 comment_by : (blank : Bool) (front back : Bool) → front ≡ false → (if blank then back else front) ≡ (blank && back)
-comment_by true front back h = refl
-comment_by false front back h = h
+comment_by blank front back h = grind arith
 
 pub comment-joined : (front back : Text) → is_comment front ≡ false → is_comment (front ++ back) ≡ (is_blank front && is_comment back)
 comment-joined front back h = comment-append front back ∙ comment_by (is_blank front) (is_comment front) (is_comment back) h
@@ -112,19 +105,16 @@ some-text [] h = absurd (false≢true h)
 some-text (b ∷ bs) h = omega arith
 
 pub some-added : (going_on : Bool) (bs : Text) → ends_in_dollar false bs ≡ true → 0 < length (added_text going_on bs)
-some-added true bs h = some-dollar false bs refl h
-some-added false bs h = some-text bs h
+some-added going_on bs h = grind (arith, some-dollar, some-text)
 
 -- what is kept after what was begun, by whether the line goes on
 kept-append : (going_on : Bool) (front back : Text) → (going_on ≡ true → 0 < length back)
     → front ++ kept_text going_on back ≡ (if going_on then take (length (front ++ back) - 1) (front ++ back) else front ++ back)
-kept-append true front back some = sym (last-append front back (some refl))
-kept-append false front back some = refl
+kept-append going_on front back some = grind (arith, last-append)
 
 comment-kept : (going_on : Bool) (joined : Text) → (going_on ≡ true → is_comment joined ≡ false) → going_on ≡ true
     → is_comment (if going_on then take (length joined - 1) joined else joined) ≡ false
-comment-kept true joined plain h = comment-take (length joined - 1) joined (plain refl)
-comment-kept false joined plain h = absurd (false≢true h)
+comment-kept going_on joined plain h = grind (arith, comment-take, length, false≢true)
 
 -- a line of the file that is joined
 pub joins : (old : OpenLine) (line : CutLine) (new : OpenLine) (bytes kept : Text)
@@ -136,35 +126,15 @@ pub joins : (old : OpenLine) (line : CutLine) (new : OpenLine) (bytes kept : Tex
     → new.text ≡ old.text ++ kept
     → new.number ≡ old.number
     → Joins old line new
-joins old line new bytes kept blank plain is_added going is_kept is_blank_now text number =
-    let front = old.text in
-    let joined = text_with old line in
-    let whole : front ++ bytes ≡ joined = ap (λ b. front ++ b) is_added in
-    let comment : is_comment joined ≡ (old.blank && is_comment bytes) =
-    ap is_comment (sym whole) ∙ comment-joined front bytes plain ∙ ap (λ b. b && is_comment bytes) (sym blank) in
-    let goes : new.going_on ≡ goes_on (file_line line) joined = going ∙ ap (λ b. line.ended && (ends_in_dollar false line.bytes.now && not b)) (sym comment) in
-    let on : new.going_on ≡ true → (ends_in_dollar false line.bytes.now ≡ true) × (is_comment joined ≡ false) = λ h.
-    let parts = and_parts _ _ (sym goes ∙ h) in let inner = and_parts _ _ parts.1 in (inner.0, not-true _ inner.1) in
-    let some : new.going_on ≡ true → 0 < length bytes = λ h. rw is_added (some-added old.going_on line.bytes.now (on h).0) in
-    let kept_is : new.text ≡ (if new.going_on then take (length joined - 1) joined else joined) =
-    text ∙ ap (λ k. front ++ k) is_kept ∙ kept-append new.going_on front bytes some ∙ ap (λ j. if new.going_on then take (length j - 1) j else j) whole in
-    record {
-      going_on = goes;
-      kept = kept_is;
-      same_number = number;
-      blank = is_blank_now ∙ ap (λ b. b && is_blank kept) blank ∙ sym (list_all-append (λ b. b == 32) front kept) ∙ ap is_blank (sym text);
-      plain = λ h. ap is_comment kept_is ∙ comment-kept new.going_on joined (λ g. (on g).1) h;
-    }
+joins old line new bytes kept blank plain is_added going is_kept is_blank_now text number = grind (arith, comment-joined, not, and_parts, not-true, length, some-added, take, kept-append, list_all-append, comment-kept)
 
 -- the lines from a place on, by what was begun there
 joined_text-by : (g : Bool) (begun : OpenLine) (bytes : Text) → begun.going_on ≡ g → (g ≡ false → begun.text ≡ [])
     → joined_text (begun_by g begun) bytes ≡ begun.text ++ added_text begun.going_on bytes
-joined_text-by true begun bytes h none = rw h refl
-joined_text-by false begun bytes h none = rw (h, none refl) refl
+joined_text-by g begun bytes h none = grind arith
 
 first_number-by : (g : Bool) (begun : OpenLine) (number : ℕ) → (g ≡ false → begun.number ≡ number) → first_number number (begun_by g begun) ≡ begun.number
-first_number-by true begun number h = refl
-first_number-by false begun number h = sym (h refl)
+first_number-by g begun number h = grind arith
 
 -- what a step leaves
 abbrev pub stepped : Bool → ℕ → OpenLine → CutLine → List FileLine → List JoinedLine
@@ -176,17 +146,13 @@ step_by : (g : Bool) (number first : ℕ) (joined : Text) (new : OpenLine) (line
     → (if g then joined_from (number + 1) (Some (record { first = first; front = take (length joined - 1) joined })) later
     else record { number = first; text = joined; ended = line.ended } ∷ joined_from (number + 1) None later)
     ≡ stepped g number new line later
-step_by true number first joined new line later h n t = rw (n, t) refl
-step_by false number first joined new line later h n t = rw (n, t) refl
+step_by g number first joined new line later h n t = grind arith
 
 pub joined_step : (number : ℕ) (begun : OpenLine) (line : CutLine) (later : List FileLine) (new : OpenLine)
     → Joins begun line new → (begun.going_on ≡ false → begun.number ≡ number) → (begun.going_on ≡ false → begun.text ≡ [])
     → joined_from number (begun_by begun.going_on begun) (file_line line ∷ later) ≡ stepped new.going_on number new line later
 unfolding joined_from
-joined_step number begun line later new joins numbered fresh =
-    let text : joined_text (begun_by begun.going_on begun) line.bytes.now ≡ text_with begun line = joined_text-by begun.going_on begun line.bytes.now refl fresh in
-    let first : first_number number (begun_by begun.going_on begun) ≡ begun.number = first_number-by begun.going_on begun number numbered in
-    rw (text, first, sym joins.going_on) (step_by new.going_on number begun.number (text_with begun line) new line later refl joins.same_number joins.kept)
+joined_step number begun line later new joins numbered fresh = grind (arith, joined_text-by, first_number-by, step_by)
 
 pub joined_end : (g : Bool) (number : ℕ) (begun : OpenLine) → joined_from number (begun_by g begun) [] ≡ left_over (begun_by g begun)
 unfolding joined_from
@@ -199,11 +165,7 @@ pub pushed : (number : ℕ) (lines more : List JoinedLine) (begun new last : Ope
     → lines ++ joined_from number (begun_by begun.going_on begun) rest ≡ whole
     → new.going_on ≡ false → more ≡ lines ++ record { number = new.number; text = new.text; ended = line.ended } ∷ [] → last.going_on ≡ new.going_on
     → more ++ joined_from (number + 1) (begun_by last.going_on last) later ≡ whole
-pushed number lines more begun new last line rest later whole step cut before off longer same =
-    rw (same, off, longer)
-    (append_assoc lines (record { number = new.number; text = new.text; ended = line.ended } ∷ []) (joined_from (number + 1) None later)
-    ∙ ap (λ l. lines ++ l) (rw off at (sym step))
-    ∙ rw cut at before)
+pushed number lines more begun new last line rest later whole step cut before off longer same = grind (arith, append_assoc)
 
 -- the same where it goes on
 pub passed : (number : ℕ) (lines : List JoinedLine) (begun new : OpenLine) (line : CutLine) (rest later : List FileLine) (whole : List JoinedLine)
@@ -212,21 +174,17 @@ pub passed : (number : ℕ) (lines : List JoinedLine) (begun new : OpenLine) (li
     → lines ++ joined_from number (begun_by begun.going_on begun) rest ≡ whole
     → new.going_on ≡ true
     → lines ++ joined_from (number + 1) (begun_by new.going_on new) later ≡ whole
-passed number lines begun new line rest later whole step cut before on =
-    rw on (ap (λ l. lines ++ l) (rw on at (sym step)) ∙ rw cut at before)
+passed number lines begun new line rest later whole step cut before on = grind arith
 
 -- at the end of the text
 pub over : (g : Bool) (number : ℕ) (lines : List JoinedLine) (begun : OpenLine) (rest : List FileLine) (whole : List JoinedLine)
     → begun.going_on ≡ g → rest ≡ [] → lines ++ joined_from number (begun_by begun.going_on begun) rest ≡ whole
     → lines ++ left_over (begun_by g begun) ≡ whole
-over g number lines begun rest whole is none before =
-    let P : Bool → Type 0 = λ b. lines ++ joined_from number (begun_by b begun) [] ≡ whole in
-    ap (λ l. lines ++ l) (sym (joined_end g number begun)) ∙ subst P is (rw none at before)
+over g number lines begun rest whole is none before = grind (arith, joined_end)
 
 -- a text that ends in another byte
 and_false : (pending : Bool) → (not pending && false) ≡ false
-and_false true = refl
-and_false false = refl
+and_false pending = grind arith
 
 pub other_end : (pending : Bool) (text : Text) → 1 ≤ length text → (slice_index_or text (length text - 1) 0 ≡ 36 → ⊥) → ends_in_dollar pending text ≡ false
 unfolding ends_in_dollar

@@ -1,11 +1,10 @@
 -- Comments, and blank lines between statements, change nothing: the parts that a file is cut into are read alike.
-use Rattle.std.proofs.Common.{◌≡◌, ℕ, ◌+◌, Bool, true, false, not, ◌==◌, ◌&&◌, ◌||◌, List, [], ◌∷◌, ◌++◌, refl, sym, ◌∙◌, ap, length, Option, Some, None, option_map, if◌then◌else◌, Result, Ok, Err}
+use Rattle.std.proofs.Common.{arith, ◌≡◌, ℕ, ◌+◌, Bool, true, false, not, ◌&&◌, ◌||◌, List, [], ◌∷◌, ◌++◌, refl, length, Option, Some, None, option_map, if◌then◌else◌, Result}
 use Rattle.kt_ninja_reader.proofs.Common.{and_from, and_parts, false≢true, list_all, Binding, JoinedLine, Text, is_blank, is_comment, FilePart, State, all_parts, and_then_parts, begins_part, block_from, cut_lines, cut_with, is_sound, ninja_read, nothing_read, plan_in, plan_of, read_head, read_part, read_parts}
 use Rattle.std.specs.Result.{result_ok}
 use Rattle.kt_ninja_reader.specs.Continued.{AreContinued, Continued, EndsRight, numbered}
 use Rattle.kt_ninja_reader.specs.Layout.{LayoutLaw, SaysNothing, is_between, text_of}
 use Rattle.kt_ninja_reader.specs.NinjaRead.{Cut}
-use Rattle.kt_ninja_reader.specs.Reading.{part_before, part_of}
 use Rattle.kt_ninja_reader.proofs.ContinuedLemmas.{joined_law}
 use Rattle.kt_ninja_reader.proofs.ReaderLemmas.{begin_by}
 
@@ -39,17 +38,11 @@ same_part p q head same state = rw (head state, same.sound, same.block false) re
 
 block_with : (n m : ℕ) (text : Text) (ended : Bool) (xs ys : List JoinedLine) → SameBlock xs ys → SameBlock (line_at n text ended ∷ xs) (line_at m text ended ∷ ys)
 unfolding block_from
-block_with n m text ended xs ys same = record {
-  sound = ap (λ sound. is_sound (line_at n text ended) && sound) same.sound;
-  block = λ closed. rw (same.block closed, same.block true, same.block false) refl;
-}
+block_with n m text ended xs ys same = grind arith
 
 cut_both : (b : Bool) (n m : ℕ) (text : Text) (ended : Bool) (c d : Cut) → begins_part text ≡ b → SameCut c d
     → SameCut (cut_with (line_at n text ended) c) (cut_with (line_at m text ended) d)
-cut_both true n m text ended c d is same = rw is (record {
-  before = record { sound = refl; block = λ closed. refl };
-  parts = (same_part (part_of (line_at n text ended) c.before) (part_of (line_at m text ended) d.before) (λ state. refl) same.before, same.parts);
-})
+cut_both true n m text ended c d is same = grind (arith, same_part)
 cut_both false n m text ended c d is same = rw is (record { before = block_with n m text ended c.before d.before same.before; parts = same.parts })
 
 -- the same lines under other numbers
@@ -64,13 +57,7 @@ cut_same n m (l ∷ ls) =
 -- a sound line that begins no part, in front of lines whose block it leaves as it is
 cut_between : (line : JoinedLine) (c d : Cut) → begins_part line.text ≡ false → is_sound line ≡ true
     → ((closed : Bool) → block_from closed (line ∷ c.before) ≡ block_from closed c.before) → SameCut c d → SameCut (cut_with line c) d
-cut_between line c d is sound stays same = rw is (record {
-  before = record {
-    sound = ap (λ b. b && list_all is_sound c.before) sound ∙ same.before.sound;
-    block = λ closed. stays closed ∙ same.before.block closed;
-  };
-  parts = same.parts;
-})
+cut_between line c d is sound stays same = grind arith
 
 -- after lines that both have
 cut_front : (n : ℕ) (front back : List Continued) (line : Continued)
@@ -96,17 +83,11 @@ parts_read state (p ∷ ps) (q ∷ qs) same = rw (same.0 state) (by (read_part s
     by (Some s) rest = rest s
 
 plan_ok : (r : Result State ℕ) → result_ok (plan_in r) ≡ option_map plan_of (result_ok r)
-plan_ok (Ok state) = refl
-plan_ok (Err number) = refl
+plan_ok r = grind arith
 
 cuts_read : (c d : Cut) → SameCut c d → result_ok (plan_in (read_parts nothing_read (all_parts c))) ≡ result_ok (plan_in (read_parts nothing_read (all_parts d)))
 unfolding read_parts
-cuts_read c d same =
-    plan_ok (read_parts nothing_read (all_parts c))
-    ∙ (ap (option_map plan_of) (ap result_ok (begin_by c.before c.parts)
-    ∙ (parts_read nothing_read (part_before c.before ∷ c.parts) (part_before d.before ∷ d.parts)
-    (same_part (part_before c.before) (part_before d.before) (λ state. refl) same.before, same.parts)
-    ∙ sym (ap result_ok (begin_by d.before d.parts)))) ∙ sym (plan_ok (read_parts nothing_read (all_parts d))))
+cuts_read c d same = grind (arith, plan_ok, begin_by, parts_read, same_part)
 
 -- ---- the lines of a file
 
@@ -116,8 +97,7 @@ not_last (l ∷ ls) back line e = absurd (cc e)
 
 ends_right : (ended : Bool) (fronts : List Text) (last : Text) (ls back : List Continued) (line : Continued)
     → EndsRight ended fronts last (ls ++ line ∷ back) → EndsRight ended fronts last (ls ++ back)
-ends_right true fronts last ls back line h = h
-ends_right false fronts last ls back line h = absurd (not_last ls back line h.0)
+ends_right ended fronts last ls back line h = grind (arith, not_last)
 
 -- lines of a file without one of them
 without : (front back : List Continued) (line : Continued) → AreContinued (front ++ line ∷ back) → AreContinued (front ++ back)
@@ -135,20 +115,14 @@ says_nothing front back line are same =
 
 comment_begins : (text : Text) → is_comment text ≡ true → begins_part text ≡ false
 unfolding is_comment
-comment_begins [] is = refl
-comment_begins (b ∷ bs) is = by (b == 32) is
-  where
-    by : (space : Bool) → (if space then is_comment bs else b == 35) ≡ true → not (space || b == 35) ≡ false
-    by true is = refl
-    by false is = rw is refl
+comment_begins text is = grind (arith, not)
 
 comment_skipped : (closed : Bool) (line : JoinedLine) (lines : List JoinedLine) → is_comment line.text ≡ true → block_from closed (line ∷ lines) ≡ block_from closed lines
 unfolding block_from
 comment_skipped closed line lines is = rw is refl
 
 blank_begins : (text : Text) → is_blank text ≡ true → begins_part text ≡ false
-blank_begins [] is = refl
-blank_begins (b ∷ bs) is = rw (and_parts (b == 32) (is_blank bs) is).0 refl
+blank_begins text is = grind (arith, and_parts)
 
 abbrev has_no_binding : JoinedLine → Bool
 has_no_binding line = is_comment line.text || is_blank line.text
@@ -170,21 +144,13 @@ closed_alike (l ∷ ls) none =
 blank_skipped : (closed : Bool) (line : JoinedLine) (lines : List JoinedLine) → is_blank line.text ≡ true → list_all has_no_binding lines ≡ true
     → block_from closed (line ∷ lines) ≡ block_from closed lines
 unfolding block_from
-blank_skipped closed line lines is none = rw is (by (is_comment line.text) closed)
-  where
-    by : (comment closed : Bool) → (if comment then block_from closed lines else block_from true lines) ≡ block_from closed lines
-    by true closed = refl
-    by false true = refl
-    by false false = closed_alike lines none
+blank_skipped closed line lines is none = grind (arith, closed_alike)
 
 -- up to the next line at the margin no binding stands
 before_more : (b : Bool) (n : ℕ) (text : Text) (ended : Bool) (c : Cut) (rest : Bool) → begins_part text ≡ b
     → (b || ((is_comment text || is_blank text) && rest)) ≡ true → (rest ≡ true → list_all has_no_binding c.before ≡ true)
     → list_all has_no_binding (cut_with (line_at n text ended) c).before ≡ true
-before_more true n text ended c rest is between more = rw is refl
-before_more false n text ended c rest is between more =
-    let both = and_parts (is_comment text || is_blank text) rest between in
-    rw is (and_from (is_comment text || is_blank text) (list_all has_no_binding c.before) both.0 (more both.1))
+before_more b n text ended c rest is between more = grind (arith, and_parts, and_from)
 
 none_before : (n : ℕ) (back : List Continued) → is_between back ≡ true → list_all has_no_binding (cut_lines (numbered n back)).before ≡ true
 unfolding cut_lines

@@ -1,6 +1,6 @@
 -- The forms of a line, by their parts.
 use Rattle.std.proofs.Common.{◌≡◌, suc, ◌+◌, true, false, List, [], ◌∷◌, ◌++◌, refl, sym, ◌∙◌, ap, length, take, drop, arith, Option, Some, None, option_map, ⊎_elim}
-use Rattle.kt_ninja_reader.proofs.Common.{cases_Bool, false≢true, take-append_seam, option_and_then, list_any, position_or_len, slice_split, before_first, after_first, Plain, Text, Inputs, Pieces, begins_with_at, binding_of, bound_to, build_after, build_cut, build_of, defaults_of, inputs_of, is_keyword, is_plain, name_in, paths_of, rule_of, without_lead, words_of, bars_cut, key_of, not_keyword, two_of}
+use Rattle.kt_ninja_reader.proofs.Common.{cases_Bool, false≢true, take-append_seam, option_and_then, list_any, position_or_len, slice_split, before_first, after_first, Plain, Text, Inputs, Pieces, binding_of, bound_to, build_after, build_cut, build_of, defaults_of, inputs_of, is_keyword, is_plain, name_in, paths_of, rule_of, without_lead, words_of, bars_cut, key_of, not_keyword, two_of}
 
 -- names, by the words
 pub rule_by : (ps : Pieces) (words : List Pieces) → words ≡ words_of ps → rule_of ps ≡ name_in words
@@ -23,8 +23,7 @@ unfolding binding_of
 binding_none ps h = rw h refl
 
 bound : (value : Pieces) (found : Option Text) → option_and_then (bound_to value) found ≡ option_map (λ key. record { key = key; value = value }) (option_and_then not_keyword found)
-bound value None = refl
-bound value (Some key) = ⊎_elim (λ h. rw h refl) (λ h. rw h refl) (cases_Bool (is_keyword key))
+bound value found = grind (arith, ⊎_elim, cases_Bool)
 
 pub binding_by : (ps : Pieces) → list_any (is_plain 61) ps ≡ true
     → binding_of ps ≡ option_map (λ key. record { key = key; value = without_lead (after_first (is_plain 61) ps) }) (key_of (before_first (is_plain 61) ps))
@@ -52,15 +51,7 @@ any_mark (p ∷ ps) back = ⊎_elim (λ d. rw d refl) (λ d. rw d (any_mark ps b
 
 binding_sides : (ps front back : Pieces) → ps ≡ front ++ Plain 61 ∷ back → list_any (is_plain 61) front ≡ false
     → binding_of ps ≡ option_map (λ key. record { key = key; value = without_lead back }) (key_of front)
-binding_sides ps front back is free =
-    let here : binding_of (front ++ Plain 61 ∷ back) ≡ option_map (λ key. record { key = key; value = without_lead (after_first (is_plain 61) (front ++ Plain 61 ∷ back)) })
-    (key_of (before_first (is_plain 61) (front ++ Plain 61 ∷ back))) = binding_by (front ++ Plain 61 ∷ back) (any_mark front back) in
-    let before : before_first (is_plain 61) (front ++ Plain 61 ∷ back) ≡ front =
-    ap (λ n. take n (front ++ Plain 61 ∷ back)) (place_is front back free) ∙ take-append_seam front (Plain 61 ∷ back) in
-    let after : after_first (is_plain 61) (front ++ Plain 61 ∷ back) ≡ back =
-    ap (λ n. drop (n + 1) (front ++ Plain 61 ∷ back)) (place_is front back free) ∙ drop_past front back in
-    ap binding_of is ∙ here ∙ ap (λ v. option_map (λ key. record { key = key; value = without_lead v }) (key_of (before_first (is_plain 61) (front ++ Plain 61 ∷ back)))) after
-    ∙ ap (λ f. option_map (λ key. record { key = key; value = without_lead back }) (key_of f)) before
+binding_sides ps front back is free = grind (arith, binding_by, any_mark, take, place_is, take-append_seam, drop_past)
 
 pub binding_refused : (ps front back : Pieces) → ps ≡ front ++ Plain 61 ∷ back → list_any (is_plain 61) front ≡ false → key_of front ≡ None → binding_of ps ≡ None
 binding_refused ps front back is free h = binding_sides ps front back is free ∙ ap (option_map (λ key. record { key = key; value = without_lead back })) h
@@ -85,27 +76,16 @@ inputs_with explicit cut = record { explicit = explicit; implicit = words_of cut
 
 pub inputs_by : (explicit bars : List Pieces) → inputs_of explicit bars ≡ option_map (inputs_with explicit) (bars_cut bars)
 unfolding words_of
-inputs_by explicit [] = refl
-inputs_by explicit (implicit ∷ []) = ⊎_elim (λ h. rw h refl) (λ h. rw h refl) (cases_Bool (begins_with_at implicit))
-inputs_by explicit ([] ∷ order ∷ []) = refl
-inputs_by explicit ([] ∷ order ∷ more ∷ parts) = refl
-inputs_by explicit ((p ∷ ps) ∷ [] ∷ []) = ⊎_elim (λ h. rw h refl) (λ h. rw h refl) (cases_Bool (is_plain 64 p))
-inputs_by explicit ((p ∷ ps) ∷ [] ∷ order ∷ []) = ⊎_elim (λ h. rw h refl) (λ h. rw h refl) (cases_Bool (is_plain 64 p))
-inputs_by explicit ((p ∷ ps) ∷ [] ∷ order ∷ more ∷ parts) = ⊎_elim (λ h. rw h refl) (λ h. rw h refl) (cases_Bool (is_plain 64 p))
-inputs_by explicit ((p ∷ ps) ∷ (q ∷ qs) ∷ parts) = ⊎_elim (λ h. rw h refl) (λ h. rw h refl) (cases_Bool (is_plain 64 p))
+inputs_by explicit bars = grind (arith, ⊎_elim, cases_Bool)
 
 pub inputs_read : (explicit bars : List Pieces) (implicit order : Pieces) (told_explicit told_implicit told_order : List Pieces) → bars_cut bars ≡ Some (implicit, order)
     → told_explicit ≡ explicit → told_implicit ≡ words_of implicit → told_order ≡ words_of order
     → inputs_of explicit bars ≡ Some (record { explicit = told_explicit; implicit = told_implicit; order_only = told_order })
-inputs_read explicit bars implicit order told_explicit told_implicit told_order cut e i o =
-    rw (e, i, o) (inputs_by explicit bars ∙ ap (option_map (inputs_with explicit)) cut)
+inputs_read explicit bars implicit order told_explicit told_implicit told_order cut e i o = grind (arith, inputs_by)
 
 -- a build line, by what stands on both sides of its colon
 pub sides_none : (sides : List Pieces) → two_of sides ≡ None → build_cut sides ≡ None
-sides_none [] h = refl
-sides_none (a ∷ []) h = refl
-sides_none (a ∷ b ∷ []) h = cc
-sides_none (a ∷ b ∷ c ∷ more) h = refl
+sides_none sides h = grind arith
 
 pub build_none : (ps : Pieces) (sides : List Pieces) → sides ≡ slice_split (is_plain 58) ps → two_of sides ≡ None → build_of ps ≡ None
 unfolding build_of

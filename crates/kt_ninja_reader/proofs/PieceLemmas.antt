@@ -1,24 +1,21 @@
 -- Pieces, cut off one after another.
-use Rattle.std.proofs.Common.{◌≡◌, ◌≢◌, ℕ, suc, zero, ◌+◌, ◌≤◌, Bool, true, false, ◌==◌, List, [], ◌∷◌, ◌++◌, refl, sym, ◌∙◌, ap, append_assoc, append-nil, length, take, drop, arith, MatchOption, Option, Some, None, option_map, if◌then◌else◌, ⊎_elim}
-use Rattle.kt_ninja_reader.proofs.Common.{cases_Bool, false≢true, eqb-true, length-drop, option_and_then, prefix_len, Cut, Fault, NoReading, Memory, Text, is_empty, Piece, Plain, Escaped, Variable, Where, after_dollar, in_braces, in_name, is_escapable, is_long_name_byte, is_short_name_byte, outer_step, outside, pieces_from}
+use Rattle.std.proofs.Common.{◌≡◌, ◌≢◌, ℕ, suc, ◌+◌, ◌≤◌, Bool, true, false, ◌==◌, List, [], ◌∷◌, ◌++◌, refl, sym, ◌∙◌, ap, append_assoc, append-nil, length, take, drop, arith, MatchOption, Option, Some, None, option_map, if◌then◌else◌, ⊎_elim}
+use Rattle.kt_ninja_reader.proofs.Common.{cases_Bool, false≢true, eqb-true, length-drop, option_and_then, prefix_len, Cut, Fault, Text, is_empty, Piece, Plain, Escaped, Variable, Where, after_dollar, in_braces, in_name, is_escapable, is_long_name_byte, is_short_name_byte, outer_step, outside, pieces_from}
 use Rattle.kt_ninja_reader.specs.inner.Cutting.{CutsOff, CutsShort, dollar_piece}
 use Rattle.kt_ninja_reader.specs.Spellings.{name_goes_on}
 use Rattle.kt_ninja_reader.specs.inner.Refusals.{LacksReading}
 
 -- a refusal of one reading is one of another that has no value either
 pub refuses_too : {X Y : Type 0} (old : Option X) (new : Option Y) → (old ≡ None → new ≡ None) → (fault : Fault) → LacksReading old fault → LacksReading new fault
-refuses_too old new h NoReading r = h r
-refuses_too old new h Memory r = tt
+refuses_too old new h fault r = grind arith
 
 -- no piece in front changes nothing
 pub none_before : (found : Option (List Piece)) → option_map (λ later. [] ++ later) found ≡ found
-none_before None = refl
-none_before (Some ps) = refl
+none_before found = grind arith
 
 pub map_twice : (front back : List Piece) (found : Option (List Piece))
     → option_map (λ later. front ++ later) (option_map (λ later. back ++ later) found) ≡ option_map (λ later. (front ++ back) ++ later) found
-map_twice front back None = refl
-map_twice front back (Some ps) = ap Some (sym (append_assoc front back ps))
+map_twice front back found = grind (arith, append_assoc)
 
 pub map_none : (front : List Piece) (found : Option (List Piece)) → found ≡ None → option_map (λ later. front ++ later) found ≡ None
 map_none front found h = ap (option_map (λ later. front ++ later)) h
@@ -62,8 +59,7 @@ outside-nil = refl
 pub name_ended : (name : Text) (b : ℕ) (bs : Text) (dollar : Bool) → (b == 36) ≡ dollar
     → option_and_then (λ s. option_map (λ later. s.done ++ later) (pieces_from s.next bs)) (Some (outer_step (Variable name ∷ []) b))
     ≡ option_map (λ later. Variable name ∷ later) (option_and_then (λ s. option_map (λ later. s.done ++ later) (pieces_from s.next bs)) (Some (outer_step [] b)))
-name_ended name b bs true h = rw h (ap (option_map (λ later. Variable name ∷ later)) (sym (none_before (pieces_from after_dollar bs))))
-name_ended name b bs false h = rw h (sym (map_twice (Variable name ∷ []) (Plain b ∷ []) (pieces_from outside bs)))
+name_ended name b bs dollar h = grind (arith, none_before, map_twice)
 
 take_one : (n b : ℕ) (bs : Text) → take (1 + n) (b ∷ bs) ≡ b ∷ take n bs
 take_one n b bs = let e : 1 + n ≡ suc n = omega arith in rw e refl
@@ -76,8 +72,7 @@ abbrev pub short_from : Text → Text → ℕ → Option (List Piece)
 short_from name text n = option_map (λ later. Variable (name ++ take n text) ∷ later) (pieces_from outside (drop n text))
 
 short_more : (name : Text) (b : ℕ) (bs : Text) (n : ℕ) → short_from (name ++ b ∷ []) bs n ≡ short_from name (b ∷ bs) (1 + n)
-short_more name b bs n =
-    rw (take_one n b bs, drop_one n b bs) (ap (λ front. option_map (λ later. Variable front ∷ later) (pieces_from outside (drop n bs))) (append_assoc name (b ∷ []) (take n bs)))
+short_more name b bs n = grind (arith, take_one, drop_one, append_assoc, take)
 
 short_none : (name : Text) (b : ℕ) (bs : Text) → option_map (λ later. Variable name ∷ later) (pieces_from outside (b ∷ bs)) ≡ short_from name (b ∷ bs) 0
 short_none name b bs = ap (λ front. option_map (λ later. Variable front ∷ later) (pieces_from outside (b ∷ bs))) (sym (append-nil name))
@@ -86,11 +81,7 @@ short_none name b bs = ap (λ front. option_map (λ later. Variable front ∷ la
 pub in_name-prefix : (name text : Text) → pieces_from (in_name name) text ≡ short_from name text (prefix_len is_short_name_byte text)
 unfolding pieces_from
 in_name-prefix name [] = ap (λ n. Some (Variable n ∷ [])) (sym (append-nil name))
-in_name-prefix name (b ∷ bs) =
-    ⊎_elim
-    (λ h. rw h (none_before (pieces_from (in_name (name ++ b ∷ [])) bs) ∙ in_name-prefix (name ++ b ∷ []) bs ∙ short_more name b bs (prefix_len is_short_name_byte bs)))
-    (λ h. rw h (⊎_elim (λ d. name_ended name b bs true d) (λ d. name_ended name b bs false d) (cases_Bool (b == 36)) ∙ short_none name b bs))
-    (cases_Bool (is_short_name_byte b))
+in_name-prefix name (b ∷ bs) = grind (arith, ⊎_elim, none_before, short_more, name_ended, cases_Bool, short_none, in_name-prefix (name ++ b ∷ []) bs)
 
 -- what a name in braces is by what stands after it
 abbrev pub closed : Text → Text → Option (List Piece)
@@ -103,9 +94,7 @@ long_before_brace b h = let e : b ≡ 125 = eqb-true _ _ h in rw e refl
 -- a byte that goes on no name in braces
 brace_end_by : (name : Text) (b : ℕ) (bs : Text) → is_long_name_byte b ≡ false → (brace : Bool) → (b == 125) ≡ brace → pieces_from (in_braces name) (b ∷ bs) ≡ closed name (b ∷ bs)
 unfolding pieces_from
-brace_end_by [] b bs h true d = rw d refl
-brace_end_by (f ∷ fs) b bs h true d = rw d refl
-brace_end_by name b bs h false d = rw (d, h) refl
+brace_end_by name b bs h brace d = grind arith
 
 pub not_brace : (b : ℕ) → is_long_name_byte b ≡ true → (b == 125) ≡ false
 not_brace b h = ⊎_elim (λ d. absurd (false≢true (sym (long_before_brace b d) ∙ h))) (λ d. d) (cases_Bool (b == 125))
@@ -118,33 +107,19 @@ pub in_braces-prefix : (name text : Text)
     → pieces_from (in_braces name) text ≡ closed (name ++ take (prefix_len is_long_name_byte text) text) (drop (prefix_len is_long_name_byte text) text)
 unfolding pieces_from
 in_braces-prefix name [] = refl
-in_braces-prefix name (b ∷ bs) =
-    let n = prefix_len is_long_name_byte bs in
-    ⊎_elim
-    (λ h. brace_more name b bs h ∙ in_braces-prefix (name ++ b ∷ []) bs ∙ rw (h, take_one n b bs, drop_one n b bs) (ap (λ front. closed front (drop n bs)) (append_assoc name (b ∷ []) (take n bs))))
-    (λ h. brace_end_by name b bs h (b == 125) refl ∙ rw h (ap (λ front. closed front (b ∷ bs)) (sym (append-nil name))))
-    (cases_Bool (is_long_name_byte b))
+in_braces-prefix name (b ∷ bs) = grind (arith, ⊎_elim, brace_more, take_one, drop_one, append_assoc, take, brace_end_by, append-nil, cases_Bool, in_braces-prefix (name ++ b ∷ []) bs)
 
 -- whether a text begins with a name
 pub name_goes_on-length : (text : Text) (n : ℕ) → n ≡ prefix_len is_short_name_byte text → n ≢ 0 → name_goes_on text ≡ true
-name_goes_on-length [] n h some = absurd (some h)
-name_goes_on-length (b ∷ bs) n h some = ⊎_elim (λ d. d) (λ d. absurd (some (rw d at h))) (cases_Bool (is_short_name_byte b))
+name_goes_on-length text n h some = grind (arith, ⊎_elim, cases_Bool)
 
 -- a name without braces that is cut off
 pub short_cut : (text name after : Text) (n : ℕ) (cut : Cut) → n ≡ prefix_len is_short_name_byte text → n ≢ 0 → name ≡ take n text → after ≡ drop n text
     → dollar_piece cut.dollar ≡ Variable name → cut.after.now ≡ after → (name_goes_on text ≡ true) × CutsOff (in_name []) text cut
-short_cut text name after n cut length_is some front back piece rest = (
-  name_goes_on-length text n length_is some,
-  record {
-    first = in_name-prefix [] text ∙ rw (sym length_is, sym front, sym back, piece, rest) refl;
-    less = let shorter : length after ≤ length text = rw back (omega (arith, length-drop n text)) in rw rest shorter;
-  },
-)
+short_cut text name after n cut length_is some front back piece rest = grind (arith, name_goes_on-length, in_name-prefix, length, length-drop)
 
 some_take : (n : ℕ) (text : Text) → n ≢ 0 → n ≤ length text → is_empty (take n text) ≡ false
-some_take zero text some low = absurd (some refl)
-some_take (suc n) [] some low = absurd (omega (arith, low))
-some_take (suc n) (b ∷ bs) some low = refl
+some_take n text some low = grind arith
 
 closed_by : (name : Text) (b : ℕ) (bs : Text) → is_empty name ≡ false → b ≡ 125 → closed name (b ∷ bs) ≡ option_map (λ later. Variable name ∷ later) (pieces_from outside bs)
 closed_by name b bs some is = rw (is, some) refl
@@ -168,31 +143,23 @@ pub brace_other : (text after rest : Text) (n b : ℕ) → n ≡ prefix_len is_l
 brace_other text after rest n b length_is back is other = in_braces-prefix [] text ∙ rw (sym length_is, sym back, is, other) refl
 
 closed_none : (after : Text) → closed [] after ≡ None
-closed_none [] = refl
-closed_none (b ∷ bs) = ⊎_elim (λ d. rw d refl) (λ d. rw d refl) (cases_Bool (b == 125))
+closed_none after = grind (arith, ⊎_elim, cases_Bool)
 
 pub brace_empty : (text : Text) (n : ℕ) → n ≡ prefix_len is_long_name_byte text → n ≡ 0 → pieces_from (in_braces []) text ≡ None
-brace_empty text n length_is none =
-    let e : prefix_len is_long_name_byte text ≡ 0 = sym length_is ∙ none in
-    in_braces-prefix [] text ∙ rw e (closed_none text)
+brace_empty text n length_is none = grind (arith, in_braces-prefix, closed_none)
 
 -- one place's pieces for another's
 pub cuts_too : (old new : Where) (text longer : Text) (cut : Cut) → pieces_from new longer ≡ pieces_from old text → length text ≤ length longer
     → CutsOff old text cut → CutsOff new longer cut
-cuts_too old new text longer cut same more h =
-    record { first = same ∙ h.first; less = omega (arith, more, h.less) }
+cuts_too old new text longer cut same more h = grind arith
 
 -- a name without braces, after its dollar
 pub short_of : (text : Text) (b : ℕ) (bs : Text) (cut : Cut) → text ≡ b ∷ bs → is_escapable b ≡ false → (b == 123) ≡ false → CutsShort text cut → CutsOff after_dollar text cut
-short_of text b bs cut is escapable brace h =
-    let short : is_short_name_byte b ≡ true = ap name_goes_on (sym is) ∙ h.0 in
-    cuts_too (in_name []) after_dollar text text cut (rw is (escape-short b bs escapable brace short)) (omega arith) h.1
+short_of text b bs cut is escapable brace h = grind (arith, cuts_too, escape-short)
 
 pub no_short_of : (text : Text) (b : ℕ) (bs : Text) → text ≡ b ∷ bs → is_escapable b ≡ false → (b == 123) ≡ false → name_goes_on text ≡ false → pieces_from after_dollar text ≡ None
-no_short_of text b bs is escapable brace h =
-    let short : is_short_name_byte b ≡ false = ap name_goes_on (sym is) ∙ h in rw is (escape-none b bs escapable brace short)
+no_short_of text b bs is escapable brace h = grind (arith, escape-none)
 
 -- what is cut off, where it is cut off elsewhere
 pub cuts_option : {P Q : Type 0} {C D : Cut → Type 0} (found : Option Cut) → MatchOption found P C → (P → Q) → ((cut : Cut) → C cut → D cut) → MatchOption found Q D
-cuts_option None h f g = f h
-cuts_option (Some cut) h f g = g cut h
+cuts_option found h f g = grind arith

@@ -1,6 +1,6 @@
 -- What is printed is read.
-use Rattle.std.proofs.Common.{◌≡◌, ◌∙◌, ◌<◌, ◌≤◌, ℕ, ◌+◌, List, [], ◌∷◌, ◌++◌, refl, sym, ap, subst, map, append-nil, append_assoc, arith, Bool, true, false, not, ◌&&◌, nat_eq, Option, Some, None, option_map, Ok, codes, if◌then◌else◌}
-use Rattle.kt_ninja_reader.proofs.Common.{list_all, bytes_eq, pointwise, other_text, same_text, and_from, and_parts, flat_map-append, Made, Command, Phony, Statement, Plan, JoinedLine, Text, ends_in_dollar, file_lines, is_comment, joined_from, joined_lines, Pieces, ScopeTable, command_value, find_in, put_in, Making, FilePart, PendingStatement, all_parts, and_then_parts, are_new, block_from, by_nothing, by_rule, cut_lines, cut_with, made_of, making_of, nothing_read, ninja_read, outs_of, plan_in, plan_of, read_part, read_parts, statement_of, names_of, outputs, defaults_text, number_text, plan_text, rule_count, rule_name_text, statements_text, is_among, IsWritable, is_empty, is_made, is_name, repeated_after}
+use Rattle.std.proofs.Common.{rules, ◌≡◌, ◌∙◌, ◌<◌, ◌≤◌, ℕ, ◌+◌, List, [], ◌∷◌, ◌++◌, refl, sym, ap, subst, map, append-nil, append_assoc, arith, Bool, true, false, not, ◌&&◌, nat_eq, Option, Some, None, Ok, codes, if◌then◌else◌}
+use Rattle.kt_ninja_reader.proofs.Common.{list_all, bytes_eq, pointwise, same_text, and_from, and_parts, flat_map-append, Made, Command, Phony, Statement, Plan, JoinedLine, Text, ends_in_dollar, file_lines, is_comment, joined_from, joined_lines, Pieces, ScopeTable, find_in, put_in, Making, FilePart, PendingStatement, all_parts, and_then_parts, are_new, block_from, by_nothing, by_rule, cut_lines, cut_with, made_of, making_of, nothing_read, ninja_read, outs_of, plan_in, plan_of, read_part, read_parts, statement_of, names_of, outputs, defaults_text, plan_text, rule_count, rule_name_text, statements_text, is_among, IsWritable, is_empty, is_made, is_name, repeated_after}
 use Rattle.std.proofs.lemmas.Map.Made.{IsDistinct-from_AllPairs}
 use Rattle.kt_ninja_reader.proofs.PrintedPieces.{all_both, all_implies, either_case}
 use Rattle.kt_ninja_reader.proofs.PrintedNames.{command_expanded, command_pieces, number_once}
@@ -16,27 +16,21 @@ rule_named number = rule_name_text number (Command [])
 
 -- rules of different numbers have different names
 names_case : (m n : ℕ) (b : Bool) → b ≡ bytes_eq (rule_named m) (rule_named n) → n < m → b ≡ false
-names_case m n true is below =
-    let texts : number_text m ++ [] ≡ number_text n ++ [] = cc (same_text (rule_named m) (rule_named n) is) in
-    let same = number_once m n (sym (append-nil (number_text m)) ∙ texts ∙ append-nil (number_text n)) in
-    absurd (omega arith)
-names_case m n false is below = refl
+names_case m n b is below = search (rules, number_once, append-nil)
 
 names_differ : (m n : ℕ) → n < m → bytes_eq (rule_named m) (rule_named n) ≡ false
 names_differ m n below = names_case m n (bytes_eq (rule_named m) (rule_named n)) refl below
 
 -- a text is the same as itself
 text_is_itself : (b : Bool) (name : Text) → b ≡ bytes_eq name name → b ≡ true
-text_is_itself true name is = refl
-text_is_itself false name is = absurd (other_text name name is refl)
+text_is_itself b name is = search rules
 
 -- after one entry
 found_case : {X : Type 0} (es : ScopeTable X) (key : Text) (old value : X) (name : Text) (here : Bool) → bytes_eq name key ≡ here
     → find_in (put_in es name value) name ≡ Some value
     → find_in (if here then (key, value) ∷ es else (key, old) ∷ put_in es name value) name ≡ Some value
 unfolding find_in
-found_case es key old value name true is later = ap (λ b. if b then Some value else find_in es name) is
-found_case es key old value name false is later = ap (λ b. if b then Some old else find_in (put_in es name value) name) is ∙ later
+found_case es key old value name here is later = grind arith
 
 -- what was put is found
 found : {X : Type 0} (es : ScopeTable X) (name : Text) (value : X) → find_in (put_in es name value) name ≡ Some value
@@ -46,16 +40,14 @@ found ((key, old) ∷ es) name value = found_case es key old value name (bytes_e
 
 -- an entry that is not found stands neither here nor later
 absent_case : {X : Type 0} (here : Bool) (old : X) (later : Option X) → (if here then Some old else later) ≡ None → (here ≡ false) × (later ≡ None)
-absent_case true old later e = absurd (cc e)
-absent_case false old later e = (refl, e)
+absent_case here old later e = grind arith
 
 -- after one entry
 other_case : {X : Type 0} (es : ScopeTable X) (key : Text) (old value : X) (name other : Text) (here : Bool)
     → bytes_eq other key ≡ false → find_in es other ≡ None → find_in (put_in es name value) other ≡ None
     → find_in (if here then (key, value) ∷ es else (key, old) ∷ put_in es name value) other ≡ None
 unfolding find_in
-other_case es key old value name other true differ none later = ap (λ b. if b then Some value else find_in es other) differ ∙ none
-other_case es key old value name other false differ none later = ap (λ b. if b then Some old else find_in (put_in es name value) other) differ ∙ later
+other_case es key old value name other here differ none later = grind arith
 
 -- another name is as absent as before
 still_absent : {X : Type 0} (es : ScopeTable X) (name other : Text) (value : X) → bytes_eq other name ≡ false → find_in es other ≡ None
@@ -77,9 +69,7 @@ table_after number Phony table = table
 
 -- after a statement the next number is free again
 fresh_past : (number : ℕ) (made : Made) (table : ScopeTable Pieces) → Fresh number table → Fresh (number + rule_count made) (table_after number made table)
-fresh_past number (Command c) table fresh m h =
-    still_absent table (rule_named number) (rule_named m) (command_pieces c) (names_differ m number (omega arith)) (fresh m (omega arith))
-fresh_past number Phony table fresh m h = fresh m (omega arith)
+fresh_past number made table fresh m h = grind (arith, still_absent, command_pieces, names_differ)
 
 -- how a printed statement is read to be made
 abbrev making_as : Made → Making
@@ -90,8 +80,7 @@ making_as Phony = by_nothing
 command_making : (number : ℕ) (c : Text) (table : ScopeTable Pieces) (so_far : List PendingStatement)
     → making_of (state_with (table_after number (Command c) table) so_far) (rule_named number) [] ≡ Some (making_as (Command c))
 unfolding making_of find_in
-command_making number c table so_far =
-    ap (option_map (λ command. by_rule command [])) (found table (rule_named number) (command_pieces c))
+command_making number c table so_far = grind (arith, found, command_pieces)
 
 -- `phony` is known
 phony_making : (table : ScopeTable Pieces) (so_far : List PendingStatement) → making_of (state_with table so_far) (codes "phony") [] ≡ Some by_nothing
@@ -119,14 +108,12 @@ statement_read number at s Phony later table so_far fresh some named can new =
 -- it is made as it was
 made_again : (s : PendingStatement) (made : Made) → made_of [] s (making_as made) ≡ made
 unfolding made_of
-made_again s (Command c) = ap Command (command_expanded (command_value s.inputs s.outs [] []) c)
-made_again s Phony = refl
+made_again s made = grind (arith, command_expanded)
 
 -- it is the statement that was printed
 statement_again : (s : Statement) → statement_of [] (pending_as (making_as s.made) s) ≡ s
 unfolding statement_of
-statement_again s =
-    ap (λ m. record { outs = s.outs; made = m; inputs = s.inputs; implicit = s.implicit; order_only = s.order_only }) (made_again (pending_as (making_as s.made) s) s.made)
+statement_again s = grind (arith, made_again, pending_as)
 
 -- ---- outputs
 
@@ -146,15 +133,13 @@ outs_more so_far s = flat_map-append (λ (t : PendingStatement). t.outs) so_far 
 -- one output before others
 new_case : (here : Bool) (x : Text) (later : Option Text) (rest : Bool) → (if here then Some x else later) ≡ None → (later ≡ None → rest ≡ true)
     → (not here && rest) ≡ true
-new_case true x later rest none more = absurd (cc none)
-new_case false x later rest none more = more none
+new_case here x later rest none more = grind arith
 
 -- where none is repeated, all are new
 new_from_none : (before xs : List Text) → repeated_after before xs ≡ None → are_new before xs ≡ true
 unfolding are_new
 new_from_none before [] e = refl
-new_from_none before (x ∷ xs) e =
-    new_case (is_among before x) x (repeated_after (before ++ x ∷ []) xs) (are_new (before ++ x ∷ []) xs) e (new_from_none (before ++ x ∷ []) xs)
+new_from_none before (x ∷ xs) e = grind (arith, new_case, new_from_none (before ++ x ∷ []) xs)
 
 -- a default target is a name, since outputs are
 named_among : (names : List Text) (d : Text) → list_all is_name names ≡ true → is_among names d ≡ true → is_name d ≡ true
@@ -185,9 +170,7 @@ defaults_end : (at : ℕ) (defaults : List Text) (table : ScopeTable Pieces) (so
     → plan_in (read_parts (state_with table so_far) (default_parts at defaults)) ≡ Ok (plan_with so_far [] defaults)
 unfolding read_parts plan_of
 defaults_end at [] table so_far named among = ap (λ ss. Ok (record { statements = ss; defaults = [] })) (sym (append-nil (map (statement_of []) so_far)))
-defaults_end at (n ∷ ns) table so_far named among =
-    ap (λ o. plan_in (and_then_parts at o (λ state. read_parts state []))) (defaults_read at n ns table so_far named among)
-    ∙ ap (λ ss. Ok (record { statements = ss; defaults = n ∷ ns })) (sym (append-nil (map (statement_of []) so_far)))
+defaults_end at (n ∷ ns) table so_far named among = search (rules, defaults_read, append-nil)
 
 -- one more element before others
 map_more : {A B : Type 0} (f : A → B) (xs : List A) (y : A) (ys : List B) → map f (xs ++ y ∷ []) ++ ys ≡ map f xs ++ (f y ∷ ys)

@@ -1,6 +1,6 @@
 -- The lines that the printer writes, cut as a reader cuts them.
-use Rattle.std.proofs.Common.{◌≡◌, ◌∙◌, ℕ, List, [], ◌∷◌, ◌++◌, refl, sym, ap, ap₂, map, append-nil, eq-eqb, Bool, true, false, not, ◌==◌, ◌||◌, Some, option_map, filter, codes}
-use Rattle.kt_ninja_reader.proofs.Common.{list_all, list_any, flat_map, slice_split, option_and_then, and_from, and_parts, not-true, Text, Piece, Plain, Escaped, Variable, is_escapable, Build, Inputs, Pieces, binding_of, bound_to, build_after, build_cut, build_of, build_with, defaults_of, inputs_of, is_plain, name_bytes, name_in, paths_of, rule_of, without_lead, words_of, is_empty, is_name_byte}
+use Rattle.std.proofs.Common.{arith, rules, ◌≡◌, ◌∙◌, ℕ, List, [], ◌∷◌, ◌++◌, refl, sym, ap, ap₂, map, append-nil, eq-eqb, Bool, true, false, not, ◌==◌, ◌||◌, Some, filter, codes}
+use Rattle.kt_ninja_reader.proofs.Common.{list_all, list_any, flat_map, slice_split, option_and_then, and_from, and_parts, not-true, Text, Piece, Plain, Build, Inputs, Pieces, binding_of, bound_to, build_after, build_cut, build_of, defaults_of, inputs_of, is_plain, name_bytes, name_in, paths_of, rule_of, without_lead, words_of, is_empty}
 use Rattle.std.proofs.lemmas.List.Elements.{filter-append}
 use Rattle.kt_ninja_reader.proofs.PrintedPieces.{all_both, all_implies, neither, piece_by}
 use Rattle.kt_ninja_reader.proofs.PrintedNames.{command_pieces, is_name_piece, is_word}
@@ -34,24 +34,13 @@ none_plain c (p ∷ ps) e =
 
 -- a name's pieces have no plain space, colon or bar
 name_lacks_space : (p : Piece) → is_name_piece p ≡ true → lacks 32 p ≡ true
-name_lacks_space (Plain b) e =
-    let special = (neither (b == 36) (b == 32 || b == 58) (and_parts (not (is_escapable b)) (is_name_byte b) e).0).1 in
-    ap not (neither (b == 32) (b == 58) (ap not special)).0
-name_lacks_space (Escaped b) e = refl
-name_lacks_space (Variable name) e = refl
+name_lacks_space p e = grind (arith, neither, and_parts, not)
 
 name_lacks_colon : (p : Piece) → is_name_piece p ≡ true → lacks 58 p ≡ true
-name_lacks_colon (Plain b) e =
-    let special = (neither (b == 36) (b == 32 || b == 58) (and_parts (not (is_escapable b)) (is_name_byte b) e).0).1 in
-    ap not (neither (b == 32) (b == 58) (ap not special)).1
-name_lacks_colon (Escaped b) e = refl
-name_lacks_colon (Variable name) e = refl
+name_lacks_colon p e = grind (arith, neither, and_parts, not)
 
 name_lacks_bar : (p : Piece) → is_name_piece p ≡ true → lacks 124 p ≡ true
-name_lacks_bar (Plain b) e =
-    ap not (neither (b == 124) (b == 13 || (b == 10 || b == 0)) (and_parts (not (is_escapable b)) (is_name_byte b) e).1).0
-name_lacks_bar (Escaped b) e = refl
-name_lacks_bar (Variable name) e = refl
+name_lacks_bar p e = grind (arith, not, neither, and_parts)
 
 -- ---- words
 
@@ -62,8 +51,7 @@ spaced words = flat_map (λ w. Plain 32 ∷ w) words
 -- each piece of each word passes
 pub words_pass : (q : Piece → Bool) → ((p : Piece) → is_name_piece p ≡ true → q p ≡ true) → (ws : List Pieces) → list_all is_word ws ≡ true
     → list_all (list_all q) ws ≡ true
-words_pass q each ws e =
-    all_implies is_word (list_all q) (λ w is. all_implies is_name_piece q each w (and_parts (not (is_empty w)) (list_all is_name_piece w) is).1) ws e
+words_pass q each ws e = grind (arith, all_implies, is_word, is_name_piece, and_parts, not)
 
 -- so does the space before each
 pub spaced_pass : (q : Piece → Bool) → q (Plain 32) ≡ true → (ws : List Pieces) → list_all (list_all q) ws ≡ true → list_all q (spaced ws) ≡ true
@@ -105,9 +93,7 @@ words_from w ws e =
 -- words after their spaces, cut there
 split_after : (ws : List Pieces) → list_all (list_all (lacks 32)) ws ≡ true → slice_split (is_plain 32) (spaced ws) ≡ [] ∷ ws
 split_after [] e = refl
-split_after (w ∷ ws) e =
-    let both = and_parts (list_all (lacks 32) w) (list_all (list_all (lacks 32)) ws) e in
-    ap (λ (l : List Pieces). [] ∷ l) (split_spaced w ws both.0 both.1)
+split_after (w ∷ ws) e = grind (arith, and_parts, split_spaced)
 
 -- the words of a list that begins with a space
 pub words_after : (ws : List Pieces) → list_all is_word ws ≡ true → words_of (spaced ws) ≡ ws
@@ -125,8 +111,7 @@ ended_pass q ws e = all_both (list_all q) ws ([] ∷ []) e refl
 -- and these are the same words
 pub words_ended : (ws : List Pieces) → list_all is_word ws ≡ true → words_of (spaced (ended ws)) ≡ ws
 unfolding words_of
-words_ended ws e =
-    ap (filter (λ v. not (is_empty v))) (split_after (ended ws) (ended_pass (lacks 32) ws (lack_spaces ws e))) ∙ kept_but_last ws e
+words_ended ws e = search (rules, not, split_after, ended_pass, lack_spaces, kept_but_last)
 
 -- ---- what stands after the colon of a build line
 
@@ -141,16 +126,7 @@ after_colon front (i ∷ is) (o ∷ os) =
 -- what spaces, bars and the pieces of words pass, all of it passes
 pub after_pass : (q : Piece → Bool) → q (Plain 32) ≡ true → q (Plain 124) ≡ true → (front is os : List Pieces)
     → list_all (list_all q) front ≡ true → list_all (list_all q) is ≡ true → list_all (list_all q) os ≡ true → list_all q (after_colon front is os) ≡ true
-after_pass q space bar front [] [] f i o = spaced_pass q space front f
-after_pass q space bar front (x ∷ xs) [] f i o =
-    all_both q (spaced (ended front)) _ (spaced_pass q space (ended front) (ended_pass q front f)) (and_from (q (Plain 124)) _ bar (spaced_pass q space (x ∷ xs) i))
-after_pass q space bar front [] (y ∷ ys) f i o =
-    all_both q (spaced (ended front)) _ (spaced_pass q space (ended front) (ended_pass q front f))
-    (and_from (q (Plain 124)) _ bar (and_from (q (Plain 124)) _ bar (spaced_pass q space (y ∷ ys) o)))
-after_pass q space bar front (x ∷ xs) (y ∷ ys) f i o =
-    all_both q (spaced (ended front)) _ (spaced_pass q space (ended front) (ended_pass q front f))
-    (and_from (q (Plain 124)) _ bar (all_both q (spaced (ended (x ∷ xs))) _ (spaced_pass q space (ended (x ∷ xs)) (ended_pass q (x ∷ xs) i))
-    (and_from (q (Plain 124)) _ bar (and_from (q (Plain 124)) _ bar (spaced_pass q space (y ∷ ys) o)))))
+after_pass q space bar front is os f i o = grind (arith, spaced_pass, all_both, ended_pass, and_from)
 
 -- words have no plain bar
 lack_bars : (ws : List Pieces) → list_all is_word ws ≡ true → list_all (list_all (lacks 124)) ws ≡ true
@@ -179,16 +155,9 @@ parts_of front (i ∷ is) (o ∷ os) = spaced (ended front) ∷ spaced (ended (i
 cut_at_bars : (front is os : List Pieces) → list_all is_word front ≡ true → list_all is_word is ≡ true → list_all is_word os ≡ true
     → slice_split (is_plain 124) (after_colon front is os) ≡ parts_of front is os
 cut_at_bars front [] [] f i o = uncut 124 (spaced front) (no_bar front f)
-cut_at_bars front (x ∷ xs) [] f i o =
-    cut_here 124 (spaced (ended front)) (spaced (x ∷ xs)) (no_bar_ended front f)
-    ∙ ap (λ (l : List Pieces). spaced (ended front) ∷ l) (uncut 124 (spaced (x ∷ xs)) (no_bar (x ∷ xs) i))
-cut_at_bars front [] (y ∷ ys) f i o =
-    cut_here 124 (spaced (ended front)) (Plain 124 ∷ spaced (y ∷ ys)) (no_bar_ended front f)
-    ∙ ap (λ (l : List Pieces). spaced (ended front) ∷ [] ∷ l) (uncut 124 (spaced (y ∷ ys)) (no_bar (y ∷ ys) o))
-cut_at_bars front (x ∷ xs) (y ∷ ys) f i o =
-    cut_here 124 (spaced (ended front)) (spaced (ended (x ∷ xs)) ++ (Plain 124 ∷ Plain 124 ∷ spaced (y ∷ ys))) (no_bar_ended front f)
-    ∙ ap (λ (l : List Pieces). spaced (ended front) ∷ l) (cut_here 124 (spaced (ended (x ∷ xs))) (Plain 124 ∷ spaced (y ∷ ys)) (no_bar_ended (x ∷ xs) i))
-    ∙ ap (λ (l : List Pieces). spaced (ended front) ∷ spaced (ended (x ∷ xs)) ∷ [] ∷ l) (uncut 124 (spaced (y ∷ ys)) (no_bar (y ∷ ys) o))
+cut_at_bars front (x ∷ xs) [] f i o = search (rules, cut_here, no_bar_ended, uncut, no_bar)
+cut_at_bars front [] (y ∷ ys) f i o = search (rules, cut_here, no_bar_ended, uncut, no_bar)
+cut_at_bars front (x ∷ xs) (y ∷ ys) f i o = search (rules, cut_here, no_bar_ended, uncut, no_bar)
 
 -- three kinds of inputs
 abbrev pub inputs_are : List Pieces → List Pieces → List Pieces → Inputs
@@ -201,23 +170,15 @@ built outs name inputs = record { outs = outs; rule_name = name; inputs = inputs
 -- a build line by its parts
 with_parts : (outs : List Pieces) (name : Text) (rule : Pieces) (ins parts : List Pieces) (front : Pieces) (inputs : Inputs) → words_of front ≡ rule ∷ ins
     → name_bytes rule ≡ Some name → inputs_of ins parts ≡ Some inputs → build_after outs (front ∷ parts) ≡ Some (built outs name inputs)
-with_parts outs name rule ins parts front inputs words named are =
-    ap (λ ws. build_with outs ws parts) words
-    ∙ ap (option_and_then (λ n. option_map (built outs n) (inputs_of ins parts))) named
-    ∙ ap (option_map (built outs name)) are
+with_parts outs name rule ins parts front inputs words named are = grind arith
 
 -- these parts say the inputs
 parts_say : (outs : List Pieces) (name : Text) (rule : Pieces) (ins is os : List Pieces) → name_bytes rule ≡ Some name
     → list_all is_word (rule ∷ ins) ≡ true → list_all is_word is ≡ true → list_all is_word os ≡ true
     → build_after outs (parts_of (rule ∷ ins) is os) ≡ Some (built outs name (inputs_are ins is os))
-parts_say outs name rule ins [] [] named f i o =
-    with_parts outs name rule ins [] (spaced (rule ∷ ins)) (inputs_are ins [] []) (words_after (rule ∷ ins) f) named refl
-parts_say outs name rule ins (x ∷ xs) [] named f i o =
-    with_parts outs name rule ins (spaced (x ∷ xs) ∷ []) (spaced (ended (rule ∷ ins))) (inputs_are ins (x ∷ xs) []) (words_ended (rule ∷ ins) f) named
-    (ap (λ ws. Some (inputs_are ins ws [])) (words_after (x ∷ xs) i))
-parts_say outs name rule ins [] (y ∷ ys) named f i o =
-    with_parts outs name rule ins ([] ∷ spaced (y ∷ ys) ∷ []) (spaced (ended (rule ∷ ins))) (inputs_are ins [] (y ∷ ys)) (words_ended (rule ∷ ins) f) named
-    (ap (λ ws. Some (inputs_are ins [] ws)) (words_after (y ∷ ys) o))
+parts_say outs name rule ins [] [] named f i o = search (rules, with_parts, words_after)
+parts_say outs name rule ins (x ∷ xs) [] named f i o = search (rules, with_parts, words_ended, words_after)
+parts_say outs name rule ins [] (y ∷ ys) named f i o = search (rules, with_parts, words_ended, words_after)
 parts_say outs name rule ins (x ∷ xs) (y ∷ ys) named f i o =
     with_parts outs name rule ins (spaced (ended (x ∷ xs)) ∷ [] ∷ spaced (y ∷ ys) ∷ []) (spaced (ended (rule ∷ ins))) (inputs_are ins (x ∷ xs) (y ∷ ys))
     (words_ended (rule ∷ ins) f) named
@@ -227,9 +188,7 @@ parts_say outs name rule ins (x ∷ xs) (y ∷ ys) named f i o =
 
 -- paths that the printer writes are read
 paths_printed : (o : Pieces) (os : List Pieces) → list_all is_word (o ∷ os) ≡ true → paths_of (o ++ spaced os) ≡ Some (o ∷ os)
-paths_printed o os e =
-    let bars = none_plain 124 (o ++ spaced os) (no_bar (o ∷ os) e) in
-    rw (bars, words_from o os e) refl
+paths_printed o os e = search (rules, none_plain, no_bar, words_from)
 
 -- what stands after `build `
 abbrev pub after_build : Pieces → List Pieces → List Pieces → List Pieces → List Pieces → Pieces
@@ -265,13 +224,11 @@ rule_printed rule name e named =
 
 -- a command begins with no plain space
 no_lead : (b : ℕ) (special : Bool) → (b == 32 || b == 36) ≡ special → is_plain 32 (piece_by special b) ≡ false
-no_lead b true e = refl
-no_lead b false e = (neither (b == 32) (b == 36) (ap not e)).0
+no_lead b special e = grind (arith, neither, not)
 
 -- one space before it is dropped, and no more
 lead_dropped : (c : Text) → without_lead (Plain 32 ∷ command_pieces c) ≡ command_pieces c
-lead_dropped [] = refl
-lead_dropped (b ∷ bs) = rw (no_lead b (b == 32 || b == 36) refl) refl
+lead_dropped c = grind (arith, no_lead)
 
 -- the line of a rule's command binds it
 pub binding_printed : (c : Text) → binding_of (map Plain (codes " command = ") ++ command_pieces c) ≡ Some (record { key = codes "command"; value = command_pieces c })

@@ -1,6 +1,6 @@
 -- The text of a plan as lines of pieces, and these as the parts of a file.
-use Rattle.std.proofs.Common.{◌≡◌, ◌∙◌, ℕ, ◌+◌, List, [], ◌∷◌, ◌++◌, refl, sym, ap, ap₂, map, append-nil, append_assoc, Bool, true, not, ◌==◌, ◌&&◌, ◌||◌, Some, None, codes}
-use Rattle.kt_ninja_reader.proofs.Common.{concat, list_all, and_from, and_parts, list_all-append, flat_map-append, Plain, Made, Command, Phony, Statement, JoinedLine, Text, file_lines, joined_from, Pieces, FilePart, cut_lines, cut_with, names_of, command_text, defaults_text, is_special_in_name, marked_text, names_text, number_text, rule_count, rule_name_text, rule_text, statements_text, is_command_byte, is_empty, is_made, is_name}
+use Rattle.std.proofs.Common.{arith, ◌≡◌, ◌∙◌, ℕ, ◌+◌, List, [], ◌∷◌, ◌++◌, refl, sym, ap, ap₂, map, append-nil, append_assoc, Bool, true, not, ◌==◌, ◌&&◌, ◌||◌, Some, None, codes}
+use Rattle.kt_ninja_reader.proofs.Common.{concat, list_all, and_from, and_parts, list_all-append, flat_map-append, Plain, Made, Command, Phony, Statement, JoinedLine, Text, file_lines, joined_from, Pieces, FilePart, cut_lines, cut_with, names_of, defaults_text, marked_text, names_text, rule_count, rule_name_text, rule_text, statements_text, is_command_byte, is_empty, is_made, is_name}
 use Rattle.kt_ninja_reader.specs.NinjaRead.{Cut}
 use Rattle.kt_ninja_reader.proofs.PrintedPieces.{all_both, all_implies, command_bytes, is_printed, neither, nothing_open, written, written_append, written_by}
 use Rattle.kt_ninja_reader.proofs.PrintedNames.{command_pieces, command_printed, command_written, is_name_piece, name_pieces, name_printed, names_are_words, plain_pieces, rule_name_bytes, written_plain}
@@ -11,15 +11,11 @@ use Rattle.kt_ninja_reader.proofs.PrintedForms.{after_colon, after_pass, ended, 
 -- names after their spaces, written, are their text
 pub names_written : (names : List Text) → written (spaced (map name_pieces names)) ≡ names_text names
 names_written [] = refl
-names_written (n ∷ ns) =
-    ap (λ t. 32 ∷ t) (written_append (name_pieces n) (spaced (map name_pieces ns))
-    ∙ ap₂ (λ a b. a ++ b) (written_by is_special_in_name n) (names_written ns))
+names_written (n ∷ ns) = grind (arith, written_append, name_pieces, spaced, ap₂, written_by, names_written ns)
 
 -- words with a space after them
 ended_then : (ws : List Pieces) (t : Text) → written (spaced (ended ws)) ++ t ≡ written (spaced ws) ++ (32 ∷ t)
-ended_then ws t =
-    ap (λ ps. written ps ++ t) (flat_map-append (λ (w : Pieces). Plain 32 ∷ w) ws ([] ∷ []))
-    ∙ ap (λ x. x ++ t) (written_append (spaced ws) (Plain 32 ∷ [])) ∙ append_assoc (written (spaced ws)) (32 ∷ []) t
+ended_then ws t = grind (arith, written, flat_map-append, written_append, spaced, append_assoc)
 
 -- the rule's name and the inputs
 abbrev front_pieces : Text → List Text → List Pieces
@@ -27,8 +23,7 @@ front_pieces rule ins = map Plain rule ∷ map name_pieces ins
 
 -- the text before the first bar
 front_written : (rule : Text) (ins : List Text) → written (spaced (front_pieces rule ins)) ≡ 32 ∷ (rule ++ names_text ins)
-front_written rule ins =
-    ap (λ t. 32 ∷ t) (written_append (map Plain rule) (spaced (map name_pieces ins)) ∙ ap₂ (λ a b. a ++ b) (written_plain rule) (names_written ins))
+front_written rule ins = grind (arith, written_append, spaced, name_pieces, ap₂, written_plain, names_written)
 
 -- the same where a bar follows
 front_then : (rule : Text) (ins : List Text) (t : Text)
@@ -94,21 +89,12 @@ regrouped outs rule ins is os rest = simp append_assoc
 
 -- the build line as pieces, and its newline
 pub build_written : (rule : Text) (s : Statement) (rest : Text) → build_named rule s ++ rest ≡ written (build_line rule s) ++ (10 ∷ rest)
-build_written rule s rest =
-    ap (λ t. codes "build" ++ t) (regrouped (names_text s.outs) rule (names_text s.inputs) (marked_text (codes " |") s.implicit) (marked_text (codes " ||") s.order_only) rest)
-    ∙ sym (ap (λ t. (codes "build" ++ t) ++ (10 ∷ rest)) (
-    written_append (spaced (map name_pieces s.outs)) (Plain 58 ∷ after_colon (front_pieces rule s.inputs) (map name_pieces s.implicit) (map name_pieces s.order_only))
-    ∙ ap₂ (λ a b. a ++ (58 ∷ b)) (names_written s.outs) (after_written rule s.inputs s.implicit s.order_only)))
+build_written rule s rest = grind (arith, codes, regrouped, written_append, spaced, name_pieces, after_colon, ap₂, names_written, after_written)
 
 -- the rule's two lines as pieces, with their newlines
 pub rule_written : (number : ℕ) (c : Text) (rest : Text)
     → rule_text number (Command c) ++ rest ≡ written (rule_line (rule_name_text number (Command c))) ++ (10 ∷ (written (command_line c) ++ (10 ∷ rest)))
-rule_written number c rest =
-    ap (λ t. codes "rule r" ++ t) (
-    append_assoc (number_text number) _ rest
-    ∙ ap (λ t. number_text number ++ (10 ∷ (codes " command = " ++ t))) (append_assoc (command_text c) (10 ∷ []) rest)
-    ∙ sym (ap₂ (λ n t. n ++ (10 ∷ (codes " command = " ++ (t ++ (10 ∷ rest)))))
-    (written_plain (number_text number ++ []) ∙ append-nil (number_text number)) (command_written c)))
+rule_written number c rest = grind (arith, codes, append_assoc, ap₂, written_plain, append-nil, command_written)
 
 -- the line of default targets as pieces, and its newline
 pub defaults_written : (names : List Text) → codes "default" ++ (names_text names ++ (10 ∷ [])) ≡ written (default_line names) ++ (10 ∷ [])
@@ -141,8 +127,7 @@ names_printed names e = words_pass is_printed name_printed (map name_pieces name
 
 -- those of a rule's name are
 rule_pieces_printed : (number : ℕ) (made : Made) → list_all is_printed (map Plain (rule_name_text number made)) ≡ true
-rule_pieces_printed number made =
-    all_implies is_name_piece is_printed name_printed (map Plain (rule_name_text number made)) (plain_pieces (rule_name_text number made) (rule_name_bytes number made))
+rule_pieces_printed number made = grind (arith, all_implies, is_name_piece, is_printed, name_printed, plain_pieces, rule_name_bytes)
 
 -- so are those of the rule's line
 pub rule_line_printed : (number : ℕ) (made : Made) → list_all is_printed (rule_line (rule_name_text number made)) ≡ true
@@ -154,10 +139,7 @@ command_line_printed c e = command_printed c e
 
 -- of a build line
 pub build_line_printed : (number : ℕ) (made : Made) (s : Statement) → Named s → list_all is_printed (build_line (rule_name_text number made) s) ≡ true
-build_line_printed number made s named =
-    all_both is_printed (spaced (map name_pieces s.outs)) _ (spaced_pass is_printed refl (map name_pieces s.outs) (names_printed s.outs named.outs))
-    (after_pass is_printed refl refl (front_pieces (rule_name_text number made) s.inputs) (map name_pieces s.implicit) (map name_pieces s.order_only)
-    (and_from _ _ (rule_pieces_printed number made) (names_printed s.inputs named.inputs)) (names_printed s.implicit named.implicit) (names_printed s.order_only named.order_only))
+build_line_printed number made s named = grind (arith, all_both, is_printed, spaced, name_pieces, spaced_pass, names_printed, after_pass, and_from, rule_pieces_printed)
 
 -- of the line of default targets
 pub default_line_printed : (names : List Text) → list_all is_name names ≡ true → list_all is_printed (default_line names) ≡ true
@@ -186,8 +168,7 @@ lines_at number text = joined_from number None (file_lines text)
 line_first : (number : ℕ) (ps : Pieces) (rest : Text) → list_all is_printed ps ≡ true
     → lines_at number (written ps ++ (10 ∷ rest)) ≡ line number ps ∷ lines_at (number + 1) rest
 unfolding joined_from
-line_first number ps rest e =
-    ap (joined_from number None) (line_cut (written ps) rest (command_bytes ps e)) ∙ rw (nothing_open ps e) refl
+line_first number ps rest e = grind (arith, line_cut, written, command_bytes, nothing_open)
 
 -- a printed line before the others, cut into parts
 pub cut_line : (number : ℕ) (ps : Pieces) (rest : Text) → list_all is_printed ps ≡ true

@@ -1,6 +1,6 @@
 -- What the printer writes for names, rules' names and commands, as pieces.
-use Rattle.std.proofs.Common.{◌≡◌, ◌∙◌, ◌<◌, ℕ, zero, suc, ◌+◌, List, [], ◌∷◌, ◌++◌, refl, sym, ap, ap₂, map, get_or, eqb-true, arith, le-leb, append_assoc, append-nil, Bool, true, false, not, ◌==◌, ◌&&◌, ◌||◌, nat_le, Some, codes, if◌then◌else◌}
-use Rattle.kt_ninja_reader.proofs.Common.{list_all, and_from, and_parts, or_left, or_right, Made, Command, Phony, Text, Piece, Plain, Escaped, Variable, is_escapable, is_letter_or_digit, is_long_name_byte, is_short_name_byte, Pieces, name_bytes, expanded, names_one, refers_to, command_text, is_special_in_command, is_special_in_name, lead_text, number_text, rule_name_text, is_command_byte, is_empty, is_name, is_name_byte}
+use Rattle.std.proofs.Common.{rules, ◌≡◌, ◌∙◌, ◌<◌, ℕ, zero, suc, ◌+◌, List, [], ◌∷◌, ◌++◌, refl, sym, ap, ap₂, map, get_or, eqb-true, arith, le-leb, append_assoc, append-nil, Bool, true, false, not, ◌==◌, ◌&&◌, ◌||◌, nat_le, Some, codes, if◌then◌else◌}
+use Rattle.kt_ninja_reader.proofs.Common.{list_all, and_from, and_parts, or_left, or_right, Made, Text, Piece, Plain, Escaped, Variable, is_escapable, is_long_name_byte, Pieces, name_bytes, expanded, names_one, refers_to, command_text, is_special_in_command, is_special_in_name, number_text, rule_name_text, is_command_byte, is_empty, is_name, is_name_byte}
 use Rattle.std.specs.Int.Digits.{AllBelowBase, digits_of}
 use Rattle.std.proofs.Math.Bool.{or_assoc}
 use Rattle.std.proofs.lemmas.Int.Digits.{all_below_base_digits_of, first_digits_of, same_from_digits_of}
@@ -28,13 +28,11 @@ same_special b = or_assoc (b == 36) (b == 32) (b == 58)
 
 -- each byte of a name gives such a piece
 name_piece_case : (b : ℕ) (special : Bool) → is_special_in_name b ≡ special → is_name_byte b ≡ true → is_name_piece (piece_by special b) ≡ true
-name_piece_case b true is byte = sym (same_special b) ∙ is
-name_piece_case b false is byte = and_from (not (is_escapable b)) (is_name_byte b) (ap not (sym (same_special b) ∙ is)) byte
+name_piece_case b special is byte = grind (arith, same_special, and_from, not)
 
 -- a name that can be written is a word
 pub name_is_word : (name : Text) → is_name name ≡ true → is_word (name_pieces name) ≡ true
-name_is_word [] e = e
-name_is_word (b ∷ bs) e = by_passes is_name_piece is_special_in_name is_name_byte (λ c. name_piece_case c (is_special_in_name c) refl) (b ∷ bs) e
+name_is_word name e = grind (arith, by_passes, name_piece_case)
 
 -- so are all names of a list
 pub names_are_words : (names : List Text) → list_all is_name names ≡ true → list_all is_word (map name_pieces names) ≡ true
@@ -49,19 +47,13 @@ command_byte b e = ap not (neither (b == 124) (b == 13 || (b == 10 || b == 0)) e
 
 -- a piece of a name is one that the printer writes
 pub name_printed : (p : Piece) → is_name_piece p ≡ true → is_printed p ≡ true
-name_printed (Plain b) e =
-    let both = and_parts (not (is_escapable b)) (is_name_byte b) e in
-    and_from (not (b == 36)) (is_command_byte b) (ap not (neither (b == 36) (b == 32 || b == 58) both.0).0) (command_byte b both.1)
-name_printed (Escaped b) e = e
-name_printed (Variable name) e = absurd (cc e)
+name_printed p e = grind (arith, and_parts, not, and_from, neither, command_byte)
 
 -- ---- rules' names
 
 -- a digit is a byte of a name
 digit_byte : (d : ℕ) → d < 10 → is_long_name_byte (48 + d) ≡ true
-digit_byte d h =
-    let digit = and_from (nat_le 48 (48 + d)) (nat_le (48 + d) 57) (le-leb _ _ (omega arith)) (le-leb _ _ (omega arith)) in
-    or_left (is_short_name_byte (48 + d)) _ (or_left (is_letter_or_digit (48 + d)) _ (or_right _ _ (or_right _ _ digit)))
+digit_byte d h = grind (arith, and_from, nat_le, le-leb, or_left, or_right)
 
 -- so are all digits
 digits_bytes : (ds : List ℕ) → AllBelowBase 10 ds → list_all is_long_name_byte (map (λ d. 48 + d) ds) ≡ true
@@ -70,8 +62,7 @@ digits_bytes (d ∷ ds) h = and_from _ _ (digit_byte d h.0) (digits_bytes ds h.1
 
 -- also of zero
 number_case : (zero : Bool) (ds : List ℕ) → AllBelowBase 10 ds → list_all is_long_name_byte (if zero then codes "0" else map (λ d. 48 + d) ds) ≡ true
-number_case true ds h = refl
-number_case false ds h = digits_bytes ds h
+number_case b ds h = grind (arith, digits_bytes)
 
 -- the text of a number is made of bytes that a name has
 number_bytes : (n : ℕ) → list_all is_long_name_byte (number_text n) ≡ true
@@ -104,8 +95,7 @@ number_once (suc m) (suc n) e =
 
 -- a rule's name is made of bytes that a name has
 pub rule_name_bytes : (number : ℕ) (made : Made) → list_all is_long_name_byte (rule_name_text number made) ≡ true
-rule_name_bytes number (Command c) = ap (list_all is_long_name_byte) (append-nil (number_text number)) ∙ number_bytes number
-rule_name_bytes number Phony = refl
+rule_name_bytes number made = grind (arith, append-nil, number_bytes)
 
 -- such a name is read from plain pieces
 pub name_bytes_plain : (bs : Text) → list_all is_long_name_byte bs ≡ true → name_bytes (map Plain bs) ≡ Some bs
@@ -122,14 +112,11 @@ written_plain (b ∷ bs) = ap (λ later. b ∷ later) (written_plain bs)
 
 -- a byte that a name has is no other byte
 other_byte : (c : ℕ) → is_long_name_byte c ≡ false → (b : ℕ) (same : Bool) → (b == c) ≡ same → is_long_name_byte b ≡ true → same ≡ false
-other_byte c none b true is e = let here = eqb-true b c is in absurd (cc)
-other_byte c none b false is e = refl
+other_byte c none b same is e = grind (arith, eqb-true)
 
 -- so that it stands in a name's text as it is
 long_piece : (b : ℕ) → is_long_name_byte b ≡ true → is_name_piece (Plain b) ≡ true
-long_piece b e =
-    let other = λ (c : ℕ) (none : is_long_name_byte c ≡ false). other_byte c none b (b == c) refl e in
-    rw (other 36 refl, other 32 refl, other 58 refl, other 124 refl, other 13 refl, other 10 refl, other 0 refl) refl
+long_piece b e = search (rules, other_byte)
 
 -- and so does the whole name
 pub plain_pieces : (bs : Text) → list_all is_long_name_byte bs ≡ true → list_all is_name_piece (map Plain bs) ≡ true
@@ -148,17 +135,11 @@ command_pieces (b ∷ bs) = piece_by (b == 32 || b == 36) b ∷ pieces_by is_spe
 -- the first byte of a command
 first_written : (b : ℕ) (space dollar : Bool) → (b == 32) ≡ space → (b == 36) ≡ dollar
     → piece_written (piece_by (space || dollar) b) ≡ (if space then codes "$" else []) ++ (if dollar then codes "$" ++ b ∷ [] else b ∷ [])
-first_written b true true s d = absurd (omega (arith, eqb-true b 32 s, eqb-true b 36 d))
-first_written b true false s d = refl
-first_written b false true s d = refl
-first_written b false false s d = refl
+first_written b space dollar s d = grind (arith, eqb-true)
 
 -- a command, written, is its text
 pub command_written : (c : Text) → written (command_pieces c) ≡ command_text c
-command_written [] = refl
-command_written (b ∷ bs) =
-    ap₂ (λ one later. one ++ later) (first_written b (b == 32) (b == 36) refl refl) (written_by is_special_in_command bs)
-    ∙ append_assoc (lead_text (b ∷ bs)) _ _
+command_written c = grind (arith, ap₂, first_written, written_by, append_assoc)
 
 -- it stands for the command
 pub command_expanded : (value_of : Text → Text) (c : Text) → expanded value_of (command_pieces c) ≡ c
@@ -169,27 +150,20 @@ command_expanded value_of (b ∷ bs) =
 
 -- each byte of a command is printed
 command_piece : (b : ℕ) (special : Bool) → (b == 36) ≡ special → is_command_byte b ≡ true → is_printed (piece_by special b) ≡ true
-command_piece b true is byte = or_left (b == 36) _ is
-command_piece b false is byte = and_from (not (b == 36)) (is_command_byte b) (ap not is) byte
+command_piece b special is byte = grind (arith, or_left, and_from, not)
 
 -- the first one too
 first_piece : (b : ℕ) (space dollar : Bool) → (b == 32) ≡ space → (b == 36) ≡ dollar → is_command_byte b ≡ true
     → is_printed (piece_by (space || dollar) b) ≡ true
-first_piece b true dollar s d byte = or_right (b == 36) _ (or_left (b == 32) _ s)
-first_piece b false dollar s d byte = command_piece b dollar d byte
+first_piece b space dollar s d byte = grind (arith, or_right, or_left, command_piece)
 
 -- and so is the whole command
 pub command_printed : (c : Text) → list_all is_command_byte c ≡ true → list_all is_printed (command_pieces c) ≡ true
-command_printed [] e = refl
-command_printed (b ∷ bs) e =
-    let both = and_parts (is_command_byte b) (list_all is_command_byte bs) e in
-    and_from _ _ (first_piece b (b == 32) (b == 36) refl refl both.0)
-    (by_passes is_printed is_special_in_command is_command_byte (λ x. command_piece x (x == 36) refl) bs both.1)
+command_printed c e = grind (arith, and_parts, and_from, first_piece, by_passes, is_printed, command_piece)
 
 -- a byte is no variable
 unnamed : (test : Text → Bool) (special : Bool) (b : ℕ) → names_one test (piece_by special b) ≡ false
-unnamed test true b = refl
-unnamed test false b = refl
+unnamed test special b = grind arith
 
 -- no byte of an escaped text is
 by_unnamed : (test : Text → Bool) (special : ℕ → Bool) (bs : Text) → refers_to test (pieces_by special bs) ≡ false

@@ -1,6 +1,6 @@
 -- The lines of a printed plan, each read as what it was printed for.
-use Rattle.std.proofs.Common.{◌≡◌, ◌∙◌, ℕ, ◌+◌, List, [], ◌∷◌, ◌++◌, refl, ap, map, true, false, not, ◌==◌, ◌||◌, Option, Some, None, option_map, is_none, codes, if◌then◌else◌}
-use Rattle.kt_ninja_reader.proofs.Common.{list_all, option_and_then, bytes_eq, and_from, and_parts, Made, Command, Phony, Statement, JoinedLine, Text, is_comment, Plain, pieces, Binding, Build, Form, Pieces, binding_of, build_form, build_of, default_form, defaults_of, form_of, rule_form, rule_of, ScopeTable, find_in, put_in, value_in, value_within, Making, State, PendingStatement, add_defaults, add_statement, are_new, block_from, block_of, block_scope, is_file_byte, is_sound, making_of, outs_of, paths_in, read_build, read_default, read_form, read_head, read_part, read_rule, rule_command, pending_with, is_special_in_name, rule_name_text, is_among, is_command, is_command_byte, is_empty, is_name}
+use Rattle.std.proofs.Common.{arith, rules, ◌≡◌, ◌∙◌, ℕ, ◌+◌, List, [], ◌∷◌, ◌++◌, refl, ap, map, true, false, not, Option, Some, None, option_map, is_none, codes, if◌then◌else◌}
+use Rattle.kt_ninja_reader.proofs.Common.{list_all, option_and_then, and_from, and_parts, Made, Command, Statement, JoinedLine, Text, is_comment, Plain, pieces, Binding, Build, Form, Pieces, build_form, build_of, default_form, defaults_of, form_of, rule_form, rule_of, ScopeTable, find_in, put_in, value_in, value_within, Making, State, PendingStatement, add_defaults, add_statement, are_new, block_from, block_of, block_scope, is_file_byte, is_sound, making_of, outs_of, paths_in, read_build, read_default, read_form, read_head, read_part, read_rule, rule_command, pending_with, is_special_in_name, rule_name_text, is_among, is_command, is_command_byte, is_empty, is_name}
 use Rattle.kt_ninja_reader.proofs.PrintedPieces.{all_implies, command_bytes, expanded_by, is_printed, neither, pieces_from_written, written}
 use Rattle.kt_ninja_reader.proofs.PrintedNames.{command_alone, command_pieces, is_word, name_bytes_plain, name_pieces, names_are_words, plain_pieces, rule_name_bytes}
 use Rattle.kt_ninja_reader.proofs.PrintedForms.{after_build, after_colon, binding_printed, build_printed, built, defaults_printed, inputs_are, rule_printed, spaced}
@@ -10,10 +10,7 @@ use Rattle.kt_ninja_reader.proofs.PrintedLines.{Named, build_line, build_line_pr
 
 -- a byte of a command can stand in a file
 file_byte : (b : ℕ) → is_command_byte b ≡ true → is_file_byte b ≡ true
-file_byte b e =
-    let one = neither (b == 13) (b == 10 || b == 0) e in
-    let two = neither (b == 10) (b == 0) (ap not one.1) in
-    rw (one.0, two.1) refl
+file_byte b e = grind (arith, neither, not)
 
 -- a printed line is sound
 sound : (number : ℕ) (ps : Pieces) → list_all is_printed ps ≡ true → is_sound (line number ps) ≡ true
@@ -31,15 +28,11 @@ bound c = record { key = codes "command"; value = command_pieces c }
 -- the rule's block
 block_printed : (number : ℕ) (c : Text) → list_all is_command_byte c ≡ true → block_of (line number (command_line c) ∷ []) ≡ Some (bound c ∷ [])
 unfolding block_from is_comment
-block_printed number c e =
-    let whole = pieces_written (command_line c) (command_line_printed c e) in
-    ap (λ o. option_and_then (λ (b : Binding). option_map (λ bs. b ∷ bs) (Some [])) (option_and_then binding_of o)) whole
-    ∙ ap (option_and_then (λ (b : Binding). option_map (λ bs. b ∷ bs) (Some []))) (binding_printed c)
+block_printed number c e = search (rules, pieces_written, command_line, command_line_printed, binding_printed)
 
 -- a rule's name is one word
 rule_is_word : (number : ℕ) (made : Made) → is_word (map Plain (rule_name_text number made)) ≡ true
-rule_is_word number (Command c) = plain_pieces (rule_name_text number (Command c)) (rule_name_bytes number (Command c))
-rule_is_word number Phony = refl
+rule_is_word number made = grind (arith, plain_pieces, rule_name_bytes)
 
 -- the form of a rule's line
 rule_line_form : (number : ℕ) (c : Text) → form_of (written (rule_line (rule_name_text number (Command c)))) ≡ Some (rule_form (rule_name_text number (Command c)))
@@ -80,9 +73,7 @@ build_form_is number made (o ∷ os) ins is order some a b c d e =
 build_line_form : (number : ℕ) (made : Made) (s : Statement) → not (is_empty s.outs) ≡ true → Named s
     → form_of (written (build_line (rule_name_text number made) s))
     ≡ Some (build_form (build_of_names (rule_name_text number made) s.outs s.inputs s.implicit s.order_only))
-build_line_form number made s some named =
-    build_form_is number made s.outs s.inputs s.implicit s.order_only some named.outs named.inputs named.implicit named.order_only
-    (build_line_printed number made s named)
+build_line_form number made s some named = grind (arith, build_form_is, build_line_printed)
 
 -- the form of the line of default targets
 default_line_form : (n : Text) (ns : List Text) → list_all is_name (n ∷ ns) ≡ true
@@ -112,8 +103,7 @@ state_with table so_far = record { file = []; rules = table; pending = so_far; d
 -- the command of the rule's block
 command_is : (c : Text) → is_command c ≡ true → rule_command (bound c ∷ []) ≡ Some (command_pieces c)
 command_is [] e = absurd (cc e)
-command_is (b ∷ bs) e =
-    ap (λ t. if not t then Some (command_pieces (b ∷ bs)) else None) (command_alone (bytes_eq (codes "command")) (b ∷ bs))
+command_is (b ∷ bs) e = search (rules, not, command_pieces, command_alone, codes)
 
 -- a rule is read
 pub rule_read : (number at : ℕ) (c : Text) (table : ScopeTable Pieces) (so_far : List PendingStatement) → is_command c ≡ true
@@ -133,8 +123,7 @@ rule_read number at c table so_far can fresh =
 
 -- no name is empty
 some_name : (n : Text) → is_name n ≡ true → is_empty n ≡ false
-some_name [] e = absurd (cc e)
-some_name (b ∷ bs) e = refl
+some_name n e = grind arith
 
 -- names are read as they were
 paths_read : (value_of : Text → Text) (names : List Text) → list_all is_name names ≡ true → paths_in value_of (map name_pieces names) ≡ Some names
@@ -160,12 +149,7 @@ pending_of making a b c d =
 -- and so is the statement
 pending_is : (value_of : Text → Text) (making : Making) (rule : Text) (s : Statement) → Named s
     → pending_with value_of making (build_of_names rule s.outs s.inputs s.implicit s.order_only) ≡ Some (pending_as making s)
-pending_is value_of making rule s named =
-    let read = λ (names : List Text). paths_in value_of (map name_pieces names) in
-    ap (λ o. pending_of making o (read s.inputs) (read s.implicit) (read s.order_only)) (paths_read value_of s.outs named.outs)
-    ∙ ap (λ o. pending_of making (Some s.outs) o (read s.implicit) (read s.order_only)) (paths_read value_of s.inputs named.inputs)
-    ∙ ap (λ o. pending_of making (Some s.outs) (Some s.inputs) o (read s.order_only)) (paths_read value_of s.implicit named.implicit)
-    ∙ ap (λ o. pending_of making (Some s.outs) (Some s.inputs) (Some s.implicit) o) (paths_read value_of s.order_only named.order_only)
+pending_is value_of making rule s named = grind (arith, name_pieces, paths_read)
 
 -- a build line is read
 pub build_read : (number at : ℕ) (made : Made) (making : Making) (s : Statement) (table : ScopeTable Pieces) (so_far : List PendingStatement)

@@ -1,5 +1,5 @@
 -- Texts as the printer writes them: each piece as its own bytes.
-use Rattle.std.proofs.Common.{◌≡◌, ◌∙◌, ℕ, List, [], ◌∷◌, ◌++◌, refl, sym, ap₂, subst, map, eqb-true, Bool, true, false, not, ◌==◌, ◌&&◌, ◌||◌, Some, codes, if◌then◌else◌}
+use Rattle.std.proofs.Common.{arith, ◌≡◌, ◌∙◌, ℕ, List, [], ◌∷◌, ◌++◌, refl, sym, ap₂, subst, map, eqb-true, Bool, true, false, not, ◌==◌, ◌&&◌, ◌||◌, Some, codes, if◌then◌else◌}
 use Rattle.kt_ninja_reader.proofs.Common.{list_all, flat_map, and_from, and_parts, not-true, list_all-append, flat_map-append, escaped, Text, ends_in_dollar, Piece, Plain, Escaped, Variable, is_escapable, outside, pieces_from, Pieces, expanded, piece_text, is_command_byte}
 
 -- what the printer writes for a piece; it writes no variables
@@ -21,9 +21,7 @@ is_printed (Variable name) = false
 
 -- neither part of a disjunction that is false holds
 pub neither : (a b : Bool) → not (a || b) ≡ true → (a ≡ false) × (b ≡ false)
-neither true b e = absurd (cc e)
-neither false true e = absurd (cc e)
-neither false false e = (refl, refl)
+neither a b e = grind arith
 
 -- the pieces of a written text are these
 pub pieces_from_written : (ps : Pieces) → list_all is_printed ps ≡ true → pieces_from outside (written ps) ≡ Some ps
@@ -102,8 +100,7 @@ pieces_by test bytes = map (λ b. piece_by (test b) b) bytes
 
 -- one byte of an escaped text
 one_written : (special : Bool) (b : ℕ) → piece_written (piece_by special b) ≡ (if special then codes "$" ++ b ∷ [] else b ∷ [])
-one_written true b = refl
-one_written false b = refl
+one_written special b = grind arith
 
 -- the pieces of an escaped text, written, are that text
 pub written_by : (test : ℕ → Bool) (bytes : Text) → written (pieces_by test bytes) ≡ escaped test bytes
@@ -112,8 +109,7 @@ written_by test (b ∷ bs) = ap₂ (λ one later. one ++ later) (one_written (te
 
 -- one byte of it stands for itself
 pub one_expanded : (value_of : Text → Text) (special : Bool) (b : ℕ) → piece_text value_of (piece_by special b) ≡ b ∷ []
-one_expanded value_of true b = refl
-one_expanded value_of false b = refl
+one_expanded value_of special b = grind arith
 
 -- they stand for the bytes without escapes
 pub expanded_by : (value_of : Text → Text) (test : ℕ → Bool) (bytes : Text) → expanded value_of (pieces_by test bytes) ≡ bytes

@@ -1,8 +1,8 @@
 -- The parts of a file, one after another.
-use Rattle.std.proofs.Common.{◌≡◌, ◌≤◌, ◌+◌, ◌-◌, ℕ, suc, Bool, true, false, not, List, [], ◌∷◌, ◌++◌, refl, sym, ◌∙◌, ap, append_assoc, append-nil, subst, length, take, drop, map, arith, Option, Some, None, option_map, Result, Ok, Err, MatchResult, ⊎_elim}
-use Rattle.kt_ninja_reader.proofs.Common.{cases_Bool, drop-drop, length-drop, map_push, prefix_len, Plan, Fault, NoReading, Memory, JoinedLine, Text, is_blank, is_comment, Binding, FilePart, State, all_parts, and_then_parts, begins_part, block_from, cut_lines, ninja_read, nothing_read, read_part, read_parts, plan_text, IsWritable}
+use Rattle.std.proofs.Common.{◌≡◌, ◌≤◌, ◌+◌, ◌-◌, ℕ, suc, Bool, true, false, not, List, [], ◌∷◌, ◌++◌, refl, sym, ◌∙◌, ap, append_assoc, append-nil, subst, length, take, drop, map, arith, Option, Some, option_map, Result, Ok, MatchResult, ⊎_elim}
+use Rattle.kt_ninja_reader.proofs.Common.{cases_Bool, drop-drop, length-drop, map_push, prefix_len, Plan, Fault, NoReading, JoinedLine, Text, is_blank, is_comment, Binding, FilePart, State, all_parts, and_then_parts, begins_part, block_from, cut_lines, ninja_read, nothing_read, read_part, read_parts, plan_text, IsWritable}
 use Rattle.kt_ninja_reader.specs.declared.read_fault.ReadFault.{ReadFault}
-use Rattle.kt_ninja_reader.specs.declared.read_fault.ReadFault.TheVariants.{NotNinja, Memory as MemoryRefused}
+use Rattle.kt_ninja_reader.specs.declared.read_fault.ReadFault.TheVariants.{Memory as MemoryRefused}
 use Rattle.kt_ninja_reader.specs.Reading.{Adds, Misreads, StopsBlock, fault_at, line_binding, part_before, part_of}
 use Rattle.kt_ninja_reader.specs.inner.Refusals.{LacksReading}
 use Rattle.kt_ninja_reader.proofs.PrintThenRead.{printed_is_read}
@@ -11,8 +11,7 @@ use Rattle.kt_ninja_reader.proofs.PrintThenRead.{printed_is_read}
 
 in_front : (front : List Binding) (b : Binding) (later : Option (List Binding))
     → option_map (λ more. front ++ more) (option_map (λ more. b ∷ more) later) ≡ option_map (λ more. (front ++ b ∷ []) ++ more) later
-in_front front b None = refl
-in_front front b (Some bs) = ap Some (sym (append_assoc front (b ∷ []) bs))
+in_front front b later = grind (arith, append_assoc)
 
 pub comment_adds : (closed : Bool) (old : List Binding) (line : JoinedLine) → is_comment line.text ≡ true → Adds closed old line closed old
 unfolding block_from
@@ -34,13 +33,11 @@ closed_stops closed line h i shut rest = rw (h, i, shut) refl
 pub binding_stops : (closed : Bool) (line : JoinedLine) → is_comment line.text ≡ false → is_blank line.text ≡ false → closed ≡ false
     → (fault : Fault) → LacksReading (line_binding line.text) fault → StopsBlock closed line fault
 unfolding block_from
-binding_stops closed line h i shut NoReading none = λ rest. rw (h, i, shut, none) refl
-binding_stops closed line h i shut Memory refused = tt
+binding_stops closed line h i shut fault none = grind arith
 
 pub stops_all : (closed : Bool) (line : JoinedLine) (front : List Binding) (rest : List JoinedLine) (whole : Option (List Binding))
     → option_map (λ more. front ++ more) (block_from closed (line ∷ rest)) ≡ whole → (fault : Fault) → StopsBlock closed line fault → LacksReading whole fault
-stops_all closed line front rest whole so_far NoReading stops = sym so_far ∙ ap (option_map (λ more. front ++ more)) (stops rest)
-stops_all closed line front rest whole so_far Memory stops = tt
+stops_all closed line front rest whole so_far fault stops = grind arith
 
 pub block_over : (closed : Bool) (front : List Binding) → option_map (λ more. front ++ more) (block_from closed []) ≡ Some front
 unfolding block_from
@@ -70,50 +67,29 @@ cut_more l ls h = rw h refl
 pub before_is : (lines : List JoinedLine) → (cut_lines lines).before ≡ take (length_before lines) lines
 unfolding cut_lines
 before_is [] = refl
-before_is (l ∷ ls) =
-    ⊎_elim
-    (λ h. ap (λ c. c.before) (cut_begun l ls h) ∙ ap (λ n. take n (l ∷ ls)) (sym (length_begun l ls h)))
-    (λ h. ap (λ c. c.before) (cut_more l ls h) ∙ ap (λ k. l ∷ k) (before_is ls) ∙ ap (λ n. take n (l ∷ ls)) (sym (length_more l ls h)))
-    (cases_Bool (begins_part l.text))
+before_is (l ∷ ls) = grind (arith, ⊎_elim, cut_begun, take, length_begun, cut_more, length_more, cases_Bool, before_is ls)
 
 -- the parts are those of the lines after them
 pub parts_are : (lines : List JoinedLine) → (cut_lines lines).parts ≡ (cut_lines (drop (length_before lines) lines)).parts
 unfolding cut_lines
 parts_are [] = refl
-parts_are (l ∷ ls) =
-    ⊎_elim
-    (λ h. ap (λ n. (cut_lines (drop n (l ∷ ls))).parts) (sym (length_begun l ls h)))
-    (λ h. ap (λ c. c.parts) (cut_more l ls h) ∙ parts_are ls ∙ ap (λ n. (cut_lines (drop n (l ∷ ls))).parts) (sym (length_more l ls h)))
-    (cases_Bool (begins_part l.text))
+parts_are (l ∷ ls) = grind (arith, ⊎_elim, length_begun, cut_more, length_more, cases_Bool, parts_are ls)
 
 -- before which there are none
 pub none_before : (lines : List JoinedLine) → (cut_lines (drop (length_before lines) lines)).before ≡ []
 unfolding cut_lines
 none_before [] = refl
-none_before (l ∷ ls) =
-    ⊎_elim
-    (λ h. ap (λ n. (cut_lines (drop n (l ∷ ls))).before) (length_begun l ls h) ∙ ap (λ c. c.before) (cut_begun l ls h))
-    (λ h. ap (λ n. (cut_lines (drop n (l ∷ ls))).before) (length_more l ls h) ∙ none_before ls)
-    (cases_Bool (begins_part l.text))
+none_before (l ∷ ls) = grind (arith, ⊎_elim, length_begun, cut_begun, length_more, cases_Bool, none_before ls)
 
 first_part : (head : JoinedLine) (after : List JoinedLine) → (cut_lines (head ∷ after)).before ≡ []
     → (cut_lines (head ∷ after)).parts ≡ part_of head (cut_lines after).before ∷ (cut_lines after).parts
-first_part head after none =
-    ⊎_elim
-    (λ h. ap (λ c. c.parts) (cut_begun head after h))
-    (λ h. let some : head ∷ (cut_lines after).before ≡ [] = sym (ap (λ c. c.before) (cut_more head after h)) ∙ none in absurd (cc some))
-    (cases_Bool (begins_part head.text))
+first_part head after none = grind (arith, ⊎_elim, cut_begun, cut_more, cases_Bool)
 
 -- the part that the first line begins, and those after it
 pub parts_cut : (head : JoinedLine) (after rest body later : List JoinedLine) → rest ≡ head ∷ after → (cut_lines rest).before ≡ []
     → body ≡ take (length_before after) after → later ≡ drop (length_before after) after
     → (cut_lines rest).parts ≡ part_of head body ∷ (cut_lines later).parts
-parts_cut head after rest body later is none front back =
-    let whole : (cut_lines (head ∷ after)).before ≡ [] = ap (λ l. (cut_lines l).before) (sym is) ∙ none in
-    ap (λ l. (cut_lines l).parts) is
-    ∙ first_part head after whole
-    ∙ ap (λ b. part_of head b ∷ (cut_lines after).parts) (before_is after ∙ sym front)
-    ∙ ap (λ ps. part_of head body ∷ ps) (parts_are after ∙ ap (λ l. (cut_lines l).parts) (sym back))
+parts_cut head after rest body later is none front back = grind (arith, first_part, before_is, parts_are)
 
 pub left_after : (head : JoinedLine) (after lines : List JoinedLine) (from n : ℕ) → drop from lines ≡ head ∷ after → drop (from + 1 + n) lines ≡ drop n after
 left_after head after lines from n is =
@@ -137,16 +113,12 @@ nothing_before = refl
 pub begin_by : (before : List JoinedLine) (parts : List FilePart)
     → read_parts nothing_read (all_parts (record { before = before; parts = parts })) ≡ and_then_parts 1 (read_part nothing_read (part_before before)) (λ s. read_parts s parts)
 unfolding read_parts
-begin_by [] parts = ap (λ o. and_then_parts 1 o (λ s. read_parts s parts)) (sym nothing_before)
-begin_by (l ∷ ls) parts = refl
+begin_by before parts = grind (arith, nothing_before)
 
 -- the lines before the first part, and the parts
 pub parts_begin : (lines before later : List JoinedLine) → before ≡ take (length_before lines) lines → later ≡ drop (length_before lines) lines
     → read_parts nothing_read (all_parts (cut_lines lines)) ≡ and_then_parts 1 (read_part nothing_read (part_before before)) (λ s. read_parts s (cut_lines later).parts)
-parts_begin lines before later front back =
-    begin_by (cut_lines lines).before (cut_lines lines).parts
-    ∙ ap (λ b. and_then_parts 1 (read_part nothing_read (part_before b)) (λ s. read_parts s (cut_lines lines).parts)) (before_is lines ∙ sym front)
-    ∙ ap (λ ps. and_then_parts 1 (read_part nothing_read (part_before before)) (λ s. read_parts s ps)) (parts_are lines ∙ ap (λ l. (cut_lines l).parts) (sym back))
+parts_begin lines before later front back = grind (arith, begin_by, before_is, parts_are)
 
 pub parts_end : (state : State) → read_parts state (cut_lines []).parts ≡ Ok state
 unfolding read_parts cut_lines
@@ -159,8 +131,7 @@ part_taken number found next rest whole h i = sym (h ∙ ap (λ o. and_then_part
 
 pub part_refused : (number : ℕ) (found : Option State) (rest : State → Result State ℕ) (whole : Result State ℕ) → whole ≡ and_then_parts number found rest
     → (fault : Fault) → LacksReading found fault → Misreads whole (fault_at number fault)
-part_refused number found rest whole h NoReading none = h ∙ ap (λ o. and_then_parts number o rest) none
-part_refused number found rest whole h Memory refused = tt
+part_refused number found rest whole h fault none = grind arith
 
 pub parts_carried : (old new : Result State ℕ) (r : Result State ReadFault) → old ≡ new → MatchResult r (λ s. old ≡ Ok s) (Misreads old)
     → MatchResult r (λ s. new ≡ Ok s) (Misreads new)
@@ -177,8 +148,4 @@ told_more f xs all x h = ap (map f) h ∙ map_push f xs x
 
 pub copy : (r : Result Plan ReadFault) (text : Text) → MatchResult r (λ plan. ninja_read text ≡ Ok plan) (Misreads (ninja_read text))
     → (plan : Plan) → IsWritable plan → text ≡ plan_text plan → MatchResult r (λ read. read ≡ plan) (λ fault. fault ≡ MemoryRefused)
-copy (Ok read) text h plan writable is =
-    let both : Ok read ≡ Ok plan = sym h ∙ ap ninja_read is ∙ printed_is_read plan writable in cc both
-copy (Err (NotNinja number)) text h plan writable is =
-    let both : Err number ≡ Ok plan = sym h ∙ ap ninja_read is ∙ printed_is_read plan writable in absurd (cc both)
-copy (Err MemoryRefused) text h plan writable is = refl
+copy r text h plan writable is = grind (arith, printed_is_read)

@@ -1,5 +1,5 @@
 -- Shell words, path by path.
-use Rattle.std.proofs.Common.{◌≡◌, ℕ, Bool, ◌||◌, List, [], ◌∷◌, ◌++◌, refl, sym, ◌∙◌, ap, append_assoc, append-nil, map}
+use Rattle.std.proofs.Common.{arith, ◌≡◌, ℕ, Bool, ◌||◌, List, [], ◌∷◌, ◌++◌, refl, sym, ap, append_assoc, append-nil, map}
 use Rattle.kt_ninja_reader.proofs.Common.{Bor, flat_map, join_with_byte, list_any, Text, Piece, Plain, expanded, piece_text, shell_word, shell_words}
 use Rattle.kt_ninja_reader.proofs.SpelledParts.{expanded_after}
 
@@ -20,8 +20,7 @@ shell_words-none between = refl
 -- a word and the words after it, put one after the other
 pub words_put : (text first last : Text) (between : ℕ) (path : Text) (paths all : List Text) → all ≡ path ∷ paths → first ≡ text ++ shell_word path
     → last ≡ first ++ flat_map (λ q. between ∷ shell_word q) paths → last ≡ text ++ shell_words between all
-words_put text first last between path paths all is one more =
-    more ∙ rw one (append_assoc text (shell_word path) (flat_map (λ q. between ∷ shell_word q) paths)) ∙ ap (λ l. text ++ l) (sym (shell_words-first between path paths)) ∙ ap (λ l. text ++ shell_words between l) (sym is)
+words_put text first last between path paths all is one more = grind (arith, append_assoc, shell_words-first)
 
 -- what a spelling stands for, run by run
 expanded_one : (value_of : Text → Text) (p : Piece) (ps : List Piece) → expanded value_of (p ∷ ps) ≡ piece_text value_of p ++ expanded value_of ps
@@ -34,20 +33,11 @@ expanded_none value_of = refl
 
 pub expanded_run : (value_of : Text → Text) (text more now plain : Text) (p : Piece) (after rest whole : List Piece) → rest ≡ map Plain plain ++ p ∷ after → more ≡ text ++ plain
     → now ≡ more ++ piece_text value_of p → text ++ expanded value_of rest ≡ expanded value_of whole → now ++ expanded value_of after ≡ expanded value_of whole
-expanded_run value_of text more now plain p after rest whole is one two h =
-    let out : expanded value_of rest ≡ plain ++ (piece_text value_of p ++ expanded value_of after) =
-    ap (expanded value_of) is ∙ expanded_after value_of plain (p ∷ after) ∙ ap (λ l. plain ++ l) (expanded_one value_of p after) in
-    ap (λ l. l ++ expanded value_of after) (two ∙ ap (λ l. l ++ piece_text value_of p) one)
-    ∙ append_assoc (text ++ plain) (piece_text value_of p) (expanded value_of after)
-    ∙ append_assoc text plain (piece_text value_of p ++ expanded value_of after)
-    ∙ ap (λ l. text ++ l) (sym out) ∙ h
+expanded_run value_of text more now plain p after rest whole is one two h = grind (arith, expanded_after, expanded_one, append_assoc)
 
 pub expanded_end : (value_of : Text → Text) (text more plain : Text) (after rest whole : List Piece) → rest ≡ map Plain plain ++ after → after ≡ [] → more ≡ text ++ plain
     → text ++ expanded value_of rest ≡ expanded value_of whole → more ≡ expanded value_of whole
-expanded_end value_of text more plain after rest whole is end one h =
-    let out : expanded value_of rest ≡ plain =
-    ap (expanded value_of) (is ∙ ap (λ l. map Plain plain ++ l) end) ∙ expanded_after value_of plain [] ∙ ap (λ l. plain ++ l) (expanded_none value_of) ∙ append-nil plain in
-    one ∙ ap (λ l. text ++ l) (sym out) ∙ h
+expanded_end value_of text more plain after rest whole is end one h = grind (arith, expanded_after, expanded_none, append-nil)
 
 -- a test of borrowed names is one of what they hold
 pub any_now : (test : Text → Bool) (names : List (Bor Text)) → list_any (λ name. test name.now) names ≡ list_any test (map (λ name. name.now) names)

@@ -1,17 +1,13 @@
 -- Spellings, byte by byte: what a text's bytes end, and where it can be cut.
-use Rattle.std.proofs.Common.{◌≡◌, ◌≢◌, ℕ, suc, ◌+◌, ◌-◌, ◌≤◌, Bool, true, false, ◌==◌, ◌&&◌, not, List, [], ◌∷◌, ◌++◌, refl, sym, ◌∙◌, ap, append_assoc, append-nil, map, length, length-append, take, drop, arith, Option, Some, None, option_map, unwrap_or, is_some, IfSome, ⊎_elim}
-use Rattle.kt_ninja_reader.proofs.Common.{cases_Bool, false≢true, false_from_ne_true, eqb-true, eq-eqb, option_and_then, position_or_len_is, list_any, position_or_len, IsFirstByte, is_byte2, Cut, Text, Piece, Plain, Variable, Where, PieceStep, after_dollar, in_braces, in_name, is_escapable, is_long_name_byte, is_short_name_byte, last_pieces, outside, pieces, pieces_from, step, is_plain, is_empty}
+use Rattle.std.proofs.Common.{◌≡◌, ◌≢◌, ℕ, suc, ◌+◌, ◌-◌, Bool, true, false, ◌==◌, ◌&&◌, not, List, [], ◌∷◌, ◌++◌, refl, sym, ◌∙◌, ap, append_assoc, append-nil, map, length, length-append, take, drop, arith, Option, Some, None, option_map, unwrap_or, is_some, IfSome, ⊎_elim}
+use Rattle.kt_ninja_reader.proofs.Common.{cases_Bool, false≢true, false_from_ne_true, eqb-true, eq-eqb, position_or_len_is, list_any, position_or_len, IsFirstByte, is_byte2, Cut, Text, Piece, Plain, Variable, Where, PieceStep, after_dollar, in_braces, in_name, is_long_name_byte, is_short_name_byte, last_pieces, outside, pieces, pieces_from, step, is_plain}
 use Rattle.kt_ninja_reader.specs.inner.Spelled.{is_spelled, pieces_in}
 use Rattle.kt_ninja_reader.specs.inner.Cutting.{AreSides, CutsOff, dollar_piece, is_mark, stops_at}
 use Rattle.kt_ninja_reader.proofs.PieceLemmas.{map_twice, none_before, outside-dollar, outside-plain}
 
 -- what is spelled has pieces
 pub spelled_some : (text : Text) → is_spelled text ≡ true → pieces text ≡ Some (pieces_in text)
-spelled_some text h = by (pieces text) h
-  where
-    by : (found : Option (List Piece)) → is_some found ≡ true → found ≡ Some (unwrap_or found [])
-    by None e = absurd (false≢true e)
-    by (Some ps) e = refl
+spelled_some text h = grind (arith, false≢true)
 
 pub spelled_by : (text : Text) (ps : List Piece) → pieces text ≡ Some ps → (is_spelled text ≡ true) × (pieces_in text ≡ ps)
 spelled_by text ps h = (ap is_some h, ap (λ found. unwrap_or found []) h)
@@ -28,9 +24,7 @@ pub over_none : (from : Where) → Over from [] [] from
 over_none from = record { reads = λ t. sym (none_before (pieces_from from t)) }
 
 pub over_both : (from mid to : Where) (f g : Text) (d e : List Piece) → Over from f d mid → Over mid g e to → Over from (f ++ g) (d ++ e) to
-over_both from mid to f g d e one two = record {
-  reads = λ t. ap (pieces_from from) (append_assoc f g t) ∙ one.reads (g ++ t) ∙ ap (option_map (λ later. d ++ later)) (two.reads t) ∙ map_twice d e (pieces_from to t);
-}
+over_both from mid to f g d e one two = grind (arith, append_assoc, map_twice)
 
 pub over_step : (from : Where) (b : ℕ) (s : PieceStep) → step from b ≡ Some s → Over from (b ∷ []) s.done s.next
 unfolding pieces_from
@@ -38,11 +32,7 @@ over_step from b s h = record { reads = λ t. rw h refl }
 
 step_is : (from : Where) (b : ℕ) (bs : Text) → is_some (pieces_from from (b ∷ bs)) ≡ true → (s : PieceStep) × (step from b ≡ Some s)
 unfolding pieces_from
-step_is from b bs h = by (step from b) h
-  where
-    by : (found : Option PieceStep) → is_some (option_and_then (λ s. option_map (λ later. s.done ++ later) (pieces_from s.next bs)) found) ≡ true → (s : PieceStep) × (found ≡ Some s)
-    by None e = absurd (false≢true e)
-    by (Some s) e = (s, refl)
+step_is from b bs h = grind (arith, false≢true)
 
 -- not directly after a dollar
 abbrev pub is_ready : Where → Bool
@@ -59,11 +49,7 @@ plain_step : (mark : ℕ) (from : Where) (b : ℕ) → is_ready from ≡ true �
 plain_step mark outside b ready h m = rw h (refl, rw m refl)
 plain_step mark after_dollar b ready h m = absurd (false≢true ready)
 plain_step mark (in_name name) b ready h m = ⊎_elim (λ d. rw d (refl, refl)) (λ d. rw d (rw h (refl, rw m refl))) (cases_Bool (is_short_name_byte b))
-plain_step mark (in_braces name) b ready h m =
-    ⊎_elim
-    (λ d. rw d (⊎_elim (λ e. rw e tt) (λ e. rw e (refl, refl)) (cases_Bool (is_empty name))))
-    (λ d. rw d (⊎_elim (λ e. rw e (refl, refl)) (λ e. rw e tt) (cases_Bool (is_long_name_byte b))))
-    (cases_Bool (b == 125))
+plain_step mark (in_braces name) b ready h m = grind (arith, ⊎_elim, cases_Bool)
 
 -- a dollar
 ready_dollar : (mark : ℕ) (from : Where) → is_ready from ≡ true → IfSome (step from 36) (λ s. (s.next ≡ after_dollar) × (list_any (is_plain mark) s.done ≡ false))
@@ -73,11 +59,7 @@ ready_dollar mark (in_name name) ready = (refl, refl)
 ready_dollar mark (in_braces name) ready = tt
 
 after_step : (mark b : ℕ) → IfSome (step after_dollar b) (Fits mark)
-after_step mark b =
-    ⊎_elim
-    (λ d. rw d (refl, refl))
-    (λ d. rw d (⊎_elim (λ e. rw e (refl, refl)) (λ e. rw e (⊎_elim (λ f. rw f (refl, refl)) (λ f. rw f tt) (cases_Bool (is_short_name_byte b)))) (cases_Bool (b == 123))))
-    (cases_Bool (is_escapable b))
+after_step mark b = grind (arith, ⊎_elim, cases_Bool)
 
 -- bytes without a dollar and without the mark
 pub record Passed (mark : ℕ) (from : Where) (run : Text) : Type 0 where
@@ -108,18 +90,10 @@ pass_one mark from b bs ready h m some =
 
 -- the pieces after what was passed are there too
 pub some_after : (from to : Where) (run t : Text) (done : List Piece) → Over from run done to → is_some (pieces_from from (run ++ t)) ≡ true → is_some (pieces_from to t) ≡ true
-some_after from to run t done over some = kept (pieces_from to t) (ap is_some (sym (over.reads t)) ∙ some)
-  where
-    kept : (found : Option (List Piece)) → is_some (option_map (λ later. done ++ later) found) ≡ true → is_some found ≡ true
-    kept None e = e
-    kept (Some ps) e = refl
+some_after from to run t done over some = grind arith
 
 neither : (mark b : ℕ) → is_byte2 36 mark b ≡ false → ((b == 36) ≡ false) × ((b == mark) ≡ false)
-neither mark b h =
-    ⊎_elim
-    (λ d. absurd (false≢true (sym h ∙ rw d refl)))
-    (λ d. (d, (let same : is_byte2 36 mark b ≡ (b == mark) = rw d refl in sym same ∙ h)))
-    (cases_Bool (b == 36))
+neither mark b h = grind (arith, ⊎_elim, false≢true, cases_Bool)
 
 free_first : (test : ℕ → Bool) (b : ℕ) (bs : Text) → list_any test (b ∷ bs) ≡ false → (test b ≡ false) × (list_any test bs ≡ false)
 free_first test b bs h = ⊎_elim (λ d. absurd (false≢true (sym h ∙ rw d refl))) (λ d. (d, rw d at h)) (cases_Bool (test b))
@@ -177,14 +151,11 @@ found_stops test (b ∷ bs) =
 pub place_found : (test : ℕ → Bool) (text : Text) (found : Option ℕ) → IsFirstByte test text found → unwrap_or found (length text) ≡ position_or_len test text
 place_found test text None h =
     sym (position_or_len_is test text (length text) 0 (omega arith) (λ k l. false_from_ne_true _ (h k (omega arith) l)) (λ l. absurd (omega arith)))
-place_found test text (Some place) h =
-    let low : place ≤ length text = omega (arith, h.0.high) in
-    sym (position_or_len_is test text place 0 low (λ k l. false_from_ne_true _ (h.0.before k (omega arith) l)) (λ l. h.1))
+place_found test text (Some place) h = grind (arith, length, position_or_len_is, false_from_ne_true)
 
 -- the byte where a run has stopped, where it isn't the mark
 pub stop_dollar : (mark b : ℕ) → is_byte2 36 mark b ≡ true → b ≢ mark → b ≡ 36
-stop_dollar mark b h other =
-    ⊎_elim (λ d. eqb-true _ _ d) (λ d. absurd (let same : is_byte2 36 mark b ≡ (b == mark) = rw d refl in other (eqb-true _ _ (sym same ∙ h)))) (cases_Bool (b == 36))
+stop_dollar mark b h other = grind (arith, ⊎_elim, eqb-true, cases_Bool)
 
 -- where in a text a search for a mark stands: what comes before was passed
 pub record Scanned (mark : ℕ) (text rest : Text) : Type 0 where
@@ -253,10 +224,7 @@ pub record Ended (mark : ℕ) (to : Where) (s : PieceStep) : Type 0 where
   pub next : s.next ≡ outside
 
 three : (a b c : Bool) → (not a && (not b && not c)) ≡ true → (a ≡ false) × (b ≡ false) × (c ≡ false)
-three false false false h = (refl, refl, refl)
-three true b c h = absurd (false≢true h)
-three false true c h = absurd (false≢true h)
-three false false true h = absurd (false≢true h)
+three a b c h = grind (arith, false≢true)
 
 mark_facts : (mark : ℕ) → is_mark mark ≡ true → ((mark == 36) ≡ false) × ((mark == 125) ≡ false) × (is_long_name_byte mark ≡ false)
 mark_facts mark h = three (mark == 36) (mark == 125) (is_long_name_byte mark) h
@@ -342,8 +310,7 @@ plain_run (b ∷ bs) t free =
     ∙ map_twice (Plain b ∷ []) (map Plain bs) (pieces_from outside t)
 
 some_map : (front : List Piece) (found : Option (List Piece)) → is_some (option_map (λ later. front ++ later) found) ≡ is_some found
-some_map front None = refl
-some_map front (Some ps) = refl
+some_map front found = grind arith
 
 is_dollar : (d : ℕ) → is_byte2 36 36 d ≡ true → d ≡ 36
 is_dollar d h = ⊎_elim (λ e. eqb-true _ _ e) (λ e. absurd (let no : is_byte2 36 36 d ≡ false = rw e refl in false≢true (sym no ∙ h))) (cases_Bool (d == 36))
@@ -356,17 +323,14 @@ spelled_end rest run stop whole is free = ap is_spelled whole ∙ ap is_some (pl
 spelled_dollar : (rest run stop after : Text) (d : ℕ) → rest ≡ run ++ stop → stop ≡ d ∷ after → is_byte2 36 36 d ≡ true → list_any (is_byte2 36 36) run ≡ false
     → is_spelled rest ≡ is_some (pieces_from after_dollar after)
 unfolding pieces
-spelled_dollar rest run stop after d whole is dollar free =
-    ap is_spelled whole ∙ ap is_some (plain_run run stop free) ∙ some_map (map Plain run) (pieces_from outside stop)
-    ∙ ap (λ l. is_some (pieces_from outside l)) is ∙ ap is_some (outside-dollar d after (eq-eqb d 36 (is_dollar d dollar)))
+spelled_dollar rest run stop after d whole is dollar free = grind (arith, plain_run, some_map, outside-dollar, eq-eqb, is_dollar)
 
 pub spelled_none : (rest run stop after : Text) (d : ℕ) → rest ≡ run ++ stop → stop ≡ d ∷ after → is_byte2 36 36 d ≡ true → list_any (is_byte2 36 36) run ≡ false
     → pieces_from after_dollar after ≡ None → is_spelled rest ≡ false
 spelled_none rest run stop after d whole is dollar free none = spelled_dollar rest run stop after d whole is dollar free ∙ ap is_some none
 
 some_cons : (p : Piece) (found : Option (List Piece)) → is_some (option_map (λ later. p ∷ later) found) ≡ is_some found
-some_cons p None = refl
-some_cons p (Some ps) = refl
+some_cons p found = grind arith
 
 pub spelled_more : (rest run stop after : Text) (d : ℕ) (cut : Cut) → rest ≡ run ++ stop → stop ≡ d ∷ after → is_byte2 36 36 d ≡ true → list_any (is_byte2 36 36) run ≡ false
     → CutsOff after_dollar after cut → is_spelled rest ≡ is_spelled cut.after.now
@@ -378,10 +342,7 @@ spelled_more rest run stop after d cut whole is dollar free h =
 pub run_read : (text plain stop : Text) → text ≡ plain ++ stop → list_any (is_byte2 36 36) plain ≡ false → is_spelled text ≡ true
     → (is_spelled stop ≡ true) × (pieces_in text ≡ map Plain plain ++ pieces_in stop)
 unfolding pieces
-run_read text plain stop whole free spelled =
-    let cut : pieces text ≡ option_map (λ later. map Plain plain ++ later) (pieces stop) = ap pieces whole ∙ plain_run plain stop free in
-    let left : is_spelled stop ≡ true = sym (some_map (map Plain plain) (pieces stop)) ∙ sym (ap is_some cut) ∙ spelled in
-    (left, ap (λ found. unwrap_or found []) (cut ∙ ap (option_map (λ later. map Plain plain ++ later)) (spelled_some stop left)))
+run_read text plain stop whole free spelled = grind (arith, plain_run, some_map, spelled_some)
 
 pub next_none : (text after : Text) (d : ℕ) → text ≡ d ∷ after → is_byte2 36 36 d ≡ true → is_spelled text ≡ true → pieces_from after_dollar after ≡ None → ⊥
 next_none text after d is dollar spelled none = false≢true (sym (spelled_none text [] text after d refl is dollar refl none) ∙ spelled)
@@ -389,8 +350,4 @@ next_none text after d is dollar spelled none = false≢true (sym (spelled_none 
 pub next_read : (text after : Text) (d : ℕ) (cut : Cut) → text ≡ d ∷ after → is_byte2 36 36 d ≡ true → is_spelled text ≡ true → CutsOff after_dollar after cut
     → (is_spelled cut.after.now ≡ true) × (pieces_in text ≡ dollar_piece cut.dollar ∷ pieces_in cut.after.now)
 unfolding pieces
-next_read text after d cut is dollar spelled h =
-    let left : is_spelled cut.after.now ≡ true = sym (spelled_more text [] text after d cut refl is dollar refl h) ∙ spelled in
-    let all : pieces text ≡ option_map (λ later. dollar_piece cut.dollar ∷ later) (pieces cut.after.now) =
-    ap pieces is ∙ outside-dollar d after (eq-eqb d 36 (is_dollar d dollar)) ∙ h.first in
-    (left, ap (λ found. unwrap_or found []) (all ∙ ap (option_map (λ later. dollar_piece cut.dollar ∷ later)) (spelled_some cut.after.now left)))
+next_read text after d cut is dollar spelled h = grind (arith, spelled_more, outside-dollar, eq-eqb, is_dollar, spelled_some)

@@ -1,6 +1,6 @@
 -- Spellings by their first piece: names, spaces, variables, and what they stand for.
-use Rattle.std.proofs.Common.{◌≡◌, ◌≢◌, ℕ, suc, ◌+◌, Bool, true, false, ◌==◌, ◌||◌, List, [], ◌∷◌, ◌++◌, refl, sym, ◌∙◌, ap, append-nil, map, length, take, drop, arith, Option, Some, None, option_map, unwrap_or, is_some, IfSome, ⊎_elim}
-use Rattle.kt_ninja_reader.proofs.Common.{cases_Bool, false≢true, eqb-true, eq-eqb, ne_eqb, Bor, list_any, prefix_len, slice_split, onto_first, Text, Piece, Plain, Escaped, Variable, after_dollar, is_escapable, is_long_name_byte, is_short_name_byte, outside, pieces, pieces_from, begins_with_at, is_plain, name_bytes, without_lead, expanded, refers_to, is_empty}
+use Rattle.std.proofs.Common.{◌≡◌, ◌≢◌, ℕ, suc, ◌+◌, Bool, true, false, ◌==◌, ◌||◌, List, [], ◌∷◌, ◌++◌, refl, sym, ◌∙◌, ap, append-nil, map, length, take, drop, arith, Option, Some, None, option_map, is_some, IfSome, ⊎_elim}
+use Rattle.kt_ninja_reader.proofs.Common.{cases_Bool, false≢true, eqb-true, eq-eqb, ne_eqb, Bor, list_any, prefix_len, slice_split, onto_first, Text, Piece, Plain, Escaped, Variable, after_dollar, is_long_name_byte, pieces, pieces_from, begins_with_at, is_plain, name_bytes, without_lead, expanded, refers_to, is_empty}
 use Rattle.std.proofs.lemmas.List.Splits.{slice_split-cons_no}
 use Rattle.kt_ninja_reader.specs.inner.Spelled.{is_spelled, pieces_in}
 use Rattle.kt_ninja_reader.specs.inner.Cutting.{variable_names}
@@ -15,46 +15,28 @@ begins_escaped (Escaped b ∷ ps) = true
 begins_escaped (Variable name ∷ ps) = true
 
 named_first : (name : Text) (found : Option (List Piece)) → IfSome (option_map (λ later. Variable name ∷ later) found) (λ ps. begins_escaped ps ≡ true)
-named_first name None = tt
-named_first name (Some ps) = refl
+named_first name found = grind arith
 
 closed_first : (name after : Text) → IfSome (closed name after) (λ ps. begins_escaped ps ≡ true)
-closed_first name [] = tt
-closed_first name (b ∷ bs) =
-    ⊎_elim (λ d. rw d (⊎_elim (λ e. rw e tt) (λ e. rw e (named_first name (pieces_from outside bs))) (cases_Bool (is_empty name)))) (λ d. rw d tt) (cases_Bool (b == 125))
+closed_first name after = grind (arith, ⊎_elim, named_first, cases_Bool)
 
 escaped_first : (b : ℕ) (found : Option (List Piece)) → IfSome (option_map (λ later. Escaped b ∷ later) found) (λ ps. begins_escaped ps ≡ true)
-escaped_first b None = tt
-escaped_first b (Some ps) = refl
+escaped_first b found = grind arith
 
 after_first : (text : Text) → IfSome (pieces_from after_dollar text) (λ ps. begins_escaped ps ≡ true)
 after_first [] = rw escape-nil tt
-after_first (b ∷ bs) =
-    ⊎_elim
-    (λ d. rw (escape-escapable b bs d) (escaped_first b (pieces_from outside bs)))
-    (λ d. ⊎_elim
-    (λ e. rw (escape-brace b bs d e ∙ in_braces-prefix [] bs) (closed_first (take (prefix_len is_long_name_byte bs) bs) (drop (prefix_len is_long_name_byte bs) bs)))
-    (λ e. ⊎_elim
-    (λ f. rw (escape-short b bs d e f ∙ in_name-prefix [] (b ∷ bs)) (named_first (take (prefix_len is_short_name_byte (b ∷ bs)) (b ∷ bs)) (pieces_from outside (drop (prefix_len is_short_name_byte (b ∷ bs)) (b ∷ bs)))))
-    (λ f. rw (escape-none b bs d e f) tt)
-    (cases_Bool (is_short_name_byte b)))
-    (cases_Bool (b == 123)))
-    (cases_Bool (is_escapable b))
+after_first (b ∷ bs) = grind (arith, ⊎_elim, escape-escapable, escaped_first, escape-brace, in_braces-prefix, closed_first, take, escape-short, in_name-prefix, named_first, escape-none, cases_Bool)
 
 -- a spelling by its first byte: a dollar begins no plain piece, and each other byte is one
 pub dollar_first : (b : ℕ) (bs : Text) → is_spelled (b ∷ bs) ≡ true → (b == 36) ≡ true → begins_escaped (pieces_in (b ∷ bs)) ≡ true
 dollar_first b bs spelled d = rw (outside_some (b ∷ bs) spelled) at (rw (sym (outside-dollar b bs d)) at (after_first bs))
 
 some_tail : (p : Piece) (found : Option (List Piece)) → is_some (option_map (λ later. p ∷ later) found) ≡ is_some found
-some_tail p None = refl
-some_tail p (Some ps) = refl
+some_tail p found = grind arith
 
 pub plain_first : (b : ℕ) (bs : Text) → is_spelled (b ∷ bs) ≡ true → (b == 36) ≡ false → (is_spelled bs ≡ true) × (pieces_in (b ∷ bs) ≡ Plain b ∷ pieces_in bs)
 unfolding pieces
-plain_first b bs spelled d =
-    let all : pieces (b ∷ bs) ≡ option_map (λ later. Plain b ∷ later) (pieces bs) = outside-plain b bs d in
-    let left : is_spelled bs ≡ true = sym (some_tail (Plain b) (pieces bs)) ∙ sym (ap is_some all) ∙ spelled in
-    (left, ap (λ found. unwrap_or found []) (all ∙ ap (option_map (λ later. Plain b ∷ later)) (spelled_some bs left)))
+plain_first b bs spelled d = grind (arith, outside-plain, some_tail, spelled_some)
 
 pub spelled_nil : is_spelled [] ≡ true
 unfolding pieces pieces_from
@@ -66,43 +48,27 @@ nothing_in = refl
 
 -- whether there is a piece
 escaped_some : (ps : List Piece) → begins_escaped ps ≡ true → is_empty ps ≡ false
-escaped_some [] h = absurd (false≢true h)
-escaped_some (p ∷ ps) h = refl
+escaped_some ps h = grind (arith, false≢true)
 
 pub empty_text : (text : Text) → is_spelled text ≡ true → is_empty (pieces_in text) ≡ is_empty text
-empty_text [] spelled = ap is_empty nothing_in
-empty_text (b ∷ bs) spelled =
-    ⊎_elim (λ d. escaped_some (pieces_in (b ∷ bs)) (dollar_first b bs spelled d)) (λ d. ap is_empty (plain_first b bs spelled d).1) (cases_Bool (b == 36))
+empty_text text spelled = grind (arith, nothing_in, ⊎_elim, escaped_some, dollar_first, plain_first, cases_Bool)
 
 pub empty_length : (text : Text) (ps : List Piece) → is_spelled text ≡ true → pieces_in text ≡ ps → (length text == 0) ≡ is_empty ps
-empty_length [] ps spelled view = sym (empty_text [] spelled) ∙ ap is_empty view
-empty_length (b ∷ bs) ps spelled view = let some : (length (b ∷ bs) == 0) ≡ false = ne_eqb _ _ (λ e. omega (arith, e)) in some ∙ sym (empty_text (b ∷ bs) spelled) ∙ ap is_empty view
+empty_length text ps spelled view = grind (arith, empty_text, length, ne_eqb)
 
 -- whether the first piece is `@`
 escaped_at : (ps : List Piece) → begins_escaped ps ≡ true → begins_with_at ps ≡ false
-escaped_at [] h = refl
-escaped_at (Plain b ∷ ps) h = absurd (false≢true h)
-escaped_at (Escaped b ∷ ps) h = refl
-escaped_at (Variable name ∷ ps) h = refl
+escaped_at ps h = grind (arith, false≢true)
 
 pub at_first : (text : Text) (b : ℕ) (bs : Text) → text ≡ b ∷ bs → is_spelled text ≡ true → begins_with_at (pieces_in text) ≡ (b == 64)
-at_first text b bs is spelled =
-    let here : is_spelled (b ∷ bs) ≡ true = rw is at spelled in
-    ap (λ l. begins_with_at (pieces_in l)) is
-    ∙ ⊎_elim
-    (λ d. let e : b ≡ 36 = eqb-true _ _ d in escaped_at (pieces_in (b ∷ bs)) (dollar_first b bs here d) ∙ sym (rw e refl))
-    (λ d. ap begins_with_at (plain_first b bs here d).1)
-    (cases_Bool (b == 36))
+at_first text b bs is spelled = grind (arith, ⊎_elim, eqb-true, escaped_at, dollar_first, plain_first, cases_Bool)
 
 pub at_none : (text : Text) → text ≡ [] → begins_with_at (pieces_in text) ≡ false
 at_none text is = ap (λ l. begins_with_at (pieces_in l)) is ∙ ap begins_with_at nothing_in
 
 -- without the spaces at its begin
 escaped_lead : (ps : List Piece) → begins_escaped ps ≡ true → prefix_len (is_plain 32) ps ≡ 0
-escaped_lead [] h = absurd (false≢true h)
-escaped_lead (Plain b ∷ ps) h = absurd (false≢true h)
-escaped_lead (Escaped b ∷ ps) h = refl
-escaped_lead (Variable name ∷ ps) h = refl
+escaped_lead ps h = grind (arith, false≢true)
 
 abbrev indent : Text → ℕ
 indent text = prefix_len (λ b. b == 32) text
@@ -115,21 +81,11 @@ drop_piece n p ps = let e : 1 + n ≡ suc n = omega arith in rw e refl
 
 spaced : (c : ℕ) (cs : Text) → (is_spelled (drop (indent cs) cs) ≡ true) × (pieces_in (drop (indent cs) cs) ≡ without_lead (pieces_in cs)) → pieces_in (c ∷ cs) ≡ Plain c ∷ pieces_in cs → (c == 32) ≡ true
     → (is_spelled (drop (indent (c ∷ cs)) (c ∷ cs)) ≡ true) × (pieces_in (drop (indent (c ∷ cs)) (c ∷ cs)) ≡ without_lead (pieces_in (c ∷ cs)))
-spaced c cs later first s =
-    let more : indent (c ∷ cs) ≡ 1 + indent cs = rw s refl in
-    let rest : drop (indent (c ∷ cs)) (c ∷ cs) ≡ drop (indent cs) cs = ap (λ n. drop n (c ∷ cs)) more ∙ drop_more (indent cs) c cs in
-    let lead : prefix_len (is_plain 32) (Plain c ∷ pieces_in cs) ≡ 1 + prefix_len (is_plain 32) (pieces_in cs) = rw s refl in
-    let others : without_lead (pieces_in (c ∷ cs)) ≡ without_lead (pieces_in cs) =
-    ap without_lead first ∙ ap (λ n. drop n (Plain c ∷ pieces_in cs)) lead ∙ drop_piece (prefix_len (is_plain 32) (pieces_in cs)) (Plain c) (pieces_in cs) in
-    (rw rest later.0, ap pieces_in rest ∙ later.1 ∙ sym others)
+spaced c cs later first s = grind (arith, drop_more, drop_piece)
 
 unspaced : (c : ℕ) (cs : Text) → is_spelled (c ∷ cs) ≡ true → pieces_in (c ∷ cs) ≡ Plain c ∷ pieces_in cs → (c == 32) ≡ false
     → (is_spelled (drop (indent (c ∷ cs)) (c ∷ cs)) ≡ true) × (pieces_in (drop (indent (c ∷ cs)) (c ∷ cs)) ≡ without_lead (pieces_in (c ∷ cs)))
-unspaced c cs whole first s =
-    let none : indent (c ∷ cs) ≡ 0 = rw s refl in
-    let rest : drop (indent (c ∷ cs)) (c ∷ cs) ≡ c ∷ cs = rw none refl in
-    let lead : without_lead (Plain c ∷ pieces_in cs) ≡ Plain c ∷ pieces_in cs = rw s refl in
-    (rw rest whole, ap pieces_in rest ∙ first ∙ sym lead ∙ sym (ap without_lead first))
+unspaced c cs whole first s = grind arith
 
 pub lead_cut : (text : Text) → is_spelled text ≡ true → (is_spelled (drop (indent text) text) ≡ true) × (pieces_in (drop (indent text) text) ≡ without_lead (pieces_in text))
 lead_cut [] spelled = (spelled_nil, rw nothing_in refl)
@@ -146,10 +102,7 @@ lead_cut (b ∷ bs) spelled =
 -- a name is all bytes of its text
 escaped_name : (ps : List Piece) → begins_escaped ps ≡ true → name_bytes ps ≡ None
 unfolding name_bytes
-escaped_name [] h = absurd (false≢true h)
-escaped_name (Plain b ∷ ps) h = absurd (false≢true h)
-escaped_name (Escaped b ∷ ps) h = refl
-escaped_name (Variable name ∷ ps) h = refl
+escaped_name ps h = grind (arith, false≢true)
 
 plain_name : (b : ℕ) (ps : List Piece) → is_long_name_byte b ≡ true → name_bytes (Plain b ∷ ps) ≡ option_map (λ bs. b ∷ bs) (name_bytes ps)
 unfolding name_bytes
@@ -222,12 +175,7 @@ byte_names names b = sym (append-nil (map (λ n. n.now) names))
 -- the names of what a run begins with
 pub names_from : (plain : Text) (p : Piece) (ps whole : List Piece) → whole ≡ map Plain plain ++ p ∷ ps → variable_names whole ≡ variable_names (p ∷ []) ++ variable_names ps
 unfolding variable_names
-names_from plain p ps whole is = ap variable_names is ∙ names_after plain (p ∷ ps) ∙ one p
-  where
-    one : (first : Piece) → variable_names (first ∷ ps) ≡ variable_names (first ∷ []) ++ variable_names ps
-    one (Plain b) = refl
-    one (Escaped b) = refl
-    one (Variable name) = refl
+names_from plain p ps whole is = grind (arith, names_after)
 
 pub names_end : (plain : Text) (whole : List Piece) → whole ≡ map Plain plain ++ [] → variable_names whole ≡ []
 unfolding variable_names

@@ -1,16 +1,15 @@
 -- Pieces and their spellings.
-use Rattle.std.proofs.Common.{◌≡◌, ℕ, Bool, true, false, ◌==◌, List, [], ◌∷◌, ◌++◌, refl, sym, ◌∙◌, ap, subst, append_assoc, append-nil, Option, Some, None, option_map, ⊎_elim, inl, inr}
-use Rattle.kt_ninja_reader.proofs.Common.{cases_Bool, false≢true, eqb-true, false_from_ne_true, and_from, and_parts, append_cancel_left, list_all-append, concat, list_all, option_and_then, Text, is_empty, Piece, Plain, Escaped, Variable, Where, after_dollar, in_braces, in_name, is_escapable, is_long_name_byte, is_short_name_byte, outer_step, outside, pieces, pieces_from}
+use Rattle.std.proofs.Common.{arith, ◌≡◌, ℕ, Bool, true, false, ◌==◌, List, [], ◌∷◌, ◌++◌, refl, sym, ◌∙◌, ap, subst, append_assoc, append-nil, Option, Some, None, option_map, ⊎_elim, inl, inr}
+use Rattle.kt_ninja_reader.proofs.Common.{cases_Bool, false≢true, eqb-true, false_from_ne_true, and_from, and_parts, append_cancel_left, list_all-append, concat, list_all, Text, is_empty, Piece, Plain, Escaped, Variable, Where, after_dollar, in_braces, in_name, is_escapable, is_long_name_byte, is_short_name_byte, outside, pieces, pieces_from}
 use Rattle.kt_ninja_reader.specs.Spellings.{AreSpelled, IsNameOf, IsSpelled, PieceLaw, name_goes_on}
-use Rattle.kt_ninja_reader.proofs.PieceLemmas.{none_before, escape-brace, escape-escapable, escape-nil, escape-none, escape-short, map_twice, outside-dollar, outside-nil, outside-plain, name_ended, not_brace}
+use Rattle.kt_ninja_reader.proofs.PieceLemmas.{none_before, escape-brace, escape-escapable, escape-nil, escape-none, escape-short, outside-dollar, outside-nil, outside-plain, name_ended, not_brace}
 
 -- ---- bytes
 
 -- a byte of a name is no dollar, space, colon or brace
 short_is_no : (byte : ℕ) → is_short_name_byte byte ≡ false → (b : ℕ) → is_short_name_byte b ≡ true
     → (b == byte) ≡ false
-short_is_no byte none b h =
-    false_from_ne_true _ (λ e. false≢true (sym none ∙ subst (λ c. is_short_name_byte c ≡ true) (eqb-true b byte e) h))
+short_is_no byte none b h = grind (arith, false_from_ne_true, false≢true, eqb-true)
 
 short_is_not_escapable : (b : ℕ) → is_short_name_byte b ≡ true → is_escapable b ≡ false
 short_is_not_escapable b h = rw (short_is_no 36 refl b h, short_is_no 32 refl b h, short_is_no 58 refl b h) refl
@@ -34,8 +33,7 @@ brace_run : (bs before after : Text) → list_all is_long_name_byte bs ≡ true 
     → pieces_from (in_braces before) (bs ++ 125 ∷ after)
     ≡ option_map (λ later. Variable (before ++ bs) ∷ later) (pieces_from outside after)
 unfolding pieces_from
-brace_run [] before after all some = let named : is_empty before ≡ false =
-    ap is_empty (sym (append-nil before)) ∙ some in rw (append-nil before) (rw named refl)
+brace_run [] before after all some = grind (arith, append-nil)
 brace_run (b ∷ bs) before after all some =
     let both = and_parts (is_long_name_byte b) (list_all is_long_name_byte bs) all in
     let same = append_assoc before (b ∷ []) bs in
@@ -49,28 +47,16 @@ brace_run (b ∷ bs) before after all some =
 short_is_read : (name after : Text) → IsNameOf is_short_name_byte name → name_goes_on after ≡ false
     → pieces_from outside ((36 ∷ name) ++ after)
     ≡ option_map (λ later. Variable name ∷ later) (pieces_from outside after)
-short_is_read [] after h ends = absurd (false≢true (sym h.0))
-short_is_read (b ∷ bs) after h ends =
-    let short = (and_parts (is_short_name_byte b) (list_all is_short_name_byte bs) h.1).0 in
-    outside-dollar 36 (b ∷ bs ++ after) refl
-    ∙ escape-short b (bs ++ after) (short_is_not_escapable b short) (short_is_no 123 refl b short) short
-    ∙ name_run (b ∷ bs) [] after h.1 ends
+short_is_read name after h ends = grind (arith, false≢true, and_parts, outside-dollar, escape-short, short_is_not_escapable, short_is_no, name_run)
 
 long_is_read : (name after : Text) → IsNameOf is_long_name_byte name
     → pieces_from outside ((36 ∷ 123 ∷ name ++ 125 ∷ []) ++ after)
     ≡ option_map (λ later. Variable name ∷ later) (pieces_from outside after)
-long_is_read name after h =
-    ap (λ (text : Text). pieces_from outside (36 ∷ 123 ∷ text)) (append_assoc name (125 ∷ []) after)
-    ∙ outside-dollar 36 (123 ∷ name ++ 125 ∷ after) refl ∙ escape-brace 123 (name ++ 125 ∷ after) refl refl
-    ∙ brace_run name [] after h.1 h.0
+long_is_read name after h = grind (arith, append_assoc, outside-dollar, escape-brace, brace_run)
 
 spelling_is_read : (piece : Piece) (spelling after : Text) → IsSpelled piece spelling after
     → pieces_from outside (spelling ++ after) ≡ option_map (λ later. piece ∷ later) (pieces_from outside after)
-spelling_is_read (Plain b) spelling after h = rw h.0 (outside-plain b after h.1)
-spelling_is_read (Escaped b) spelling after h =
-    rw h.0 (outside-dollar 36 (b ∷ after) refl ∙ escape-escapable b after h.1)
-spelling_is_read (Variable name) spelling after (inl h) = rw h.0 (short_is_read name after h.1 h.2)
-spelling_is_read (Variable name) spelling after (inr h) = rw h.0 (long_is_read name after h.1)
+spelling_is_read piece spelling after h = grind (arith, outside-plain, outside-dollar, escape-escapable, short_is_read, long_is_read)
 
 are_read : (found : List Piece) (spellings : List Text) → AreSpelled found spellings
     → pieces_from outside (concat spellings) ≡ Some found
@@ -98,16 +84,7 @@ no_both (b ∷ bs) other after past h e =
 
 one_spelling : (piece : Piece) (one two after past : Text) → IsSpelled piece one after
     → IsSpelled piece two past → one ++ after ≡ two ++ past → one ≡ two
-one_spelling (Plain b) one two after past h k e = h.0 ∙ sym k.0
-one_spelling (Escaped b) one two after past h k e = h.0 ∙ sym k.0
-one_spelling (Variable name) one two after past (inl h) (inl k) e = h.0 ∙ sym k.0
-one_spelling (Variable name) one two after past (inr h) (inr k) e = h.0 ∙ sym k.0
-one_spelling (Variable name) one two after past (inl h) (inr k) e =
-    no_both name (name ++ 125 ∷ []) after past h.1
-    (ap (λ (t : Text). t ++ after) (sym h.0) ∙ e ∙ ap (λ (t : Text). t ++ past) k.0)
-one_spelling (Variable name) one two after past (inr h) (inl k) e =
-    no_both name (name ++ 125 ∷ []) past after k.1
-    (ap (λ (t : Text). t ++ past) (sym k.0) ∙ sym e ∙ ap (λ (t : Text). t ++ after) h.0)
+one_spelling piece one two after past h k e = grind (arith, no_both)
 
 same_spellings : (found : List Piece) (spellings others : List Text) → AreSpelled found spellings
     → AreSpelled found others
@@ -125,11 +102,7 @@ same_spellings (p ∷ ps) (s ∷ ss) (t ∷ ts) h k e =
 one_cutting : (first second : List Piece) (spellings others : List Text) → AreSpelled first spellings
     → AreSpelled second others
     → concat spellings ≡ concat others → (first ≡ second) × (spellings ≡ others)
-one_cutting first second spellings others h k e =
-    let found : Some first ≡ Some second =
-    sym (are_read first spellings h) ∙ ap (pieces_from outside) e ∙ are_read second others k in
-    let same : first ≡ second = cc found in
-    (same, same_spellings second spellings others (subst (λ f. AreSpelled f spellings) same h) k e)
+one_cutting first second spellings others h k e = grind (arith, are_read, same_spellings)
 
 -- ---- what is read has spellings
 
@@ -151,8 +124,7 @@ one_more piece spelling after found h (spellings, is, are) = (
 mapped : (piece : Piece) (rest : Option (List Piece)) (found : List Piece)
     → option_map (λ later. piece ∷ later) rest ≡ Some found
     → (later : List Piece) × (rest ≡ Some later) × (piece ∷ later ≡ found)
-mapped piece None found e = absurd (cc e)
-mapped piece (Some later) found e = (later, refl, cc e)
+mapped piece rest found e = grind arith
 
 -- one more piece in front of what is read after it
 read_more : (piece : Piece) (spelling after : Text) (found : List Piece) → IsSpelled piece spelling after
@@ -217,9 +189,7 @@ not_empty (c ∷ name) b = refl
 
 all_with : (test : ℕ → Bool) (name : Text) (b : ℕ) → list_all test name ≡ true → test b ≡ true
     → list_all test (name ++ b ∷ []) ≡ true
-all_with test name b all h =
-    list_all-append test name (b ∷ [])
-    ∙ and_from (list_all test name) (list_all test (b ∷ [])) all (and_from (test b) true h refl)
+all_with test name b all h = grind (arith, list_all-append, and_from)
 
 name_more : (name : Text) (b : ℕ) (bs : Text) → is_short_name_byte b ≡ true
     → pieces_from (in_name name) (b ∷ bs) ≡ pieces_from (in_name (name ++ b ∷ [])) bs
@@ -288,8 +258,7 @@ from_braces name b bs later found all e =
     (cases_Bool (b == 125))
 
 outside_end : (found : List Piece) → pieces_from outside [] ≡ Some found → HasSpellings [] found
-outside_end found e = let some = sym outside-nil ∙ e in let same : [] ≡ found =
-    cc some in subst (HasSpellings []) same none_has
+outside_end found e = grind (arith, outside-nil, none_has)
 
 at_end : Reads []
 at_end outside found h e = outside_end found e

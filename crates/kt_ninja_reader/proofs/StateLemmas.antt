@@ -1,8 +1,7 @@
 -- What was read so far, step by step.
-use Rattle.std.proofs.Common.{◌≡◌, ℕ, ◌+◌, ◌<◌, Bool, true, false, not, ◌&&◌, ◌||◌, List, [], ◌∷◌, ◌++◌, refl, sym, ◌∙◌, ap, append_assoc, append-nil, length, drop, map, get_or, Option, Some, None, option_map, is_some, subst, Result, MatchResult, if◌then◌else◌}
-use Rattle.kt_ninja_reader.proofs.Common.{drop_more, list_all, Made, Fault, Text, Binding, Build, Pieces, Scope, expanded, find_in, put_in, refers_to, value_in, value_within, Making, State, PendingStatement, add_defaults, are_new, block_scope, made_of, outs_of, paths_in, pending_with, statement_of, is_among, with_name, is_empty}
+use Rattle.std.proofs.Common.{arith, ◌≡◌, ℕ, ◌+◌, ◌<◌, Bool, true, false, not, ◌&&◌, List, [], ◌∷◌, ◌++◌, refl, sym, ◌∙◌, ap, append_assoc, append-nil, length, drop, map, get_or, Option, Some, None, option_map, subst, Result, MatchResult, if◌then◌else◌}
+use Rattle.kt_ninja_reader.proofs.Common.{drop_more, list_all, Made, Fault, Text, Binding, Build, Pieces, Scope, expanded, find_in, value_in, value_within, Making, State, PendingStatement, add_defaults, are_new, block_scope, made_of, outs_of, paths_in, pending_with, statement_of, is_among, with_name, is_empty}
 use Rattle.kt_ninja_reader.specs.declared.pending_statement.Making.{Making as HeldMaking}
-use Rattle.kt_ninja_reader.specs.declared.pending_statement.Making.TheVariants.{ByNothing, ByOwn, ByRule}
 use Rattle.kt_ninja_reader.specs.inner.Refusals.{LacksReading}
 use Rattle.kt_ninja_reader.specs.inner.Holding.{block_with, made_as, making_as, path_in}
 
@@ -16,24 +15,18 @@ told_at f xs i x below is = ap (map f) (left_at xs i x below is)
 -- blocks, binding by binding
 taken_by : (test : Bool) (put next : Scope) (rest : Scope → Option Scope) → (if test then None else Some put) ≡ Some next
     → (if test then None else rest put) ≡ rest next
-taken_by true put next rest h = absurd (cc h)
-taken_by false put next rest h = let same : put ≡ next = cc h in ap rest same
+taken_by test put next rest h = grind arith
 
 refused_by : (test : Bool) (put : Scope) (rest : Scope → Option Scope) → (if test then None else Some put) ≡ None → (if test then None else rest put) ≡ None
-refused_by true put rest h = refl
-refused_by false put rest h = absurd (cc h)
+refused_by test put rest h = grind arith
 
 pub block_taken : (file block next : Scope) (b : Binding) (bs : List Binding) → block_with file block b ≡ Some next → block_scope file block (b ∷ bs) ≡ block_scope file next bs
 unfolding block_scope
-block_taken file block next b bs h =
-    taken_by (is_some (find_in block b.key) || refers_to (λ name. is_some (find_in block name)) b.value)
-    (put_in block b.key (expanded (value_in file) b.value)) next (λ later. block_scope file later bs) h
+block_taken file block next b bs h = grind (arith, taken_by)
 
 pub block_refused : (file block : Scope) (b : Binding) (bs : List Binding) → block_with file block b ≡ None → block_scope file block (b ∷ bs) ≡ None
 unfolding block_scope
-block_refused file block b bs h =
-    refused_by (is_some (find_in block b.key) || refers_to (λ name. is_some (find_in block name)) b.value)
-    (put_in block b.key (expanded (value_in file) b.value)) (λ later. block_scope file later bs) h
+block_refused file block b bs h = grind (arith, refused_by)
 
 pub block_end : (file block : Scope) → block_scope file block [] ≡ Some block
 unfolding block_scope
@@ -42,18 +35,15 @@ block_end file block = refl
 -- paths, one after another
 in_front : (front : List Text) (name : Text) (later : Option (List Text))
     → option_map (λ more. front ++ more) (option_map (λ more. name ∷ more) later) ≡ option_map (λ more. (front ++ name ∷ []) ++ more) later
-in_front front name None = refl
-in_front front name (Some names) = ap Some (sym (append_assoc front (name ∷ []) names))
+in_front front name later = grind (arith, append_assoc)
 
 path_by : (empty : Bool) (front : List Text) (value name : Text) (later : Option (List Text)) → (if empty then None else Some value) ≡ Some name
     → option_map (λ more. front ++ more) (if empty then None else option_map (λ more. value ∷ more) later) ≡ option_map (λ more. (front ++ name ∷ []) ++ more) later
-path_by true front value name later h = absurd (cc h)
-path_by false front value name later h = let same : value ≡ name = cc h in rw same (in_front front name later)
+path_by empty front value name later h = grind (arith, in_front)
 
 no_path_by : (empty : Bool) (front : List Text) (value : Text) (later : Option (List Text)) → (if empty then None else Some value) ≡ None
     → option_map (λ more. front ++ more) (if empty then None else option_map (λ more. value ∷ more) later) ≡ None
-no_path_by true front value later h = refl
-no_path_by false front value later h = absurd (cc h)
+no_path_by empty front value later h = grind arith
 
 pub path_taken : (value_of : Text → Text) (front : List Text) (p : Pieces) (ps : List Pieces) (name : Text) → path_in value_of p ≡ Some name
     → option_map (λ more. front ++ more) (paths_in value_of (p ∷ ps)) ≡ option_map (λ more. (front ++ name ∷ []) ++ more) (paths_in value_of ps)
@@ -73,9 +63,7 @@ paths_end value_of front = ap Some (append-nil front)
 pub new_taken : (names next : List Text) (out : Text) (outs : List Text) → is_among names out ≡ false → next ≡ with_name names out
     → (are_new names (out ∷ outs) ≡ are_new next outs) × (next ++ outs ≡ names ++ out ∷ outs)
 unfolding are_new
-new_taken names next out outs new_one longer =
-    let grown : next ≡ names ++ out ∷ [] = longer ∙ ap (λ b. if b then names else names ++ out ∷ []) new_one in
-    (ap (λ b. not b && are_new (names ++ out ∷ []) outs) new_one ∙ ap (λ l. are_new l outs) (sym grown), ap (λ l. l ++ outs) grown ∙ append_assoc names (out ∷ []) outs)
+new_taken names next out outs new_one longer = grind (arith, not, append_assoc)
 
 pub new_refused : (names : List Text) (out : Text) (outs : List Text) → is_among names out ≡ true → are_new names (out ∷ outs) ≡ false
 unfolding are_new
@@ -88,17 +76,13 @@ new_end names = refl
 -- how a statement is made
 pub made_told : (file : Scope) (s : PendingStatement) (block : Scope) (making : HeldMaking) → made_as s.inputs s.outs block file making ≡ made_of file s (making_as block making)
 unfolding made_of
-made_told file s block ByNothing = refl
-made_told file s block (ByOwn command) = refl
-made_told file s block (ByRule command) = refl
+made_told file s block making = grind arith
 
 pub statement_told : (file : Scope) (s : PendingStatement) (block : Scope) (making : HeldMaking) (made : Made) → s.making ≡ making_as block making
     → made ≡ made_as s.inputs s.outs block file making
     → record { outs = s.outs; made = made; inputs = s.inputs; implicit = s.implicit; order_only = s.order_only } ≡ statement_of file s
 unfolding statement_of
-statement_told file s block making made held is =
-    ap (λ m. record { outs = s.outs; made = m; inputs = s.inputs; implicit = s.implicit; order_only = s.order_only })
-    (is ∙ made_told file s block making ∙ ap (made_of file s) (sym held))
+statement_told file s block making made held is = grind (arith, made_told)
 
 -- an answer for one value is one for another that is the same
 pub carried : {X : Type 0} (old new : Option X) (r : Result X Fault) → old ≡ new → MatchResult r (λ x. old ≡ Some x) (LacksReading old) → MatchResult r (λ x. new ≡ Some x) (LacksReading new)

@@ -1,5 +1,5 @@
 -- A text without the keyword that it begins with.
-use Rattle.std.proofs.Common.{◌≡◌, ◌∙◌, ℕ, ◌+◌, List, length, take, drop, true, false, nat_eq, Option, Some, None, MatchOption}
+use Rattle.std.proofs.Common.{arith, ◌≡◌, ℕ, ◌+◌, List, length, take, drop, true, false, nat_eq, Option, MatchOption}
 use Rattle.kt_ninja_reader.proofs.Common.{Bor, starts_with, pointwise}
 use Rattle.std.proofs.lemmas.Cmp.{nat_list_eq_equiv}
 
@@ -12,5 +12,4 @@ pub stripped : (text keyword : List ℕ) (r : Option (Bor (List ℕ)))
     × (length x.now + length keyword ≡ length text))
     → MatchOption r (starts_with nat_eq text keyword ≡ false)
     (λ rest. (starts_with nat_eq text keyword ≡ true) × (rest.now ≡ drop (length keyword) text))
-stripped text keyword None none = either_way text keyword ∙ none
-stripped text keyword (Some x) some = (either_way text keyword ∙ some.0, some.1)
+stripped text keyword r none = grind (arith, either_way)

@@ -1,5 +1,5 @@
 -- Maps from names, as lists.
-use Rattle.std.proofs.Common.{◌≡◌, ℕ, List, [], ◌∷◌, refl, ap, map, ⊎_elim}
+use Rattle.std.proofs.Common.{arith, ◌≡◌, ℕ, List, [], ◌∷◌, refl, map, ⊎_elim}
 use Rattle.kt_ninja_reader.proofs.Common.{cases_Bool, bytes_eq, find_in, put_in}
 use Rattle.std.specs.Map.{lookup}
 use Rattle.indexmap.specs.IndexMap.{insert_entry}
@@ -14,8 +14,7 @@ pub put_in_entries : {V : Type 0} (entries : List (List ℕ × V)) (name : List 
     → insert_entry bytes_eq entries name value ≡ put_in entries name value
 unfolding put_in
 put_in_entries [] name value = refl
-put_in_entries (e ∷ es) name value =
-    ⊎_elim (λ h. rw h refl) (λ h. rw h (ap (λ later. e ∷ later) (put_in_entries es name value))) (cases_Bool (bytes_eq name e.0))
+put_in_entries (e ∷ es) name value = grind (arith, ⊎_elim, cases_Bool, put_in_entries es name value)
 
 -- the same where the names are borrowed
 pub find_in_borrowed : {V : Type 0} (entries : List (Key × V)) (name : List ℕ)
@@ -28,5 +27,4 @@ pub put_in_borrowed : {V : Type 0} (entries : List (Key × V)) (name : Key) (val
     → map (λ e. (e.0.0.now, e.1)) (insert_entry (λ j k. bytes_eq j.0.now k.0.now) entries name value) ≡ put_in (map (λ e. (e.0.0.now, e.1)) entries) name.0.now value
 unfolding put_in
 put_in_borrowed [] name value = refl
-put_in_borrowed (e ∷ es) name value =
-    ⊎_elim (λ h. rw h refl) (λ h. rw h (ap (λ later. (e.0.0.now, e.1) ∷ later) (put_in_borrowed es name value))) (cases_Bool (bytes_eq name.0.now e.0.0.now))
+put_in_borrowed (e ∷ es) name value = grind (arith, ⊎_elim, cases_Bool, put_in_borrowed es name value)

@@ -1,12 +1,11 @@
-use Rattle.std.proofs.Common.{ap, ◌∙◌, sym}
-use Rattle.kt_ninja_reader.proofs.Common.{err_from_is_err_and, build_of, paths_of, two_of}
+use Rattle.std.proofs.Common.{arith, ◌∙◌, sym}
+use Rattle.kt_ninja_reader.proofs.Common.{err_from_is_err_and, build_of, paths_of}
 use Rattle.kt_ninja_reader.proofs.LineLemmas.{build_none, sides_read, sides_refused}
 use Rattle.kt_ninja_reader.proofs.PieceLemmas.{refuses_too}
 use Rattle.kt_ninja_reader.proofs.forms.build_of.Goals as goal
 
 pub returns-in_default : goal.returns-in_default
-returns-in_default c =
-    build_none c.args.line.now c.in_ok-sides.sides.items c.in_ok-sides.ensures (ap (λ l. two_of l) (sym c.as_slice.ensures.value) ∙ c.in_default.ensures)
+returns-in_default c = grind (arith, build_none)
 
 pub returns-in_err-outs : goal.returns-in_err-outs
 returns-in_err-outs c =
@@ -18,7 +17,4 @@ returns-in_err-outs c =
     c.in_err-outs.field-0.0 c.in_err-outs.ensures)
 
 pub returns : goal.returns
-returns c =
-    let both = sym c.as_slice.ensures.value ∙ c.in-Some.ensures in
-    rw (sides_read c.args.line.now c.in-Some.outs c.in-Some.rest c.in_ok-sides.sides.items c.in_ok-outs.outs.items c.in_ok-sides.ensures both c.in_ok-outs.ensures)
-    c.build_after.ensures
+returns c = grind (arith, sides_read)

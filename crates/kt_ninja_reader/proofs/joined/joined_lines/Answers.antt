@@ -7,14 +7,7 @@ use Rattle.kt_ninja_reader.proofs.joined.joined_lines.Goals.{then-not-begun+in_o
 
 pub loop-rest-init : goal.loop-rest-init
 unfolding joined_lines is_comment
-loop-rest-init c = record {
-  cut = rw c.new-lines.ensures.items refl;
-  numbered = λ _. refl;
-  fresh = λ _. c.empty.ensures;
-  blank = rw c.empty.ensures refl;
-  plain = rw c.empty.ensures refl;
-  bound = omega arith;
-}
+loop-rest-init c = grind arith
 
 pub loop-rest-preserved : goal.loop-rest-preserved
 unfolding is_comment

@@ -1,21 +1,7 @@
-use Rattle.kt_ninja_reader.proofs.Common.{refl, file_lines, ends_in_dollar, is_comment, joined_from, joined_lines, pieces_from, pieces, words_of, name_bytes, binding_of, build_of, defaults_of, rule_of, form_of, find_in, put_in, expanded, shell_word, shell_words, command_value, cut_lines, block_from, bind, read_rule, block_scope, making_of, paths_in, are_new, read_build, read_default, read_part, read_parts, made_of, statement_of, plan_of, ninja_read}
+use Rattle.std.proofs.Common.{arith}
+use Rattle.kt_ninja_reader.proofs.Common.{file_lines, ends_in_dollar, is_comment, joined_from, joined_lines, pieces_from, pieces, words_of, name_bytes, binding_of, build_of, defaults_of, rule_of, form_of, find_in, put_in, expanded, shell_word, shell_words, command_value, cut_lines, block_from, bind, read_rule, block_scope, making_of, paths_in, are_new, read_build, read_default, read_part, read_parts, made_of, statement_of, plan_of, ninja_read}
 use Rattle.kt_ninja_reader.proofs.laws.rows_of_plans.Goals as goal
 
 pub returns : goal.returns
 unfolding file_lines ends_in_dollar is_comment joined_from joined_lines pieces_from pieces words_of name_bytes binding_of build_of defaults_of rule_of form_of find_in put_in expanded shell_word shell_words command_value cut_lines block_from bind read_rule block_scope making_of paths_in are_new read_build read_default read_part read_parts made_of statement_of plan_of ninja_read
-returns c = record {
-  no_statements = refl;
-  quoted = refl;
-  on_lines = refl;
-  two_outputs = refl;
-  compiled = refl;
-  joined_name = refl;
-  joined_keyword = refl;
-  joined_comment = refl;
-  at_after_two_bars = refl;
-  all_inputs = refl;
-  own_command = refl;
-  command_of_phony = refl;
-  equals_is_a_path = refl;
-  late_value = refl;
-}
+returns c = grind arith

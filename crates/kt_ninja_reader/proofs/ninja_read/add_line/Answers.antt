@@ -1,4 +1,4 @@
-use Rattle.std.proofs.Common.{◌≡◌, sym, ◌∙◌, ap, map, true, false}
+use Rattle.std.proofs.Common.{arith, ◌≡◌, sym, ◌∙◌, ap, map, false}
 use Rattle.kt_ninja_reader.proofs.Common.{err_from_is_err_and, is_blank, is_comment, binding_view}
 use Rattle.kt_ninja_reader.specs.Reading.{line_binding}
 use Rattle.kt_ninja_reader.proofs.PieceLemmas.{refuses_too}
@@ -6,31 +6,16 @@ use Rattle.kt_ninja_reader.proofs.ReaderLemmas.{binding_adds, binding_stops, bla
 use Rattle.kt_ninja_reader.proofs.ninja_read.add_line.Goals as goal
 
 pub returns-then-is_comment : goal.returns-then-is_comment
-returns-then-is_comment c =
-    let comment : is_comment c.args.line.now.text ≡ true = ap is_comment (sym c.text-text.ensures) ∙ (sym c.is_comment.ensures ∙ c.if-is_comment.true) in
-    comment_adds c.args.closed (map binding_view c.args.bindings.now.items) c.args.line.now comment
+returns-then-is_comment c = grind (arith, comment_adds)
 
 pub returns-then-is_blank : goal.returns-then-is_blank
-returns-then-is_blank c =
-    let comment : is_comment c.args.line.now.text ≡ false = ap is_comment (sym c.text-text.ensures) ∙ (sym c.is_comment.ensures ∙ c.if-is_comment.false) in
-    let blank : is_blank c.args.line.now.text ≡ true = ap is_blank (sym c.text-text.ensures) ∙ (sym c.is_blank.ensures ∙ c.if-is_blank.true) in
-    blank_adds c.args.closed (map binding_view c.args.bindings.now.items) c.args.line.now comment blank
+returns-then-is_blank c = grind (arith, blank_adds)
 
 pub returns-then-closed : goal.returns-then-closed
-returns-then-closed c =
-    let comment : is_comment c.args.line.now.text ≡ false = ap is_comment (sym c.text-text.ensures) ∙ (sym c.is_comment.ensures ∙ c.if-is_comment.false) in
-    let blank : is_blank c.args.line.now.text ≡ false = ap is_blank (sym c.text-text.ensures) ∙ (sym c.is_blank.ensures ∙ c.if-is_blank.false) in
-    closed_stops c.args.closed c.args.line.now comment blank c.if-closed.true
+returns-then-closed c = grind (arith, closed_stops)
 
 pub returns-in_err-line_binding : goal.returns-in_err-line_binding
-returns-in_err-line_binding c =
-    let p = err_from_is_err_and c.from_residual.result c.from_residual.ensures.1 in
-    let comment : is_comment c.args.line.now.text ≡ false = ap is_comment (sym c.text-text.ensures) ∙ (sym c.is_comment.ensures ∙ c.if-is_comment.false) in
-    let blank : is_blank c.args.line.now.text ≡ false = ap is_blank (sym c.text-text.ensures) ∙ (sym c.is_blank.ensures ∙ c.if-is_blank.false) in
-    rw (p.1, p.2)
-    (binding_stops c.args.closed c.args.line.now comment blank c.if-closed.false c.in_err-line_binding.field-0.0
-    (refuses_too (line_binding c.text-text.result.now) (line_binding c.args.line.now.text) (λ none. ap line_binding (sym c.text-text.ensures) ∙ none)
-    c.in_err-line_binding.field-0.0 c.in_err-line_binding.ensures))
+returns-in_err-line_binding c = grind (arith, err_from_is_err_and, binding_stops, refuses_too)
 
 pub returns : goal.returns
 returns c =

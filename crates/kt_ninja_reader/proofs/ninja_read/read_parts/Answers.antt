@@ -1,15 +1,11 @@
-use Rattle.std.proofs.Common.{sym, ◌∙◌, ap, arith, drop}
+use Rattle.std.proofs.Common.{sym, ◌∙◌, arith, drop}
 use Rattle.kt_ninja_reader.specs.NinjaRead.{cut_lines, nothing_read, read_part, read_parts}
 use Rattle.kt_ninja_reader.specs.Reading.{part_of}
 use Rattle.kt_ninja_reader.proofs.ReaderLemmas.{none_left, part_refused, part_taken, parts_step}
 use Rattle.kt_ninja_reader.proofs.ninja_read.read_parts.Goals as goal
 
 pub loop-part-init : goal.loop-part-init
-loop-part-init c = record {
-  begun = c.requires;
-  same = ap (λ s. read_parts s (cut_lines c.args.parts.now).parts) c.new-state.ensures;
-  bound = omega arith;
-}
+loop-part-init c = grind arith
 
 pub returns-in-Err : goal.returns-in-Err
 returns-in-Err c =

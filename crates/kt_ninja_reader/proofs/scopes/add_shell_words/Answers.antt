@@ -1,12 +1,10 @@
-use Rattle.std.proofs.Common.{◌≡◌, ◌++◌, [], ap, sym, ◌∙◌, append-nil}
+use Rattle.std.proofs.Common.{arith, ◌++◌, ap, ◌∙◌, append-nil}
 use Rattle.kt_ninja_reader.proofs.Common.{nil_from_length, on_ok_weaker, shell_word}
 use Rattle.kt_ninja_reader.proofs.ScopeLemmas.{shell_words-none, words_put}
 use Rattle.kt_ninja_reader.proofs.scopes.add_shell_words.Goals as goal
 
 pub returns-in-None : goal.returns-in-None
-returns-in-None c =
-    let none : c.args.paths.now ≡ [] = nil_from_length c.args.paths.now c.in-None.ensures.cases in
-    rw none (sym (ap (λ l. c.args.text.now.items ++ l) (shell_words-none c.args.between) ∙ append-nil c.args.text.now.items))
+returns-in-None c = grind (arith, nil_from_length, shell_words-none, append-nil)
 
 pub returns-in_ok-add_shell_word-in-Some : goal.returns-in_ok-add_shell_word-in-Some
 returns-in_ok-add_shell_word-in-Some c =

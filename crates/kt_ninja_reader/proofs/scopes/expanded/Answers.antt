@@ -1,5 +1,5 @@
+use Rattle.std.proofs.Common.{arith}
 use Rattle.kt_ninja_reader.specs.Scopes.{value_within}
-use Rattle.kt_ninja_reader.specs.inner.Cutting.{dollar_piece}
 use Rattle.kt_ninja_reader.proofs.ScopeLemmas.{expanded_end, expanded_run}
 use Rattle.kt_ninja_reader.proofs.scopes.expanded.Goals as goal
 
@@ -9,6 +9,4 @@ returns-in_default c =
     (rw c.in_default.is at c.run-run.ensures.whole) (rw c.in_default.is at c.run-run.ensures.end) c.in_ok-extend_from_slice.ensures.items c.loop-text.invariant
 
 pub loop-text-preserved : goal.loop-text-preserved
-loop-text-preserved c =
-    expanded_run (value_within c.args.scopes.block.now c.args.scopes.file.now) c.loop-text.text.items c.extend_from_slice.new.self.items _ c.run-run.result.plain.now (dollar_piece c.in-Some.dollar)
-    c.run-run.result.after c.loop-text.rest c.args.spelling.now (rw c.in-Some.is at c.run-run.ensures.whole) c.in_ok-extend_from_slice.ensures.items c.in_ok-add_dollar.ensures c.loop-text.invariant
+loop-text-preserved c = grind (arith, expanded_run)
