@@ -168,11 +168,7 @@ module _ (e e' : Evaluator) (h : Related e e') where
 
   pub apply_eval_related : (text : Text) (w : World) → Relates w (apply_eval e text w) (apply_eval e' text w)
   unfolding apply_eval
-  apply_eval_related text w =
-      related_test e.reads e'.reads _ _ _ _ w h.reads
-      (related_then w (e.expand text w) (e'.expand text w) _ _ (h.expand text w)
-      (λ x v. related_then v (e.eval x v) (e'.eval x v) _ _ (h.eval x v) (λ _ u. plain_step u _ (still u))))
-      (plain_step w _ (still w))
+  apply_eval_related text w = grind (arith, related_test, related_then, plain_step, still)
 
   pub apply_error_related : (text : Text) (w : World) → Relates w (apply_error e text w) (apply_error e' text w)
   unfolding apply_error

@@ -1,6 +1,6 @@
 -- Reading with a given number of levels left, beside the same with one more, like the lemmas of GrowingLemmas on
 -- expanding; and one more level.
-use Rattle.std.proofs.Common.{◌≡◌, ℕ, zero, suc, ◌+◌, Bool, true, false, cond, nat_lt, List, [], ◌∷◌, length, Option, Some, None, Result, Ok, Err, option_map, inl, inr, refl, sym}
+use Rattle.std.proofs.Common.{arith, ◌≡◌, ℕ, zero, suc, ◌+◌, Bool, true, false, cond, nat_lt, List, [], ◌∷◌, length, Option, Some, None, Result, Ok, Err, option_map, inl, inr, refl, sym}
 use Rattle.kt_eval.proofs.Common.{is_utf8, Text, words_of, nul_line, Directive, Missing, Kind, blank, assignment, directive, refused, rule, kind_of, line_kind, Items, Branches, none, line, fault, definition, conditional, no_branch, branch, late, tree_of, plain_of, RuleTexts, line_parts, recipe_of, Rule, rule_of, Function, Source, File, Held, Store, World, set_rule, Outcome, then_do, left_of, Step, stop, Evaluator, too_deep, apply, expanded, Raw, line_at, Sheet, sheet_of, at_number, at_line, read_include, read_kind, read_bare_tab, read_tab_in, read_tab, read_line, body_at, read_define, read_stray, late_else, branch_holds, read_items, read_branches, read_end, read_sheet, read_without_nul, read_text, read_held, largest_file, read_file, read_included, read_bytes, included, read_or, read_first, above, none_left, evaluator}
 use Rattle.kt_syntax.specs.declared.form.Directive.TheVariants as word
 use Rattle.kt_syntax.specs.declared.part.Missing.TheVariants as missing
@@ -370,12 +370,7 @@ too_deep_first w o = (still w, inl refl)
 
 pub one_more_level : (reads : Bool) (store : Store) (levels : ℕ) → Related (evaluator reads store levels) (evaluator reads store (suc levels))
 unfolding evaluator none_left above
-one_more_level reads store zero = record {
-  reads = refl;
-  expand = λ text w. too_deep_first w _;
-  eval = λ text w. too_deep_first w _;
-  include = λ optional name w. too_deep_first w _;
-}
+one_more_level reads store zero = grind (arith, too_deep_first)
 one_more_level reads store (suc levels) = above_related (evaluator reads store levels) (evaluator reads store (suc levels)) (one_more_level reads store levels) store
 
 agreed : {A : Type 0} (o o' : Outcome World A) → (IsTooDeep o → ⊥) → Agree o o' → o' ≡ o

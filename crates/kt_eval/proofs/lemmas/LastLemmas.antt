@@ -1,6 +1,6 @@
 -- The last element of a list.
-use Rattle.std.proofs.Common.{◌≡◌, ◌+◌, ◌-◌, List, [], ◌∷◌, ◌++◌, length, length-append, Some, refl, arith}
-use Rattle.kt_eval.proofs.Common.{slice_get, last}
+use Rattle.std.proofs.Common.{◌≡◌, ◌+◌, ◌-◌, List, [], ◌∷◌, ◌++◌, length, length-append, Some, arith}
+use Rattle.kt_eval.proofs.Common.{last}
 use Rattle.kt_list.proofs.ListLemmas.{last_pushed}
 
 place : {A : Type 0} (xs : List A) (x : A) → length (xs ++ x ∷ []) - 1 ≡ length xs

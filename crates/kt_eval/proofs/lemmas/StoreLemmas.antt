@@ -53,14 +53,7 @@ none_there : {X : Type 0} (x : X) → Contains [] x → ⊥
 none_there x h = absurd (omega (arith, h.1))
 
 first_or_later : {X : Type 0} (y : X) (xs : List X) (x : X) → Contains (y ∷ xs) x → (y ≡ x) ⊎ Contains xs x
-first_or_later y xs x h = by (Contains-append_cases (y ∷ []) xs x h) where
-  alone : Contains [] x ⊎ (y ≡ x) → (y ≡ x) ⊎ Contains xs x
-  alone (inl none) = absurd (none_there x none)
-  alone (inr is) = inl is
-
-  by : Contains (y ∷ []) x ⊎ Contains xs x → (y ≡ x) ⊎ Contains xs x
-  by (inl one) = alone (Contains-push_cases [] y x one)
-  by (inr later) = inr later
+first_or_later y xs x h = grind (arith, Contains-append_cases, none_there, Contains-push_cases)
 
 abbrev IsSame : Answer → Answer → Type 0
 IsSame one other = one ≡ other
@@ -76,14 +69,7 @@ Once answers name found = (found ≡ None) ⊎ Contains answers (name, found)
 module _ (n name : List ℕ) (found : Option (List ℕ)) (answers : List Answer) where
   stepped : (o : Option (List ℕ)) → Only ((n, o) ∷ answers) name found → Once ((n, o) ∷ answers) name found
       → (Once answers name found → look (store_of answers) name ≡ found) → look (with_found n o (store_of answers)) name ≡ found
-  stepped None only once rest = by once where
-    at : IsSame (n, None) (name, found) ⊎ Contains answers (name, found) → look (store_of answers) name ≡ found
-    at (inl is) = rest (inl (sym (ap (λ (a : Answer). a.1) is)))
-    at (inr later) = rest (inr later)
-
-    by : Once ((n, None) ∷ answers) name found → look (store_of answers) name ≡ found
-    by (inl absent) = rest (inl absent)
-    by (inr there) = at (first_or_later (n, None) answers (name, found) there)
+  stepped None only once rest = grind (arith, first_or_later)
   stepped (Some bytes) only once rest = by (bytes_eq n name) refl where
     at : bytes_eq n name ≡ false → IsSame (n, Some bytes) (name, found) ⊎ Contains answers (name, found) → look (store_of answers) name ≡ found
     at is (inl same) =

@@ -1,5 +1,5 @@
 -- A term's text is appended, with what needs no further level before the rest of it, and then the other terms.
-use Rattle.std.proofs.Common.{◌≡◌, ℕ, Bool, List, [], ◌∷◌, ◌++◌, refl, sym, ap, ◌∙◌, append-nil}
+use Rattle.std.proofs.Common.{arith, ◌≡◌, ℕ, Bool, List, [], ◌∷◌, ◌++◌, refl, sym, ap, ◌∙◌, append-nil}
 use Rattle.kt_eval.proofs.Common.{Text, Token, Stop, Nothing, Value, Whole, Store, World, Outcome, Gave, Stopped, then_do, done, left_of, Step, GoesOn, term_of, each_term, evaluator}
 use Rattle.kt_eval.specs.inner.Plain.{put_by, left_by, appended}
 use Rattle.kt_eval.proofs.lemmas.EarlyLemmas.{Early, fails_then, stands}
@@ -26,9 +26,7 @@ module _ (reads : Bool) (store : Store) (below : ℕ) where
   pub value_fails : (stop : Stop) (out text : Text) (piece : Token) (w v : World) → Value text ≡ left_by below piece w
       → Early stop v ((evaluator reads store below).expand text w) → Early stop v (appended (evaluator reads store below) out piece w)
   unfolding appended
-  value_fails stop out text piece w v left h =
-      rw (term_left reads store below piece text w left).0
-      (fails_then stop v ((evaluator reads store below).expand text w) _ (λ x u. stands u) h)
+  value_fails stop out text piece w v left h = grind (arith, term_left, fails_then, stands)
 
   pub value_gives : (out now new x text : Text) (piece : Token) (w v : World) → Value text ≡ left_by below piece w → now ≡ out ++ put_by below piece w
       → (evaluator reads store below).expand text w ≡ Gave v x → new ≡ now ++ x → appended (evaluator reads store below) out piece w ≡ Gave v new
@@ -66,8 +64,7 @@ module _ (reads : Bool) (store : Store) (below : ℕ) where
       → each_term (evaluator reads store below) out (piece ∷ pieces) w
       ≡ then_do (appended (evaluator reads store below) out piece w) (λ longer. each_term (evaluator reads store below) longer pieces)
   unfolding each_term appended
-  each_is out piece pieces w =
-      then_again (term_of (evaluator reads store below) piece w) (λ x. out ++ x) (λ longer. each_term (evaluator reads store below) longer pieces)
+  each_is out piece pieces w = grind (arith, then_again)
 
   pub term_fails : (stop : Stop) (out : Text) (piece : Token) (rest pieces : List Token) (w v : World) → rest ≡ piece ∷ pieces
       → Early stop v (appended (evaluator reads store below) out piece w) → Early stop v (each_term (evaluator reads store below) out rest w)

@@ -1,5 +1,5 @@
 -- The arguments of a call, byte by byte.
-use Rattle.std.proofs.Common.{◌≡◌, ℕ, ◌+◌, ◌-◌, ◌<◌, ◌≤◌, true, false, List, [], ◌∷◌, ◌++◌, Option, length, get_or, take, drop, refl, sym, ap, ◌∙◌, append_assoc, arith}
+use Rattle.std.proofs.Common.{◌≡◌, ℕ, ◌+◌, ◌-◌, ◌<◌, ◌≤◌, true, false, List, [], ◌∷◌, ◌++◌, Option, length, get_or, take, drop, sym, ap, ◌∙◌, append_assoc, arith}
 use Rattle.kt_eval.proofs.Common.{take_more, drop_more, drop-append-le, drop_all, drop-take, length-take-le, Mark, arguments_from, cuts, one_less, nested}
 
 -- the argument so far, with one more byte
@@ -14,8 +14,7 @@ pub uncut : (mark : Mark) (left : Option ℕ) (depth : ℕ) (text : List ℕ) (s
     → arguments_from mark left (nested mark depth (get_or text place 0)) (drop start (take (place + 1) text)) (drop (place + 1) text)
     ≡ arguments_from mark left depth (drop start (take place text)) (drop place text)
 unfolding arguments_from
-uncut mark left depth text start place le lt h =
-    rw (drop_more text place 0 lt) (rw (h, longer text start place le lt) refl)
+uncut mark left depth text start place le lt h = grind (arith, drop_more, longer)
 
 -- the part from one place up to another
 part : (text : List ℕ) (start place : ℕ) → start ≤ place → take (place - start) (drop start text) ≡ drop start (take place text)
@@ -29,9 +28,7 @@ pub cut_here : (mark : Mark) (left : Option ℕ) (depth : ℕ) (text : List ℕ)
     → take (place - start) (drop start text) ∷ arguments_from mark (one_less left) depth (drop (place + 1) (take (place + 1) text)) (drop (place + 1) text)
     ≡ arguments_from mark left depth (drop start (take place text)) (drop place text)
 unfolding arguments_from
-cut_here mark left depth text start place le lt h =
-    let short : length (take (place + 1) text) ≤ place + 1 = rw (length-take-le (place + 1) text (omega arith)) (omega arith) in
-    rw (part text start place le) (rw (drop_more text place 0 lt) (rw (h, drop_all (place + 1) (take (place + 1) text) short) refl))
+cut_here mark left depth text start place le lt h = grind (arith, length, take, length-take-le, part, drop_more, drop_all)
 
 -- one more argument, and then the others
 pub one_more : (before : List (List ℕ)) (argument : List ℕ) (others all rest : List (List ℕ)) → argument ∷ others ≡ rest → before ++ rest ≡ all → (before ++ argument ∷ []) ++ others ≡ all

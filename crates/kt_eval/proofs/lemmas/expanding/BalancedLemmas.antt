@@ -35,12 +35,7 @@ front_after n (x ∷ xs) rest = let at = front_after n xs rest in (suc at.0, ap 
 count_cut : (mark : Mark) (first rest : Text)
     → (count_of (opener mark) (first ++ 44 ∷ rest) ≡ count_of (opener mark) first + count_of (opener mark) rest)
     × (count_of (closer mark) (first ++ 44 ∷ rest) ≡ count_of (closer mark) first + count_of (closer mark) rest)
-count_cut mark first rest = (
-  count_append (opener mark) first (44 ∷ rest)
-      ∙ ap (λ (n : ℕ). count_of (opener mark) first + n) (count_no (opener mark) 44 rest (comma_opens mark)),
-  count_append (closer mark) first (44 ∷ rest)
-      ∙ ap (λ (n : ℕ). count_of (closer mark) first + n) (count_no (closer mark) 44 rest (comma_closes mark)),
-)
+count_cut mark first rest = grind (arith, count_append, count_no, comma_opens, comma_closes)
 
 -- a text that closes no more than it opens, spelled in another way
 closes_no_more : (mark : Mark) (text other : Text) → text ≡ other
@@ -94,9 +89,7 @@ each_balanced : (mark : Mark) (first : Text) (others : List Text)
     → IsBalanced (opener mark) (closer mark) (join_with_byte 44 (first ∷ others))
     → All (IsClosed mark) (take (length others) (first ∷ others))
     → All (IsBalanced (opener mark) (closer mark)) (first ∷ others)
-each_balanced mark first [] balanced closed =
-    let Each = IsBalanced (opener mark) (closer mark) in
-    All-cons Each first [] balanced (All-nil Each)
+each_balanced mark first [] balanced closed = grind (arith, All-cons, All-nil)
 each_balanced mark first (next ∷ others) balanced closed =
     let shorter = take (length others) (next ∷ others) in
     let rest = join_with_byte 44 (next ∷ others) in

@@ -1,5 +1,5 @@
 -- A text with each dollar doubled, expanded.
-use Rattle.std.proofs.Common.{◌≡◌, ◌==◌, ℕ, suc, Bool, true, false, [], ◌∷◌, ◌++◌, Some, take, refl, sym, ap, subst, ◌∙◌, append_assoc, append-nil, ⊎_elim}
+use Rattle.std.proofs.Common.{arith, ◌≡◌, ◌==◌, ℕ, suc, Bool, true, false, [], ◌∷◌, ◌++◌, Some, take, refl, sym, ap, subst, ◌∙◌, append_assoc, append-nil, ⊎_elim}
 use Rattle.kt_eval.proofs.Common.{cases_Bool, eqb-true, Text, dropped, terms_of, terms_after, first_term, after_dollar, set_by_makefile, doubled, Deferred, Store, World, found_of, Outcome, Gave, Evaluator, value_of, term_of, each_term, expanded, above, evaluator}
 use Rattle.kt_syntax.proofs.Runs.{run, run-no}
 
@@ -52,27 +52,11 @@ record Doubles (e : Evaluator) (w : World) (text : Text) : Type 0 where
 
 doubles-nil : (e : Evaluator) (w : World) → Doubles e w []
 unfolding doubled
-doubles-nil e w = record {
-  starts = λ out. after-nil e w out ∙ ap (Gave w) (sym (append-nil out));
-  runs = λ out. after-nil e w (out ++ []);
-}
+doubles-nil e w = grind (arith, after-nil, append-nil)
 
 doubles-dollar : (e : Evaluator) (w : World) (byte : ℕ) (text : Text) → (byte == 36) ≡ true → Doubles e w text
     → Doubles e w (byte ∷ text)
-doubles-dollar e w byte text h d = record {
-  starts = λ out. begins out;
-  runs = λ out.
-      subst (λ (x : Text). after e w (out ++ take (run x) x) (run x) x ≡ Gave w (out ++ byte ∷ text))
-      (sym (doubled-yes byte text h))
-      (ap (λ (x : Text). after e w x 0 (36 ∷ 36 ∷ doubled text)) (append-nil out) ∙ two out);
-}
-  where
-    two : (out : Text) → after e w out 0 (36 ∷ 36 ∷ doubled text) ≡ Gave w (out ++ byte ∷ text)
-    two out = after-dollars e w out (doubled text) ∙ d.starts (out ++ 36 ∷ [])
-        ∙ ap (Gave w) (append_assoc out (36 ∷ []) text ∙ ap (λ (b : ℕ). out ++ b ∷ text) (sym (eqb-true byte 36 h)))
-
-    begins : (out : Text) → after e w out 0 (doubled (byte ∷ text)) ≡ Gave w (out ++ byte ∷ text)
-    begins out = ap (after e w out 0) (doubled-yes byte text h) ∙ two out
+doubles-dollar e w byte text h d = grind (arith, after, take, run, doubled-yes, append-nil, after-dollars, append_assoc, eqb-true)
 
 doubles-other : (e : Evaluator) (w : World) (byte : ℕ) (text : Text) → (byte == 36) ≡ false → Doubles e w text
     → Doubles e w (byte ∷ text)
@@ -96,9 +80,7 @@ doubles-other e w byte text h d = record {
 
 doubles : (e : Evaluator) (w : World) (text : Text) → Doubles e w text
 doubles e w [] = doubles-nil e w
-doubles e w (byte ∷ text) =
-    ⊎_elim (λ h. doubles-dollar e w byte text h (doubles e w text))
-    (λ h. doubles-other e w byte text h (doubles e w text)) (cases_Bool (byte == 36))
+doubles e w (byte ∷ text) = grind (arith, ⊎_elim, doubles-dollar, doubles-other, cases_Bool, doubles e w text)
 
 pub doubled-expanded : (e : Evaluator) (w : World) (text : Text) → expanded e (doubled text) w ≡ Gave w text
 unfolding expanded terms_of after

@@ -1,5 +1,5 @@
 -- Bindings from the innermost on.
-use Rattle.std.proofs.Common.{◌≡◌, List, [], ◌∷◌, ◌++◌, Option, None, Some, option_map, Bor, refl, sym, ap, ◌∙◌, true≢false, is_some}
+use Rattle.std.proofs.Common.{arith, ◌≡◌, List, [], ◌∷◌, ◌++◌, Option, None, Some, option_map, Bor, refl, sym, ap, true≢false, is_some}
 use Rattle.kt_eval.proofs.Common.{Text, Frame, innermost, newer, seen}
 
 -- one more binding inside the others comes first
@@ -12,8 +12,7 @@ inner_first name found (other ∷ frames) frame = inner_first name (newer found 
 -- the innermost of them has a value
 pub innermost_says : (name : Text) (left outer : List Frame) (frame : Frame) (value : Text) (whole : Option Text) → left ≡ outer ++ frame ∷ []
     → Some value ≡ seen name frame → innermost name None left ≡ whole → Some value ≡ whole
-innermost_says name left outer frame value whole cut says is =
-    ap (newer (innermost name None outer)) says ∙ sym (inner_first name None outer frame) ∙ sym (ap (innermost name None) cut) ∙ is
+innermost_says name left outer frame value whole cut says is = grind (arith, inner_first)
 
 none_of : (said : Option Text) → ((value : Text) → said ≡ Some value → ⊥) → None ≡ said
 none_of None none = refl
@@ -23,8 +22,7 @@ none_of (Some value) none = absurd (none value refl)
 pub innermost_silent : (name : Text) (left outer : List Frame) (frame : Frame) (said whole : Option Text) → left ≡ outer ++ frame ∷ []
     → said ≡ seen name frame → ((value : Text) → said ≡ Some value → ⊥) → innermost name None left ≡ whole
     → innermost name None outer ≡ whole
-innermost_silent name left outer frame said whole cut says none is =
-    ap (newer (innermost name None outer)) (none_of said none ∙ says) ∙ sym (inner_first name None outer frame) ∙ sym (ap (innermost name None) cut) ∙ is
+innermost_silent name left outer frame said whole cut says none is = grind (arith, none_of, inner_first)
 
 -- what borrows no text has no value
 pub none_seen : (found : Option (Bor Text)) → ((value : Bor Text) → found ≡ Some value → ⊥)

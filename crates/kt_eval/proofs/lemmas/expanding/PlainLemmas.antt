@@ -1,5 +1,5 @@
 -- What a term gives without a further level is its expansion.
-use Rattle.std.proofs.Common.{◌≡◌, ℕ, zero, suc, ◌+◌, Bool, true, false, not, ◌==◌, ◌&&◌, [], ◌∷◌, length, Option, Some, None, if◌then◌else◌, unwrap_or, refl, sym, ap, ◌∙◌, arith, true≢false, is_some}
+use Rattle.std.proofs.Common.{◌≡◌, ℕ, zero, suc, ◌+◌, Bool, true, false, not, ◌==◌, ◌&&◌, [], ◌∷◌, length, Option, Some, None, if◌then◌else◌, refl, sym, ap, ◌∙◌, arith, true≢false, is_some}
 use Rattle.kt_eval.proofs.Common.{and_parts, eq-eqb, not-true, list_all, list_any, position_or_len, Text, is_colon, is_separator, Mark, Byte, Parentheses, Braces, Token, literal, dollar, reference, unclosed, Flavour, Deferred, Immediate, Found, Nothing, Value, Whole, Store, World, lookup, Gave, refers, asked_of, asked_by, naming_of, Evaluator, flavoured, value_of, body_of, value_named, referred, term_of, above, evaluator}
 use Rattle.kt_eval.specs.declared.state.Left.{Left}
 use Rattle.kt_eval.specs.inner.Plain.{is_plain, put_if, left_unless, put_of, still_deferred, value_left, put_by, left_by}
@@ -21,8 +21,7 @@ plain_is : (reads : Bool) (store : Store) (below : ℕ) (flavour : Flavour) (val
 unfolding evaluator above
 plain_is reads store below Immediate value w is = refl
 plain_is reads store zero Deferred value w is = absurd (true≢false (sym is))
-plain_is reads store (suc below) Deferred value w is =
-    stays (evaluator reads store below) value w (neither_is (suc below == 0) (list_any (λ byte. byte == 36) value) is)
+plain_is reads store (suc below) Deferred value w is = grind (arith, stays, neither_is)
 
 deferred_is : (e : Evaluator) (below : ℕ) (flavour : Flavour) (value : Text) (w : World) → is_plain below flavour value ≡ false
     → flavoured e flavour value w ≡ e.expand value w
@@ -45,26 +44,21 @@ module _ (reads : Bool) (store : Store) (below : ℕ) where
   left_when : (flavour : Flavour) (value text : Text) (w : World) (b : Bool) → is_plain below flavour value ≡ b → Some text ≡ left_unless b value
       → (flavoured (evaluator reads store below) flavour value w ≡ (evaluator reads store below).expand text w) × (put_if b value ≡ [])
   left_when flavour value text w true is some = absurd (no_text text (sym some))
-  left_when flavour value text w false is some =
-      (deferred_is (evaluator reads store below) below flavour value w is ∙ ap (λ o. (evaluator reads store below).expand (unwrap_or o []) w) (sym some), refl)
+  left_when flavour value text w false is some = grind (arith, deferred_is)
 
   -- a value that remains is expanded, and nothing of it was appended
   pub value_expanded : (found : Option Found) (text : Text) (w : World) → Some text ≡ still_deferred below found
       → (value_of (evaluator reads store below) found w ≡ (evaluator reads store below).expand text w) × (put_of below found ≡ [])
   unfolding value_of put_of still_deferred
   value_expanded None text w is = absurd (no_text text (sym is))
-  value_expanded (Some found) text w is =
-      left_when found.flavour found.value text w (is_plain below found.flavour found.value) refl is
+  value_expanded (Some found) text w is = grind (arith, left_when)
 
 -- ---- a name
 
 -- a byte of a plain name is no dollar, no colon and no separator
 byte_parts : (byte : ℕ) → is_name_byte byte ≡ true → ((byte == 36) ≡ false) × (((byte == 58) ≡ false) × (is_separator byte ≡ false))
 unfolding is_name_byte
-byte_parts byte is =
-    let one = and_parts (not (byte == 36)) (not (byte == 58) && not (is_separator byte)) is in
-    let two = and_parts (not (byte == 58)) (not (is_separator byte)) one.1 in
-    (not-true (byte == 36) one.0, (not-true (byte == 58) two.0, not-true (is_separator byte) two.1))
+byte_parts byte is = grind (arith, and_parts, not, not-true)
 
 no_dollar : (name : Text) → list_all is_name_byte name ≡ true → list_any (λ byte. byte == 36) name ≡ false
 no_dollar [] is = refl
@@ -97,9 +91,7 @@ asked_is mark name is = rw (eq-eqb (position_or_len is_separator name) (length n
 pub plainly_is : (e : Evaluator) (mark : Mark) (name : Text) (w : World) → names_plainly mark name ≡ true
     → referred e (asked_by mark name) w ≡ value_of e (lookup name w) w
 unfolding asked_by names_plainly
-plainly_is e Byte name w is =
-    let parts = and_parts (length name == 1) (list_all is_name_byte name) is in
-    rw parts.0 (named_is e name w parts.1)
+plainly_is e Byte name w is = grind (arith, and_parts, length, named_is)
 plainly_is e Parentheses name w is = rw (asked_is Parentheses name is) (named_is e name w is)
 plainly_is e Braces name w is = rw (asked_is Braces name is) (named_is e name w is)
 
@@ -136,9 +128,7 @@ module _ (reads : Bool) (store : Store) (below : ℕ) where
   named_put : (mark : Mark) (body : Text) (w : World) (b : Bool) → names_plainly mark body ≡ b
       → Nothing ≡ (if b then value_left (still_deferred below (lookup body w)) else Whole)
       → referred (evaluator reads store below) (asked_by mark body) w ≡ Gave w (if b then put_of below (lookup body w) else [])
-  named_put mark body w true is left =
-      plainly_is (evaluator reads store below) mark body w is
-      ∙ value_put reads store below (lookup body w) w (none_left (still_deferred below (lookup body w)) left)
+  named_put mark body w true is left = grind (arith, plainly_is, value_put, none_left)
   named_put mark body w false is left = absurd (true≢false (ap is_nothing left))
 
   -- if nothing remains, what was appended is the term's expansion

@@ -1,5 +1,5 @@
 -- A text that is one reference to a value that needs no expansion is that value.
-use Rattle.std.proofs.Common.{◌≡◌, ◌==◌, ◌∙◌, ℕ, Bool, false, true, [], ◌∷◌, Option, Some, None, refl, sym, ap, bytes_eq, IfSome}
+use Rattle.std.proofs.Common.{arith, ◌≡◌, ◌==◌, ℕ, Bool, false, true, [], ◌∷◌, Option, Some, None, refl, bytes_eq, IfSome}
 use Rattle.kt_eval.proofs.Common.{list_any, Text, Mark, reference, terms_of, Store, World, lookup, Gave, Evaluator, each_term, expanded, term_of, evaluator}
 use Rattle.kt_eval.specs.reading.Conditions.{Compared}
 use Rattle.kt_eval.specs.reading.Conditionals.{are_equal}
@@ -18,8 +18,7 @@ module _ (below : ℕ) (mark : Mark) (name : Text) (w : World) where
       → None ≡ still_deferred below (lookup name w)
       → expanded (evaluator reads store below) text w ≡ Gave w (put_of below (lookup name w))
   unfolding expanded each_term term_of
-  sole_is reads store text is plain none =
-      rw is (rw (plainly_is (evaluator reads store below) mark name w plain ∙ value_put reads store below (lookup name w) w none) refl)
+  sole_is reads store text is plain none = grind (arith, plainly_is, value_put)
 
   pub plainly_when : (compared : Compared) (result : Option Bool) → terms_of compared.first ≡ reference mark name ∷ []
       → names_plainly mark name ≡ true → list_any (λ byte. byte == 36) compared.second ≡ false
@@ -27,6 +26,4 @@ module _ (below : ℕ) (mark : Mark) (name : Text) (w : World) where
       → IfSome result (λ same. same ≡ bytes_eq (put_of below (lookup name w)) compared.second)
       → IfSome result (λ same. (reads : Bool) → (store : Store) → are_equal (evaluator reads store below) (Some compared) w ≡ Gave w same)
   plainly_when compared None is plain free none value = tt
-  plainly_when compared (Some same) is plain free none value = λ reads store.
-      equal_when (evaluator reads store below) compared (put_of below (lookup name w)) w (sole_is reads store compared.first is plain none) free
-      ∙ ap (λ b. Gave w b) (sym value)
+  plainly_when compared (Some same) is plain free none value = grind (arith, equal_when, sole_is)

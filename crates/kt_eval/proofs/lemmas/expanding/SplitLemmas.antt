@@ -1,5 +1,5 @@
 -- The arguments of a call, each without the text before it.
-use Rattle.std.proofs.Common.{◌≡◌, ◌==◌, ◌&&◌, ◌≤◌, ◌+◌, ◌-◌, ℕ, zero, suc, true, false, List, [], ◌∷◌, ◌++◌, Option, Some, None, length, take, drop, get_or, refl, sym, ap, subst, ◌∙◌, append_assoc, append-nil, ⊎_elim, arith, if◌then◌else◌}
+use Rattle.std.proofs.Common.{◌≡◌, ◌==◌, ◌&&◌, ◌≤◌, ◌+◌, ◌-◌, ℕ, zero, suc, true, false, List, [], ◌∷◌, ◌++◌, Option, Some, None, length, take, get_or, refl, sym, ap, subst, ◌∙◌, append_assoc, append-nil, ⊎_elim, arith, if◌then◌else◌}
 use Rattle.kt_eval.proofs.Common.{cases_Bool, eqb-true, eq-eqb, and_from, and_parts, false_from_ne_true, true≢false, false≢true, All, join_with_byte, onto_first, All-nil, All-cons, Text, Mark, Byte, Parentheses, Braces, count_of, count_yes, count_no, count_nil, opener, closer, may_cut, cuts, one_less, nested, arguments_from, arguments_of}
 use Rattle.kt_eval.specs.expanding.Arguments.{IsClosed, HoldsNoCut, IsUpTo, AreArguments}
 
@@ -52,27 +52,13 @@ before-split : (mark : Mark) (left : Option ℕ) (depth : ℕ) (text : Text)
     → before [] (split mark left depth text) ≡ split mark left depth text
 unfolding split before
 before-split mark left depth [] = refl
-before-split mark left depth (byte ∷ text) =
-    ⊎_elim (λ h. subst (λ (x : List Text). before [] x ≡ x) (sym (split-cut mark left depth byte text h)) refl)
-    (λ h. subst (λ (x : List Text). before [] x ≡ x) (sym (split-uncut mark left depth byte text h))
-    (before-nothing byte (split mark left (nested mark depth byte) text)))
-    (cases_Bool (cuts byte depth left))
+before-split mark left depth (byte ∷ text) = grind (arith, ⊎_elim, before, split-cut, split-uncut, before-nothing, cases_Bool)
 
 from-split : (mark : Mark) (left : Option ℕ) (depth : ℕ) (argument text : Text)
     → arguments_from mark left depth argument text ≡ before argument (split mark left depth text)
 unfolding split before arguments_from
 from-split mark left depth argument [] = ap (λ (x : Text). x ∷ []) (sym (append-nil argument))
-from-split mark left depth argument (byte ∷ text) =
-    ⊎_elim (λ h. from-cut mark left depth byte argument text h
-    ∙ ap (λ (x : List Text). argument ∷ x)
-    (from-split mark (one_less left) depth [] text ∙ before-split mark (one_less left) depth text)
-    ∙ ap (λ (x : Text). x ∷ split mark (one_less left) depth text) (sym (append-nil argument))
-    ∙ ap (before argument) (sym (split-cut mark left depth byte text h)))
-    (λ h. from-uncut mark left depth byte argument text h
-    ∙ from-split mark left (nested mark depth byte) (argument ++ byte ∷ []) text
-    ∙ sym (before-first argument byte (split mark left (nested mark depth byte) text))
-    ∙ ap (before argument) (sym (split-uncut mark left depth byte text h)))
-    (cases_Bool (cuts byte depth left))
+from-split mark left depth argument (byte ∷ text) = grind (arith, ⊎_elim, from-cut, before-split, append-nil, before, split-cut, from-uncut, before-first, split-uncut, cases_Bool, from-split mark (one_less left) depth [] text, from-split mark left (nested mark depth byte) (argument ++ byte ∷ []) text)
 
 pub arguments-split : (mark : Mark) (limit : Option ℕ) (text : Text)
     → arguments_of mark limit text ≡ split mark limit 0 text
@@ -114,17 +100,7 @@ data Moves (mark : Mark) (depth byte : ℕ) (text : Text) : Type 0 where
       → (count_of (closer mark) (byte ∷ text) ≡ count_of (closer mark) text) → Moves mark depth byte text
 
 moves : (mark : Mark) (depth byte : ℕ) (text : Text) → Moves mark depth byte text
-moves mark depth byte text =
-    ⊎_elim
-    (λ h. opens (nested-open mark depth byte h) (count_yes (opener mark) byte text h)
-    (count_no (closer mark) byte text (no_closer mark byte h)))
-    (λ h. ⊎_elim
-    (λ k. closes (nested-close mark depth byte h k) (count_no (opener mark) byte text h)
-    (count_yes (closer mark) byte text k))
-    (λ k. stays (nested-other mark depth byte h k) (count_no (opener mark) byte text h)
-    (count_no (closer mark) byte text k))
-    (cases_Bool (byte == closer mark)))
-    (cases_Bool (byte == opener mark))
+moves mark depth byte text = grind (arith, ⊎_elim, nested-open, count_yes, count_no, no_closer, nested-close, nested-other, cases_Bool)
 
 -- the marks of a text and those that are open before it are closed in it
 record ClosesAll (mark : Mark) (depth : ℕ) (text : Text) : Type 0 where
@@ -145,21 +121,13 @@ cons_closed mark byte text h closed (suc n) = closed n
 closes_cons : (mark : Mark) (depth byte : ℕ) (text : Text) → ClosesAll mark (nested mark depth byte) text
     → count_of (opener mark) (byte ∷ text) + depth ≤ count_of (closer mark) (byte ∷ text)
     → ClosesAll mark depth (byte ∷ text)
-closes_cons mark depth byte text k whole =
-    record { backs = cons_closed mark byte text (omega (arith, whole)) k.backs; all = whole }
+closes_cons mark depth byte text k whole = grind (arith, cons_closed)
 
 closes_more : (mark : Mark) (depth byte : ℕ) (text : Text) → Moves mark depth byte text
     → ClosesAll mark (nested mark depth byte) text → ClosesAll mark depth (byte ∷ text)
-closes_more mark depth byte text (opens n o c) k =
-    let all = k.all in
-    closes_cons mark depth byte text k (omega (arith, n, o, c, all))
-closes_more mark depth byte text (closes n o c) k =
-    let all = k.all in
-    let back = k.backs 0 in
-    closes_cons mark depth byte text k (omega (arith, n, o, c, all, back))
-closes_more mark depth byte text (stays n o c) k =
-    let all = k.all in
-    closes_cons mark depth byte text k (omega (arith, n, o, c, all))
+closes_more mark depth byte text (opens n o c) k = grind (arith, closes_cons)
+closes_more mark depth byte text (closes n o c) k = grind (arith, closes_cons)
+closes_more mark depth byte text (stays n o c) k = grind (arith, closes_cons)
 
 closes_tail : (mark : Mark) (depth byte : ℕ) (text : Text) → ClosesAll mark depth (byte ∷ text)
     → count_of (opener mark) text + nested mark depth byte ≤ count_of (closer mark) text
@@ -168,33 +136,23 @@ closes_tail mark depth byte text k whole = record { backs = λ m. k.backs (suc m
 
 closes_less : (mark : Mark) (depth byte : ℕ) (text : Text) → Moves mark depth byte text
     → ClosesAll mark depth (byte ∷ text) → ClosesAll mark (nested mark depth byte) text
-closes_less mark depth byte text (opens n o c) k =
-    let all = k.all in
-    closes_tail mark depth byte text k (omega (arith, n, o, c, all))
+closes_less mark depth byte text (opens n o c) k = grind (arith, closes_tail)
 closes_less mark depth byte text (closes n o c) k =
     let all = k.all in
     let back = k.backs 1 in
     closes_tail mark depth byte text k (omega (arith, n, o, c, all, back))
-closes_less mark depth byte text (stays n o c) k =
-    let all = k.all in
-    closes_tail mark depth byte text k (omega (arith, n, o, c, all))
+closes_less mark depth byte text (stays n o c) k = grind (arith, closes_tail)
 
 closes_from : (mark : Mark) (depth : ℕ) (text : Text) → open_after mark depth text ≡ 0 → ClosesAll mark depth text
 unfolding open_after
-closes_from mark depth [] e =
-    let none = count_nil (opener mark) in
-    record { backs = nil_closed mark; all = omega (arith, none, e) }
+closes_from mark depth [] e = grind (arith, count_nil, nil_closed)
 closes_from mark depth (byte ∷ text) e =
     closes_more mark depth byte text (moves mark depth byte text) (closes_from mark (nested mark depth byte) text e)
 
 closes_to : (mark : Mark) (depth : ℕ) (text : Text) → ClosesAll mark depth text → open_after mark depth text ≡ 0
 unfolding open_after
-closes_to mark depth [] k =
-    let none = count_nil (closer mark) in
-    let all = k.all in
-    omega (arith, none, all)
-closes_to mark depth (byte ∷ text) k =
-    closes_to mark (nested mark depth byte) text (closes_less mark depth byte text (moves mark depth byte text) k)
+closes_to mark depth [] k = grind (arith, count_nil)
+closes_to mark depth (byte ∷ text) k = grind (arith, closes_less, moves, closes_to mark (nested mark depth byte) text (closes_less mark depth byte text (moves mark depth byte text) k))
 
 -- a text is closed if no mark is open at its end
 pub closed_from : (mark : Mark) (text : Text) → open_after mark 0 text ≡ 0 → IsClosed mark text
@@ -228,8 +186,7 @@ nil_cut (byte ∷ front) back e = let l = ap length e in absurd (omega (arith, l
 
 cut_byte : (byte depth : ℕ) (left : Option ℕ) → byte ≡ 44 → depth ≡ 0 → may_cut left ≡ true
     → cuts byte depth left ≡ true
-cut_byte byte depth left comma even more = and_from (byte == 44) (depth == 0 && may_cut left)
-    (eq-eqb byte 44 comma) (and_from (depth == 0) (may_cut left) (eq-eqb depth 0 even) more)
+cut_byte byte depth left comma even more = grind (arith, and_from, eq-eqb)
 
 uncut_byte : (mark : Mark) (left : Option ℕ) (depth byte : ℕ) (text : Text)
     → (may_cut left ≡ true → Uncut mark depth (byte ∷ text)) → cuts byte depth left ≡ false
@@ -249,21 +206,15 @@ uncut_cons : (mark : Mark) (left : Option ℕ) (depth byte : ℕ) (text : Text) 
     → may_cut left ≡ true
     → Uncut mark (nested mark depth byte) text → Uncut mark depth (byte ∷ text)
 unfolding open_after
-uncut_cons mark left depth byte text h more uncut [] back e z =
-    let comma : byte ≡ 44 = ap (λ (x : Text). get_or x 0 0) e in
-    true≢false (sym (cut_byte byte depth left comma z more) ∙ h)
-uncut_cons mark left depth byte text h more uncut (other ∷ front) back e z =
-    let same : other ≡ byte = sym (ap (λ (x : Text). get_or x 0 0) e) in
-    uncut front back (ap (drop 1) e) (subst (λ (b : ℕ). open_after mark (nested mark depth b) front ≡ 0) same z)
+uncut_cons mark left depth byte text h more uncut [] back e z = grind (arith, get_or, true≢false, cut_byte)
+uncut_cons mark left depth byte text h more uncut (other ∷ front) back e z = grind (arith, get_or, open_after)
 
 -- an argument before a comma that cuts
 split_at : (mark : Mark) (left : Option ℕ) (depth : ℕ) (argument rest : Text) → may_cut left ≡ true
     → open_after mark depth argument ≡ 0 → Uncut mark depth argument
     → split mark left depth (argument ++ 44 ∷ rest) ≡ argument ∷ split mark (one_less left) 0 rest
 unfolding open_after
-split_at mark left depth [] rest more even uncut =
-    split-cut mark left depth 44 rest (cut_byte 44 depth left refl even more)
-    ∙ ap (λ (n : ℕ). [] ∷ split mark (one_less left) n rest) even
+split_at mark left depth [] rest more even uncut = grind (arith, split-cut, cut_byte)
 split_at mark left depth (byte ∷ argument) rest more even uncut =
     split-uncut mark left depth byte (argument ++ 44 ∷ rest) (uncut_byte mark left depth byte argument (λ _. uncut))
     ∙ ap (onto_first byte) (split_at mark left (nested mark depth byte) argument rest more even

@@ -1,6 +1,6 @@
 -- The first place of a byte outside parentheses is found.
-use Rattle.std.proofs.Common.{◌≡◌, ◌==◌, ◌&&◌, ◌≤◌, ◌<◌, ◌-◌, ◌+◌, ℕ, zero, suc, true, false, [], ◌∷◌, Option, Some, None, length, take, refl, sym, ap, subst, ◌∙◌, arith, zero-add, ⊎_elim, slice_index, MatchOption}
-use Rattle.kt_eval.proofs.Common.{and_from, and_parts, cases_Bool, eq-eqb, eqb-true, false≢true, Text, count_of, Closes, after-close, after-open, after-other, closes-close, closes-open, closes-other, count_nil}
+use Rattle.std.proofs.Common.{◌≡◌, ◌==◌, ◌&&◌, ◌<◌, ◌-◌, ◌+◌, ℕ, zero, suc, true, false, [], ◌∷◌, Option, Some, None, length, take, refl, sym, ap, subst, ◌∙◌, arith, zero-add, ⊎_elim, slice_index, MatchOption}
+use Rattle.kt_eval.proofs.Common.{and_from, and_parts, cases_Bool, eq-eqb, eqb-true, false≢true, Text, Closes, after-close, after-open, after-other, closes-close, closes-open, closes-other, count_nil}
 use Rattle.kt_list.proofs.general.Numbers.{above_zero, sum_suc}
 use Rattle.kt_eval.specs.reading.Conditions.{bare_place}
 use Rattle.kt_eval.specs.reading.BarePlaces.{BarePlaceLaw, IsBare, IsFirstBare}
@@ -51,11 +51,7 @@ nothing_open : (depth : ℕ) → Closes 40 41 depth [] → depth ≡ 0
 nothing_open depth c = let a = count_nil 40 in let b = count_nil 41 in let e = c.even in omega arith
 
 closed_nothing : Closes 40 41 0 []
-closed_nothing = record { fronts = front; even = (let a = count_nil 40 in let b = count_nil 41 in omega arith) }
-  where
-    front : (n : ℕ) → count_of 41 (take n []) ≤ 0 + count_of 40 (take n [])
-    front zero = let a = count_nil 41 in omega arith
-    front (suc n) = let a = count_nil 41 in omega arith
+closed_nothing = grind (arith, count_nil, take)
 
 not_this : (wanted depth byte : ℕ) (text : Text) → (depth == 0 && byte == wanted) ≡ false → ¬ IsBareIn wanted depth (byte ∷ text) 0
 not_this wanted depth byte text h bare =
@@ -137,25 +133,14 @@ looked_for wanted depth at (byte ∷ text) =
 -- ---- nothing open before the text
 
 bare_in : (wanted : ℕ) (text : Text) (place : ℕ) → IsBare wanted text place → IsBareIn wanted 0 text place
-bare_in wanted text place bare = record {
-  within = bare.within;
-  is = bare.is;
-  closes = record { fronts = λ n. let f = bare.balanced.fronts n in omega arith; even = (let e = bare.balanced.even in omega arith) };
-}
+bare_in wanted text place bare = grind arith
 
 bare_of : (wanted : ℕ) (text : Text) (place : ℕ) → IsBareIn wanted 0 text place → IsBare wanted text place
-bare_of wanted text place bare = record {
-  within = bare.within;
-  is = bare.is;
-  balanced = record { fronts = λ n. let f = bare.closes.fronts n in omega arith; even = (let e = bare.closes.even in omega arith) };
-}
+bare_of wanted text place bare = grind arith
 
 first_bare : (wanted : ℕ) (text : Text) (found : Option ℕ) → Search wanted 0 0 text found → MatchOption found ((place : ℕ) → ¬ IsBare wanted text place) (IsFirstBare wanted text)
 first_bare wanted text None none = λ place bare. none place (bare_in wanted text place bare)
-first_bare wanted text (Some place) some =
-    let same : some.0 ≡ place = sym (some.1 ∙ zero-add some.0) in
-    subst (IsFirstBare wanted text) same
-    (record { is = bare_of wanted text some.0 some.2; first = λ k l bare. some.3 k l (bare_in wanted text k bare) })
+first_bare wanted text (Some place) some = grind (arith, zero-add, bare_of, bare_in)
 
 pub bare_place_law : BarePlaceLaw
 bare_place_law wanted text = first_bare wanted text (bare_place wanted 0 0 text) (looked_for wanted 0 0 text)

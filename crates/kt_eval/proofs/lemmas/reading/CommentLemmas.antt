@@ -1,6 +1,6 @@
 -- A line that is blank only moves the place, and the next line moves it too.
 use Rattle.std.proofs.Common.{◌≡◌, ℕ, ◌+◌, ◌<◌, ◌≤◌, false, List, Some, arith, refl, sym, ap, ◌∙◌, Err, IfOk, Ok, Result, unwrap_or}
-use Rattle.kt_eval.proofs.Common.{Stop, slice_get, Items, line, blank, line_kind, ReadsOn, left_at, Source, File, Held, World, Gave, then_do, Evaluator, Raw, Sheet, at_line, at_number, line_at, read_items, read_kind, read_line}
+use Rattle.kt_eval.proofs.Common.{Stop, slice_get, Items, line, blank, line_kind, ReadsOn, Source, File, Held, World, Gave, Evaluator, Raw, Sheet, at_line, at_number, line_at, read_items, read_kind, read_line}
 use Rattle.kt_syntax.specs.declared.step.Step.{Step as Found}
 use Rattle.kt_syntax.specs.declared.step.Step.TheVariants as step
 use Rattle.kt_eval.specs.inner.Doing.{ReadsAlike}
@@ -19,18 +19,11 @@ passed_line : (e : Evaluator) (sheet : Sheet) (place at : ℕ) (next : Items) (w
     → read_line e (line_at sheet.lines place) (at_line sheet place w) ≡ Gave (at_line sheet place w) tt
     → read_items e sheet (line place (line at next)) w ≡ read_items e sheet (line at next) w
 unfolding read_items
-passed_line e sheet place at next w read =
-    rw read
-    (ap (λ v. then_do (read_line e (line_at sheet.lines at) v) (λ _. read_items e sheet next))
-    (moved_again sheet.source (line_at sheet.lines place).number (line_at sheet.lines at).number w))
+passed_line e sheet place at next w read = grind (arith, moved_again)
 
 pub comment_passed : (sheet : Sheet) (place : ℕ) → ReadsOn sheet.blocks.steps place step.Line → ReadsOn sheet.blocks.steps (place + 1) step.Line
     → (line_at sheet.lines place).tab ≡ false → line_kind (line_at sheet.lines place).text false ≡ blank → ReadsAlike sheet place (place + 1)
-comment_passed sheet place first second tab kind = λ e w.
-    let next = left_at sheet.blocks.steps (place + 1 + 1) in
-    ap (λ items. read_items e sheet items w) (first ∙ ap (line place) second)
-    ∙ passed_line e sheet place (place + 1) next w (blank_read e (line_at sheet.lines place) (at_line sheet place w) tab kind)
-    ∙ sym (ap (λ items. read_items e sheet items w) second)
+comment_passed sheet place first second tab kind = grind (arith, passed_line, blank_read)
 
 pub one_step : (steps : List Found) (place : ℕ) (found other : Found) → slice_get steps place ≡ Some found → slice_get steps place ≡ Some other → found ≡ other
 one_step steps place found other is too = ap (λ s. unwrap_or s found) (sym is ∙ too)

@@ -1,5 +1,5 @@
 -- A reading from its first line to its end.
-use Rattle.std.proofs.Common.{◌≡◌, ℕ, List, [], Result, Ok, Err, refl, sym, true}
+use Rattle.std.proofs.Common.{arith, ◌≡◌, ℕ, List, [], Result, Ok, Err, refl, true}
 use Rattle.kt_eval.proofs.Common.{Text, Rule, Stop, Store, Table, World, Frame, Outcome, Gave, Stopped, Gives, IfCut, leaving, left_of, then_do, told, asked_for, GoesOn, evaluator, read_first}
 use Rattle.kt_eval.specs.declared.stop.Stop.TheVariants as stops
 use Rattle.kt_eval.specs.reading.Machine.{ComesBefore, Read, Trace, first_world, read_of, reading, trace_of, traced}
@@ -38,14 +38,12 @@ module _ (names : List Text) (limit : ℕ) (before : Read) (trace : Trace) (fram
   pub reads_when : (store : Store)
       → Gives (λ u. u) result w (read_first store (evaluator true store limit) names (record (first_world before trace) { frames = frames }))
       → Gives (λ _. read_of table book) result (traced said asked) (reading store names limit before trace)
-  reads_when store h = rw (sym t, sym b, sym s, sym a)
-      (ends_so result w (read_first store (evaluator true store limit) names (first_world before trace)) (rw empty at h))
+  reads_when store h = grind (arith, ends_so)
 
   pub cut_when : (store : Store)
       → IfCut result (GoesOn w (left_of (read_first store (evaluator true store limit) names (record (first_world before trace) { frames = frames }))))
       → IfCut result (ComesBefore (traced said asked) (left_of (reading store names limit before trace)))
-  cut_when store h = rw (sym s, sym a)
-      (cut_so result w (read_first store (evaluator true store limit) names (first_world before trace)) (rw empty at h))
+  cut_when store h = grind (arith, cut_so)
 
 -- before the first line the messages and the names are a prefix of those of the reading
 pub before_reading : (store : Store) (names : List Text) (limit : ℕ) (before : Read) (trace : Trace)

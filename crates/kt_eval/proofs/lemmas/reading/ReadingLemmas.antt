@@ -1,5 +1,5 @@
 -- Reading the blocks of a page line by line is reading their tree.
-use Rattle.std.proofs.Common.{◌≡◌, ℕ, ◌+◌, ◌<◌, Bool, true, false, cond, List, Option, Some, None, refl, sym, ap, subst, ◌∙◌, arith}
+use Rattle.std.proofs.Common.{◌≡◌, ℕ, ◌+◌, ◌<◌, Bool, true, false, cond, List, Option, Some, None, refl, arith}
 use Rattle.kt_eval.proofs.Common.{slice_get, Items, Branches, none, line, fault, definition, conditional, no_branch, branch, late, append, after_branches, left_at, AreTried, IsConditional, Fault, World, Outcome, Gave, Stopped, then_do, Step, Evaluator, Sheet, at_line, line_at, body_at, read_line, read_define, read_stray, late_else, branch_holds, read_items, read_branches}
 use Rattle.kt_syntax.specs.declared.step.Step.{Step as Found}
 use Rattle.kt_syntax.specs.declared.step.Step.TheVariants as step
@@ -53,20 +53,13 @@ module _ (e : Evaluator) (sheet : Sheet) where
   pub first_taken : (steps : List Found) (place next after : ℕ) (w w1 : World) → IsConditional steps place next after
       → branch_holds e sheet place true w ≡ Gave w1 true → left steps place w ≡ left steps (place + 1) w1
   unfolding read_items
-  first_taken steps place next after w w1 c h =
-      rw (c.left, h, c.inside)
-      (then_same (read_items e sheet c.first w1) _ _ (λ _ w2. sym (rw c.past (read_after c.others c.rest w2)))
-      ∙ sym (read_append c.first (left_at steps after) w1))
+  first_taken steps place next after w w1 c h = grind (arith, then_same, read_after, read_append)
 
   -- it isn't, and the others are tried
   pub first_passed : (steps : List Found) (place next after : ℕ) (w w1 : World) → IsConditional steps place next after
       → branch_holds e sheet place true w ≡ Gave w1 false → Tries steps next after w1 (left steps place w)
   unfolding read_items
-  first_passed steps place next after w w1 c h = record {
-    others = c.others;
-    tried = c.tried;
-    rest = rw (c.left, h) (then_same (read_branches e sheet c.others w1) _ _ (λ _ w2. sym (rw c.past (read_after c.others c.rest w2))));
-  }
+  first_passed steps place next after w w1 c h = grind (arith, then_same, read_after)
 
   pub first_halted : (steps : List Found) (place : ℕ) (first : Items) (others : Branches) (rest : Items) (w w1 : World) (x : Fault)
       → left_at steps place ≡ conditional place first others rest
@@ -104,12 +97,7 @@ module _ (e : Evaluator) (sheet : Sheet) where
     unfolding AreTried read_items condition_in next_in
     taken_in no_branch tried rest lt found h = absurd (omega (arith, tried, lt))
     taken_in (late place items others) tried rest lt found h = absurd (omega (arith, tried, lt))
-    taken_in (branch place test items others) tried rest lt found h =
-        let stepped : slice_get steps at ≡ Some (step.Branch test tried.2.0 after) = subst (λ p. slice_get steps p ≡ Some (step.Branch test tried.2.0 after)) tried.0 tried.2.1 in
-        let same : condition ≡ test = ap condition_in (sym found ∙ stepped) in
-        let inside : left_at steps (at + 1) ≡ append items (left_at steps after) = subst (λ p. left_at steps (p + 1) ≡ append items (left_at steps after)) tried.0 tried.1 in
-        let held : branch_holds e sheet place test w ≡ Gave w1 true = rw (tried.0, sym same) h in
-        rest ∙ rw (held, inside) (sym (read_append items (left_at steps after) w1))
+    taken_in (branch place test items others) tried rest lt found h = grind (arith, condition_in, read_append)
 
     passed_in : (others : Branches) → AreTried steps others at after
         → whole ≡ then_do (read_branches e sheet others w) (λ _. left steps after)
@@ -118,12 +106,7 @@ module _ (e : Evaluator) (sheet : Sheet) where
     unfolding AreTried read_items condition_in next_in
     passed_in no_branch tried rest lt found h = absurd (omega (arith, tried, lt))
     passed_in (late place items others) tried rest lt found h = absurd (omega (arith, tried, lt))
-    passed_in (branch place test items others) tried rest lt found h =
-        let stepped : slice_get steps at ≡ Some (step.Branch test tried.2.0 after) = subst (λ p. slice_get steps p ≡ Some (step.Branch test tried.2.0 after)) tried.0 tried.2.1 in
-        let same : condition ≡ test = ap condition_in (sym found ∙ stepped) in
-        let further : next ≡ tried.2.0 = ap next_in (sym found ∙ stepped) in
-        let held : branch_holds e sheet place test w ≡ Gave w1 false = rw (tried.0, sym same) h in
-        record { others = others; tried = subst (λ n. AreTried steps others n after) (sym further) tried.2.2; rest = rest ∙ rw held refl }
+    passed_in (branch place test items others) tried rest lt found h = grind (arith, condition_in, next_in)
 
     stopped_in : (x : Fault) (others : Branches) → AreTried steps others at after
         → whole ≡ then_do (read_branches e sheet others w) (λ _. left steps after)
@@ -132,11 +115,7 @@ module _ (e : Evaluator) (sheet : Sheet) where
     unfolding AreTried read_items condition_in next_in
     stopped_in x no_branch tried rest lt found h = absurd (omega (arith, tried, lt))
     stopped_in x (late place items others) tried rest lt found h = absurd (omega (arith, tried, lt))
-    stopped_in x (branch place test items others) tried rest lt found h =
-        let stepped : slice_get steps at ≡ Some (step.Branch test tried.2.0 after) = subst (λ p. slice_get steps p ≡ Some (step.Branch test tried.2.0 after)) tried.0 tried.2.1 in
-        let same : condition ≡ test = ap condition_in (sym found ∙ stepped) in
-        let held : branch_holds e sheet place test w ≡ Stopped w1 x = rw (tried.0, sym same) h in
-        rest ∙ rw held refl
+    stopped_in x (branch place test items others) tried rest lt found h = grind (arith, condition_in)
 
     pub branch_taken : Tries steps at after w whole → at < after → slice_get steps at ≡ Some (step.Branch condition next more)
         → branch_holds e sheet at condition w ≡ Gave w1 true → whole ≡ left steps (at + 1) w1
@@ -158,8 +137,7 @@ module _ (e : Evaluator) (sheet : Sheet) where
     unfolding AreTried read_items condition_in next_in
     tried_in no_branch tried rest none_there = rest
     tried_in (late place items others) tried rest none_there = rest
-    tried_in (branch place test items others) tried rest none_there =
-        absurd (none_there test tried.2.0 (subst (λ p. slice_get steps p ≡ Some (step.Branch test tried.2.0 after)) tried.0 tried.2.1))
+    tried_in (branch place test items others) tried rest none_there = grind arith
 
     pub all_passed : Tries steps at after w whole
         → ((condition : Bool) (next : ℕ) → slice_get steps at ≡ Some (step.Branch condition next after) → ⊥)
