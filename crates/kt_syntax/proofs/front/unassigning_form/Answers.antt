@@ -1,11 +1,9 @@
-use Rattle.std.proofs.Common.{◌∙◌, sym}
+use Rattle.std.proofs.Common.{arith, ◌∙◌, sym}
 use Rattle.kt_syntax.proofs.LeadingForms.{form_colon, form_worded}
 use Rattle.kt_syntax.proofs.front.unassigning_form.Goals as goal
 
 pub returns-then-begins_colon : goal.returns-then-begins_colon
-returns-then-begins_colon c =
-    form_colon c.args.word.now c.args.after.now c.args.rest.now c.args.tab c.requires.quiet c.requires.some c.requires.rest c.requires.none
-    (sym c.begins_colon.ensures ∙ c.if-begins_colon.true)
+returns-then-begins_colon c = grind (arith, form_colon)
 
 pub returns : goal.returns
 returns c =

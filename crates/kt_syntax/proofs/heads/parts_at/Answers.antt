@@ -1,11 +1,9 @@
-use Rattle.std.proofs.Common.{sym, ◌∙◌}
+use Rattle.std.proofs.Common.{arith}
 use Rattle.kt_syntax.proofs.HeadLemmas.{texts_none, texts_some}
 use Rattle.kt_syntax.proofs.heads.parts_at.Goals as goal
 
 pub returns-then-is_target_specific : goal.returns-then-is_target_specific
-returns-then-is_target_specific c =
-    texts_none c.args.text.now _ c.args.end c.requires.end (sym c.is_target_specific.ensures ∙ c.if-is_target_specific.true)
+returns-then-is_target_specific c = grind (arith, texts_none)
 
 pub returns : goal.returns
-returns c =
-    texts_some c.args.text.now _ _ c.args.end c.requires.end (sym c.is_target_specific.ensures ∙ c.if-is_target_specific.false) c.head_text.ensures
+returns c = grind (arith, texts_some)

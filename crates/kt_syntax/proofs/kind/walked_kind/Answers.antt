@@ -1,12 +1,10 @@
-use Rattle.std.proofs.Common.{Some, None, ap, ◌∙◌, List, ℕ}
+use Rattle.std.proofs.Common.{arith, Some, None, ap, ◌∙◌, List, ℕ}
 use Rattle.kt_syntax.proofs.Common.{take_rest, slice_range, assignment}
 use Rattle.kt_syntax.proofs.Kinding.{kind_blank, kind_other}
 use Rattle.kt_syntax.proofs.kind.walked_kind.Goals as goal
 
 pub returns-then-begin-end : goal.returns-then-begin-end
-returns-then-begin-end c =
-    kind_blank c.args.text.now c.args.tab c.comment_place-end.result c.past_blanks-begin.result c.comment_place-end.ensures.value c.comment_place-end.ensures.bound
-    c.past_blanks-begin.ensures.value c.if-begin-end.true
+returns-then-begin-end c = grind (arith, kind_blank)
 
 pub returns-in-Some : goal.returns-in-Some
 returns-in-Some c =

@@ -1,4 +1,4 @@
-use Rattle.std.proofs.Common.{ap, ◌∙◌, sym}
+use Rattle.std.proofs.Common.{arith, ◌∙◌, sym}
 use Rattle.kt_syntax.proofs.Masking.{past-newline, past-return, past-other}
 use Rattle.kt_syntax.proofs.mask.after_mark.Goals as goal
 
@@ -9,7 +9,4 @@ pub returns-then-starts_with-2-clause-value : goal.returns-then-starts_with-2-cl
 returns-then-starts_with-2-clause-value c = past-return c.args.text.now (sym c.starts_with-else-starts_with.ensures.value ∙ c.if-starts_with-2.true)
 
 pub returns-else-starts_with-2-clause-value : goal.returns-else-starts_with-2-clause-value
-returns-else-starts_with-2-clause-value c =
-    c.after_dollar.ensures.taken
-    ∙ ap (λ x. x.1) (past-other c.args.text.now (sym c.starts_with.ensures.value ∙ c.if-starts_with.false)
-    (sym c.starts_with-else-starts_with.ensures.value ∙ c.if-starts_with-2.false))
+returns-else-starts_with-2-clause-value c = grind (arith, past-other)

@@ -1,4 +1,4 @@
-use Rattle.std.proofs.Common.{◌==◌, arith}
+use Rattle.std.proofs.Common.{arith}
 use Rattle.std.proofs.lemmas.Bool.{eqb-true, false_from_ne_true}
 use Rattle.kt_syntax.proofs.Masking.{step-inside, step-outside}
 use Rattle.kt_syntax.proofs.OwnSymbols.{own_step}
@@ -8,13 +8,7 @@ pub returns-then-skip-gt0 : goal.returns-then-skip-gt0
 returns-then-skip-gt0 c = rw c.copy.ensures (step-inside c.args.skip c.args.symbol.now c.args.odd c.args.byte c.args.text.now (omega arith))
 
 pub returns-then-byte-ne92 : goal.returns-then-byte-ne92
-returns-then-byte-ne92 c =
-    rw c.of.ensures
-    (own_step c.args.skip c.args.symbol.now c.args.odd c.args.byte c.args.text.now (omega arith)
-    (false_from_ne_true (c.args.byte == 36) (λ e. c.if-byte-ne36.true (eqb-true c.args.byte 36 e)))
-    (false_from_ne_true (c.args.byte == 92) (λ e. c.if-byte-ne92.true (eqb-true c.args.byte 92 e))))
+returns-then-byte-ne92 c = grind (arith, own_step, false_from_ne_true, eqb-true)
 
 pub returns : goal.returns
-returns c =
-    step-outside c.args.skip c.args.symbol.now c.args.odd c.args.byte c.args.text.now c.more_masked-more.result c.mask_byte.result (omega arith) c.more_masked-more.ensures.value
-    c.mask_byte.ensures
+returns c = grind (arith, step-outside)

@@ -1,6 +1,6 @@
-use Rattle.std.proofs.Common.{◌≡◌, false, sym, ap, ◌∙◌}
+use Rattle.std.proofs.Common.{arith, sym}
 use Rattle.std.proofs.lemmas.Bool.{not-true}
-use Rattle.kt_syntax.specs.Roles.{line_text, may_open}
+use Rattle.kt_syntax.specs.Roles.{line_text}
 use Rattle.kt_syntax.proofs.RoleLemmas.{first_role, tab_role}
 use Rattle.kt_syntax.proofs.role.opens_nothing.Goals as goal
 
@@ -8,6 +8,4 @@ pub returns-then-line-clause-role : goal.returns-then-line-clause-role
 returns-then-line-clause-role c = λ _. rw c.if-line.true (sym (tab_role (line_text c.args.text.now c.args.line.now)))
 
 pub returns-clause-role : goal.returns-clause-role
-returns-clause-role c = λ shut.
-    let closed : may_open c.line_text.result.now ≡ false = sym c.may_open.ensures ∙ not-true _ shut in
-    rw c.if-line.false (sym (first_role (line_text c.args.text.now c.args.line.now) (ap may_open (sym c.line_text.ensures) ∙ closed)))
+returns-clause-role c = grind (arith, not-true, first_role)
