@@ -177,7 +177,8 @@ class Quick(unittest.TestCase):
     def test_a_command_of_many_calls_is_looked_at_once(self):
         probes = types.SimpleNamespace(asked=[{}, {}, {}, {}])
         probes.asked_behind = lambda call, numbers: {"cat a b": None} if numbers is probes.asked[1] else {}
-        port = types.SimpleNamespace(probes=probes, copy=types.SimpleNamespace(real_text=str))
+        port = types.SimpleNamespace(probes=probes, copy=types.SimpleNamespace(real_text=str),
+                                     first=types.SimpleNamespace(by_recipes=()))
         freezer = freezing.Freezer(port)
         with mock.patch.object(command_reads, "reads_of", return_value=["a", "b"]) as reads:
             self.assertEqual([freezer.watched_by_calls([one]) for one in range(50)], [["a", "b"]] * 50)
