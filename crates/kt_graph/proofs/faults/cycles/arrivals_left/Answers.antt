@@ -1,15 +1,10 @@
-use Rattle.std.proofs.Common.{◌≡◌, ◌+◌, ◌-◌, ◌<◌, [], subst, arith}
-use Rattle.kt_graph.proofs.Common.{range_with_len, AreCounted, count_of}
+use Rattle.std.proofs.Common.{◌+◌, ◌-◌, ◌<◌, arith}
+use Rattle.kt_graph.proofs.Common.{range_with_len, count_of}
 use Rattle.kt_graph.proofs.lemmas.faults.ArrivalLemmas.{begun, next_turn, turn_taken}
 use Rattle.kt_graph.proofs.faults.cycles.arrivals_left.Goals as goal
 
 pub loop-vertex-init : goal.loop-vertex-init
-loop-vertex-init c =
-    let all : count_of c.args.edges.now ≡ count_of c.args.edges.now - 0 = omega arith in (
-      c.new-work.ensures.items,
-      subst (λ n. AreCounted c.args.edges.now c.in_ok-counts.counts.items [] (range_with_len 0 n)) all
-          (begun c.args.edges.now c.in_ok-counts.counts.items c.in_ok-counts.ensures),
-    )
+loop-vertex-init c = grind (arith, begun)
 
 pub loop-vertex-preserved : goal.loop-vertex-preserved
 loop-vertex-preserved c =

@@ -1,4 +1,4 @@
-use Rattle.std.proofs.Common.{◌≡◌, ℕ, List, [], sym, ◌∙◌, subst, arith}
+use Rattle.std.proofs.Common.{◌≡◌, ℕ, List, [], subst, arith}
 use Rattle.kt_graph.proofs.Common.{append-nil, nil_from_length, AreCounted}
 use Rattle.kt_graph.proofs.lemmas.faults.ArrivalLemmas.{after_more, many_after}
 use Rattle.kt_graph.proofs.faults.cycles.leave_after.Goals as goal
@@ -18,9 +18,7 @@ loop-vertex-smaller c =
     omega arith
 
 pub returns-clause-done : goal.returns-clause-done
-returns-clause-done c =
-    let none : c.loop-vertex.work.items ≡ [] = nil_from_length c.loop-vertex.work.items (omega (arith, c.in_default.ensures.cases.0, c.loop-vertex.work.ok.0)) in
-    sym (append-nil c.pop.new.self.items) ∙ sym c.in_default.ensures.items ∙ none
+returns-clause-done c = grind (arith, nil_from_length, append-nil)
 
 pub returns-clause-counted : goal.returns-clause-counted
 returns-clause-counted c = λ rest counted.

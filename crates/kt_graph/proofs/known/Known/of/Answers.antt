@@ -1,5 +1,5 @@
-use Rattle.std.proofs.Common.{◌∙◌, [], List, fold, sym, ap}
-use Rattle.kt_graph.proofs.Common.{flat_map, Text, with_name, without_repeats, suffixes_of, known_names, listed_names, named_by}
+use Rattle.std.proofs.Common.{arith, ◌∙◌, List, fold, ap}
+use Rattle.kt_graph.proofs.Common.{Text, with_name, without_repeats, known_names, listed_names}
 use Rattle.std.proofs.lemmas.Grind.{fold-append}
 use Rattle.kt_graph.proofs.lemmas.EndMarkLemmas.{both_marked}
 use Rattle.kt_graph.proofs.known.Known.of.Goals as goal
@@ -13,10 +13,4 @@ invariant_of-result c =
 
 pub returns : goal.returns
 unfolding known_names without_repeats
-returns c =
-    let rules = c.args.book.now in
-    let listed = listed_names c.args.files.now in
-    let named = flat_map (named_by (suffixes_of rules)) rules in
-    ap (fold with_name c.add_listed.new.names) c.in_ok-book.ensures
-    ∙ ap (λ (names : List Text). fold with_name names named) (c.in_ok-add_listed.ensures.added ∙ ap (λ (names : List Text). fold with_name names listed) c.in_ok-list.ensures)
-    ∙ sym (fold-append with_name [] listed named)
+returns c = grind (arith, fold-append)

@@ -1,5 +1,5 @@
-use Rattle.std.proofs.Common.{◌≡◌, ◌∙◌, ap, fold, subst}
-use Rattle.kt_graph.proofs.Common.{needs_for, with_name, rule_view, all_needs, needs_view, needing_view, SaysNeeds, Part}
+use Rattle.std.proofs.Common.{arith, ◌≡◌, ◌∙◌, ap, subst}
+use Rattle.kt_graph.proofs.Common.{needs_for, rule_view, needs_view, needing_view, SaysNeeds, Part}
 use Rattle.kt_graph.proofs.lemmas.nodes.BuildingLemmas.{joined_own}
 use Rattle.kt_graph.proofs.nodes.building.double_part.Goals as goal
 
@@ -16,6 +16,4 @@ returns-clause-says c =
     }
 
 pub returns-clause-reached : goal.returns-clause-reached
-returns-clause-reached c =
-    c.in_ok-number_needs.ensures.reached
-    ∙ ap (λ n. fold with_name c.args.names.now (all_needs n)) (c.after-needing.ensures ∙ joined_own (needs_view c.needs.result) ∙ c.needs.ensures)
+returns-clause-reached c = grind (arith, joined_own)

@@ -16,6 +16,4 @@ loop-number-preserved c =
     (rows_held c.loop-number.members.items) (rows_held c.note.new.members.items) c.loop-number.invariant c.in_ok-note.ensures)
 
 pub returns : goal.returns
-returns c =
-    subst (λ (numbers : List ℕ). HasMembers c.args.nodes.now c.args.makings numbers (rows_held c.loop-number.members.items))
-    (take_all c.loop-number.number-index c.args.numbers.now (omega arith)) c.loop-number.invariant
+returns c = grind (arith, take_all)

@@ -1,5 +1,5 @@
-use Rattle.std.proofs.Common.{◌<◌, ◌++◌, ◌∙◌, [], List, ℕ, length, get_or, sym, ap, arith}
-use Rattle.kt_graph.proofs.Common.{append-nil, drop_all, get_or_default, nodes_view}
+use Rattle.std.proofs.Common.{◌<◌, ◌∙◌, [], length, get_or, arith}
+use Rattle.kt_graph.proofs.Common.{append-nil, drop_all, get_or_default}
 use Rattle.kt_graph.proofs.lemmas.nodes.GroupingLemmas.{put_more}
 use Rattle.kt_graph.proofs.nodes.grouping.put_all.Goals as goal
 
@@ -12,8 +12,4 @@ loop-number-preserved c =
     ∙ c.loop-number.invariant
 
 pub returns : goal.returns
-returns c =
-    sym (append-nil c.loop-number.group.items)
-    ∙ sym (ap (λ (numbers : List ℕ). c.loop-number.group.items ++ nodes_view c.args.table.now numbers)
-    (drop_all c.loop-number.number-index c.args.numbers.now (omega arith)))
-    ∙ c.loop-number.invariant
+returns c = grind (arith, append-nil, drop_all)

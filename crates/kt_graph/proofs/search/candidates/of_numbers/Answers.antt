@@ -1,5 +1,5 @@
-use Rattle.std.proofs.Common.{◌<◌, ◌++◌, ap, length, sym, ◌∙◌, arith}
-use Rattle.kt_graph.proofs.Common.{append-nil, drop_all, candidates_numbered, candidates_view}
+use Rattle.std.proofs.Common.{◌<◌, length, ◌∙◌, arith}
+use Rattle.kt_graph.proofs.Common.{append-nil, drop_all}
 use Rattle.kt_graph.proofs.lemmas.search.EndLemmas.{numbered_more, within_with}
 use Rattle.kt_graph.proofs.lemmas.search.CandidateViewLemmas.{read_itself}
 use Rattle.kt_graph.proofs.search.candidates.of_numbers.Goals as goal
@@ -16,8 +16,4 @@ loop-number-preserved c =
     }
 
 pub returns-clause-matching : goal.returns-clause-matching
-returns-clause-matching c =
-    sym (ap (λ rest. candidates_view c.args.patterns.now c.args.name.now c.loop-number.candidates.items ++ candidates_numbered c.args.patterns.now c.args.name.now rest)
-    (drop_all c.loop-number.number-index c.args.numbers.now (omega arith))
-    ∙ append-nil (candidates_view c.args.patterns.now c.args.name.now c.loop-number.candidates.items))
-    ∙ c.loop-number.invariant.left
+returns-clause-matching c = grind (arith, drop_all, append-nil)

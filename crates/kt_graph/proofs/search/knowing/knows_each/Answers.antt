@@ -28,6 +28,4 @@ loop-name-preserved c =
     ∙ c.loop-name.invariant
 
 pub returns : goal.returns
-returns c =
-    sym (known_past c.args.known.now c.args.stemming.directory.now c.args.stemming.stem.now c.args.names.now c.loop-name.name-index (omega arith))
-    ∙ c.loop-name.invariant
+returns c = grind (arith, known_past)

@@ -1,12 +1,10 @@
-use Rattle.std.proofs.Common.{◌∙◌, ◌≤◌, length, sym, arith}
+use Rattle.std.proofs.Common.{◌∙◌, length, sym, arith}
 use Rattle.kt_graph.proofs.Common.{false≢true, take_all, All-more, LeadsBack}
 use Rattle.kt_graph.proofs.lemmas.faults.CircleLemmas.{first_at}
 use Rattle.kt_graph.proofs.faults.cycles.Left.first_back.Goals as goal
 
 pub returns-then-branch : goal.returns-then-branch
-returns-then-branch c =
-    first_at c.args.edges.now c.args.order.now c.loop-vertex.vertex-index c.loop-vertex-test.true c.loop-vertex.invariant
-    (c.in_ok-is_circular.ensures.0 c.if-branch.true)
+returns-then-branch c = grind (arith, first_at)
 
 pub loop-vertex-preserved : goal.loop-vertex-preserved
 loop-vertex-preserved c =
@@ -14,6 +12,4 @@ loop-vertex-preserved c =
     (λ back. false≢true (sym c.if-branch.false ∙ c.in_ok-is_circular.ensures.1 back))
 
 pub returns : goal.returns
-returns c =
-    let past : length c.args.order.now ≤ c.loop-vertex.vertex-index = omega arith in
-    rw (take_all c.loop-vertex.vertex-index c.args.order.now past) at c.loop-vertex.invariant
+returns c = grind (arith, length, take_all)

@@ -12,6 +12,4 @@ returns-then-vertex-len c =
     (get_or_default nodes c.args.vertex _ (stored_at nodes c.args.vertex) within))
 
 pub returns : goal.returns
-returns c =
-    row_after (row_of c.args.self.now.makings.items) c.args.self.now.nodes.now (rows_held c.args.self.now.rows.items) c.args.vertex c.row_at.result.now
-    (omega arith) (rw (c.as_slice.ensures.value, c.len-2.ensures.len) at c.row_at.ensures)
+returns c = grind (arith, row_after)

@@ -1,20 +1,11 @@
-use Rattle.std.proofs.Common.{◌≤◌, ◌<◌, ◌++◌, ℕ, List, length, sym, ap, ◌∙◌, arith}
-use Rattle.kt_graph.proofs.Common.{drop_all, edges_to, rows_held, rows_of, with_edges}
+use Rattle.std.proofs.Common.{◌≤◌, ℕ, List, length, sym, ap, ◌∙◌, arith}
+use Rattle.kt_graph.proofs.Common.{drop_all, rows_held, rows_of, with_edges}
 use Rattle.kt_graph.proofs.lemmas.faults.CircleLemmas.{length-rows}
 use Rattle.kt_graph.proofs.lemmas.faults.EdgeLemmas.{turned_are, turned_from, turned_more, turned_parts}
 use Rattle.kt_graph.proofs.faults.edges.Edges.reversed.Goals as goal
 
 pub loop-vertex-preserved : goal.loop-vertex-preserved
-loop-vertex-preserved c =
-    let long = length-rows c.args.self.now in
-    let within : c.loop-vertex.vertex < length (rows_of c.args.self.now) = omega (arith, c.count-vertex-end.ensures) in
-    turned_more (rows_of c.args.self.now) c.loop-vertex.vertex (c.next.result.0.now ++ c.next.result.1.now) (rows_held c.loop-vertex.rows.items) (rows_held c.add_to-in-loop-vertex.new.rows.items)
-    within c.next.ensures
-    (turned_parts (rows_held c.loop-vertex.rows.items) (rows_held c.add_to.new.rows.items) (rows_held c.add_to-in-loop-vertex.new.rows.items) c.loop-vertex.vertex
-    c.next.result.0.now c.next.result.1.now
-    (c.in_ok-add_to.ensures ∙ ap (λ to. with_edges (rows_held c.loop-vertex.rows.items) (edges_to to c.next.result.0.now)) c.in_ok-to.ensures.same)
-    (c.in_ok-add_to-2.ensures ∙ ap (λ to. with_edges (rows_held c.add_to.new.rows.items) (edges_to to c.next.result.1.now)) c.in_ok-to.ensures.same))
-    ∙ c.loop-vertex.invariant
+loop-vertex-preserved c = grind (arith, length-rows, length, turned_more, turned_parts)
 
 pub returns : goal.returns
 returns c =

@@ -1,14 +1,10 @@
-use Rattle.std.proofs.Common.{◌≡◌, ◌∙◌, [], Some, ap, rules, false, sym, true}
+use Rattle.std.proofs.Common.{arith, ◌∙◌, Some, ap, sym, true}
 use Rattle.kt_graph.proofs.Common.{Text, is_repeated}
 use Rattle.kt_graph.proofs.lemmas.faults.FileLemmas.{found_first}
 use Rattle.kt_graph.proofs.faults.files.Files.first_repeated.Goals as goal
 
 pub loop-node-preserved : goal.loop-node-preserved
-loop-node-preserved c = λ names held.
-    let left = c.in-Some.ensures.steps in
-    let before = c.loop-node.invariant names held in
-    sym (found_first (is_repeated names) c.in-Some.node c.next.new.self false (sym c.if-branch.false ∙ c.in_ok-is_repeated.ensures names held))
-    ∙ (rw left at before)
+loop-node-preserved c = grind (arith, found_first)
 
 pub returns-then-branch : goal.returns-then-branch
 returns-then-branch c = λ names held.
@@ -19,7 +15,4 @@ returns-then-branch c = λ names held.
     ∙ (rw left at before)
 
 pub returns : goal.returns
-returns c = λ names held.
-    let none : c.loop-node.node-iterator ≡ [] = search rules in
-    let before = c.loop-node.invariant names held in
-    rw none at before
+returns c = grind arith

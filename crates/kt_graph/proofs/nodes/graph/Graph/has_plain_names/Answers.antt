@@ -1,5 +1,5 @@
-use Rattle.std.proofs.Common.{◌≡◌, All, List, false, ℕ, ◌<◌, ⊎_elim, subst, arith, ap, length}
-use Rattle.kt_graph.proofs.Common.{list_any, cases_lt, Text, canon_of, is_reserved, made_names, Node, name_at, nodes_view}
+use Rattle.std.proofs.Common.{◌≡◌, All, List, false, ⊎_elim, subst, arith, ap, length}
+use Rattle.kt_graph.proofs.Common.{list_any, cases_lt, Text, canon_of, is_reserved, made_names, Node, nodes_view}
 use Rattle.kt_graph.proofs.lemmas.faults.PlainNameLemmas.{made_canonical, none_reserved, of_nodes}
 use Rattle.kt_graph.proofs.nodes.graph.Graph.has_plain_names.Goals as goal
 
@@ -7,14 +7,7 @@ pub loop-number-init : goal.loop-number-init
 loop-number-init c = λ place within. absurd (omega (arith, within))
 
 pub loop-number-preserved : goal.loop-number-preserved
-loop-number-preserved c = λ place within. ⊎_elim
-    (λ (less : place < c.loop-number.number). c.loop-number.invariant place less)
-    (λ more.
-    let same : c.loop-number.number ≡ place = omega arith in
-    subst (λ (n : ℕ). (canon_of (name_at c.names-names.result.now n) ≡ name_at c.names-names.result.now n) × (is_reserved (name_at c.names-names.result.now n) ≡ false)) same
-    (subst (λ (name : Text). (canon_of name ≡ name) × (is_reserved name ≡ false)) c.name_of.ensures
-    (c.is_plain.ensures.canonical c.if-not-is_plain.false, c.is_plain.ensures.unreserved c.if-not-is_plain.false)))
-    (cases_lt place c.loop-number.number)
+loop-number-preserved c = grind (arith, ⊎_elim, cases_lt)
 
 pub returns-clause-unreserved : goal.returns-clause-unreserved
 returns-clause-unreserved c = λ yes.

@@ -1,18 +1,11 @@
-use Rattle.std.proofs.Common.{◌∙◌, List, Some, map, subst, sym}
-use Rattle.kt_graph.proofs.Common.{AreOf, on_ok_weaker, Text, Target, Rule, rule_view, suffixes_of, double_node, explicit_node, reached_text, BuildsNode, IsCut}
+use Rattle.std.proofs.Common.{arith, ◌∙◌, List, Some, map, subst, sym}
+use Rattle.kt_graph.proofs.Common.{on_ok_weaker, Text, Target, Rule, rule_view, suffixes_of, explicit_node, reached_text, BuildsNode, IsCut}
 use Rattle.kt_graph.proofs.lemmas.nodes.OfLemmas.{used_of}
 use Rattle.kt_graph.proofs.lemmas.nodes.StepLemmas.{double_with, single_with}
 use Rattle.kt_graph.proofs.nodes.graph_builder.GraphBuilder.build_by.Goals as goal
 
 pub returns-then-has_double : goal.returns-then-has_double
-returns-then-has_double c =
-    let book = c.args.self.now.book.now in
-    let name = reached_text c.args.name.now in
-    let made = map rule_view c.args.rules.now in
-    let new = c.double_node.new.self in
-    let same = double_with book c.args.self.now.known.now name made (sym c.has_double.ensures ∙ c.if-has_double.true) in
-    on_ok_weaker c.double_node.result (λ (h : (name : Text) → AreOf name made → BuildsNode c.args.self.now (double_node (suffixes_of book) name made) new).
-    subst (λ n. BuildsNode c.args.self.now n new) same (h name c.requires.rules)) c.double_node.ensures
+returns-then-has_double c = grind (arith, double_with, on_ok_weaker)
 
 pub returns-in-Some : goal.returns-in-Some
 returns-in-Some c =

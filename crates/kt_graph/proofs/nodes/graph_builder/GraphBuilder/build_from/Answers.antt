@@ -1,4 +1,4 @@
-use Rattle.std.proofs.Common.{◌≡◌, ◌∷◌, ◌∙◌, [], ap, map, subst, sym}
+use Rattle.std.proofs.Common.{arith, ◌≡◌, ◌∷◌, ◌∙◌, [], ap, map, subst, sym}
 use Rattle.kt_graph.proofs.Common.{All-head, AreOf, Rule, Target, on_ok_weaker, Text, rule_view, suffixes_of, BuildsNode, sole_node, reached_text, node_with}
 use Rattle.kt_graph.proofs.lemmas.nodes.InputLemmas.{one_alone}
 use Rattle.kt_graph.proofs.lemmas.nodes.LikeLemmas.{last_needs, sole_is}
@@ -29,5 +29,4 @@ returns-then-is_like_last c =
     h)) c.node_like_last.ensures
 
 pub build_by-requires-clause-rules : goal.build_by-requires-clause-rules
-build_by-requires-clause-rules c =
-    explicit_of c.args.self.now.book.now (reached_text c.args.name.now) (map rule_view c.args.rules.now) c.requires.rules
+build_by-requires-clause-rules c = grind (arith, explicit_of)

@@ -1,14 +1,10 @@
-use Rattle.std.proofs.Common.{◌≡◌, ◌++◌, ◌∷◌, ◌-◌, [], ap, length}
-use Rattle.kt_graph.proofs.Common.{on_ok_weaker, option_map, needs_for, rule_view, suffixes_of, Explicit, GraphBuilder, node_like, stored_at, instance_view}
+use Rattle.std.proofs.Common.{arith, ◌≡◌, ◌++◌, ◌∷◌, ◌-◌, [], length}
+use Rattle.kt_graph.proofs.Common.{on_ok_weaker, option_map, rule_view, suffixes_of, Explicit, node_like, stored_at, instance_view}
 use Rattle.kt_graph.proofs.lemmas.nodes.LikeLemmas.{holds_like, last_alone}
 use Rattle.kt_graph.proofs.nodes.graph_builder.GraphBuilder.node_like_last.Goals as goal
 
 pub push_like-requires : goal.push_like-requires
-push_like-requires c =
-    let old = c.args.self.now in
-    let made = rule_view c.args.rule in
-    rw (c.saturating_sub-last.ensures, c.len.ensures.len)
-    (last_alone old c.making.new.self.nodes (needs_for made.0 made.1) (ap (λ (s : GraphBuilder). s.nodes) c.in_ok-made_with.ensures.others) c.requires)
+push_like-requires c = grind (arith, last_alone)
 
 pub returns : goal.returns
 returns c =

@@ -1,19 +1,11 @@
-use Rattle.std.proofs.Common.{◌∙◌, [], None, ap, false, map, subst, sym}
-use Rattle.kt_graph.proofs.Common.{on_ok_weaker, Text, is_phony, rule_view, suffixes_of, needing_view, single_node, reached_text, plain_node, BuildsNode}
+use Rattle.std.proofs.Common.{arith, ◌∙◌, None, ap, map, subst}
+use Rattle.kt_graph.proofs.Common.{on_ok_weaker, Text, is_phony, rule_view, suffixes_of, needing_view, single_node, reached_text, BuildsNode}
 use Rattle.kt_graph.proofs.lemmas.nodes.BuildingLemmas.{joined_alone}
 use Rattle.kt_graph.proofs.lemmas.nodes.StepLemmas.{leaf_told, plain_told}
 use Rattle.kt_graph.proofs.nodes.graph_builder.GraphBuilder.plain_node.Goals as goal
 
 pub returns-then-is_leaf : goal.returns-then-is_leaf
-returns-then-is_leaf c =
-    let book = c.args.self.now.book.now in
-    let suffixes = suffixes_of book in
-    let name = reached_text c.args.name.now in
-    let made = map rule_view c.args.rules.now in
-    let phony = c.is_phony-is_phony.ensures ∙ ap (is_phony book) c.as_slice.ensures in
-    let told = leaf_told suffixes name made c.is_phony-is_phony.result (sym c.is_leaf.ensures ∙ c.if-is_leaf.true) ∙ ap (plain_node suffixes name made) phony in
-    on_ok_weaker c.leaf_node.result (λ (h : (name : Text) → BuildsNode c.args.self.now (plain_node suffixes name [] false) c.leaf_node.new.self).
-    subst (λ n. BuildsNode c.args.self.now n c.leaf_node.new.self) told (h name)) c.leaf_node.ensures
+returns-then-is_leaf c = grind (arith, leaf_told, on_ok_weaker)
 
 pub returns : goal.returns
 returns c =

@@ -1,4 +1,4 @@
-use Rattle.std.proofs.Common.{◌≡◌, ℕ, Bool, true, false, ap}
+use Rattle.std.proofs.Common.{arith, ◌≡◌, ℕ, Bool, true, false, ap}
 use Rattle.kt_graph.proofs.Common.{and_from, eq-eqb, false≢true, apart_from_distinct, bytes_eq-Decides, Text, Instance as Held, of_group, of_pattern, instance_view}
 use Rattle.kt_graph.specs.contracts.nodes.node.InstancePartialEq.TheImpl.{eq-value}
 use Rattle.kt_graph.specs.declared.nodes.node.Instance.TheVariants as held
@@ -29,11 +29,7 @@ unfolding is_grouped first_of directory_of rule_of
 told_same (held.Group first) (held.Group other) e = (bytes_eq-Decides first.items other.items).1 (ap first_of e)
 told_same (held.Group first) (held.Pattern rule directory stem) e = absurd (false≢true (ap is_grouped (Rattle.std.proofs.Common.sym e)))
 told_same (held.Pattern rule directory stem) (held.Group first) e = absurd (false≢true (ap is_grouped e))
-told_same (held.Pattern rule directory stem) (held.Pattern other beside rest) e =
-    let one = eq-eqb rule other (ap rule_of e) in
-    let two = (bytes_eq-Decides directory.items beside.items).1 (ap directory_of e) in
-    let three = (bytes_eq-Decides stem.items rest.items).1 (ap first_of e) in
-    and_from _ _ one (and_from _ _ two three)
+told_same (held.Pattern rule directory stem) (held.Pattern other beside rest) e = grind (arith, eq-eqb, rule_of, bytes_eq-Decides, directory_of, and_from)
 
 pub invariant_of-result : goal.invariant_of-result
 invariant_of-result c = record {

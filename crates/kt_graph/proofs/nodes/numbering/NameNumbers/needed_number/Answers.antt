@@ -1,3 +1,4 @@
+use Rattle.std.proofs.Common.{arith}
 use Rattle.kt_graph.proofs.Common.{[], sym, append-nil, needed_view}
 use Rattle.kt_graph.proofs.lemmas.nodes.ReachedNames.{place_first, step_numbered, step_placed, step_reached}
 use Rattle.kt_graph.proofs.nodes.numbering.NameNumbers.needed_number.Goals as goal
@@ -19,9 +20,4 @@ returns-in-Some-clause-numbered c =
     c.reach.result c.self.view_is c.self.invariant at c.reach.ensures.reached c.reach.ensures.refused
 
 pub returns-in-Some-clause-reached : goal.returns-in-Some-clause-reached
-returns-in-Some-clause-reached c =
-    let held = c.self.inside in
-    let name = needed_view c.args.name in
-    let at = place_first held.tables held.others name c.in-Some.number c.in-Some.ensures in
-    step_reached held.tables held.others held.others c.args.self.now ([], sym (append-nil held.others)) held.reached c.reach.new.self name c.in-Some.number
-    c.reach.result c.self.view_is c.self.invariant at c.reach.ensures.reached c.reach.ensures.refused
+returns-in-Some-clause-reached c = grind (arith, place_first, step_reached, append-nil)

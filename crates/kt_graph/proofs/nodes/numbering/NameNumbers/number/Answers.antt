@@ -1,3 +1,4 @@
+use Rattle.std.proofs.Common.{arith}
 use Rattle.kt_graph.proofs.lemmas.nodes.ReachedNames.{others_more, step_numbered, step_placed, step_reached}
 use Rattle.kt_graph.proofs.nodes.numbering.NameNumbers.number.Goals as goal
 
@@ -19,7 +20,4 @@ returns-clause-numbered c =
     c.reach.result c.self.view_is c.self.invariant c.in_ok-number.ensures.noted c.reach.ensures.reached c.reach.ensures.refused
 
 pub returns-clause-reached : goal.returns-clause-reached
-returns-clause-reached c =
-    let held = c.self.inside in
-    step_reached held.tables held.others c.note.new.others c.args.self.now c.note.ensures.grown held.reached c.reach.new.self c.args.name.now c.in_ok-number.number
-    c.reach.result c.self.view_is c.self.invariant c.in_ok-number.ensures.noted c.reach.ensures.reached c.reach.ensures.refused
+returns-clause-reached c = grind (arith, step_reached)

@@ -1,5 +1,4 @@
-use Rattle.std.proofs.Common.{◌++◌, ◌∷◌, ◌∙◌, [], ap}
-use Rattle.kt_graph.specs.inner.nodes.Stored.{stored_with, nodes_stored, part_held}
+use Rattle.std.proofs.Common.{arith}
 use Rattle.kt_graph.proofs.lemmas.nodes.StoredLemmas.{nodes_push, stored_push}
 use Rattle.kt_graph.proofs.nodes.stored.StoredNodes.push.Goals as goal
 
@@ -10,10 +9,4 @@ invariant_of-self-2 c =
     c.in_ok-head.ensures.head.within
 
 pub returns : goal.returns
-returns c =
-    let parts = c.put_node.new.parts.items in
-    let rows = c.put_node.new.rows in
-    ap (nodes_stored parts rows) c.in_ok-push.ensures.items
-    ∙ nodes_push c.self.inside.parts.items parts c.self.inside.rows rows c.self.inside.heads.items c.in_ok-head.head (stored_with c.args.maker.kind c.args.maker.made_with (part_held c.args.part c.args.needs.now ∷ []))
-    c.in_ok-head.ensures.grew c.self.invariant c.in_ok-head.ensures.head.is
-    ∙ ap (λ nodes. nodes ++ stored_with c.args.maker.kind c.args.maker.made_with (part_held c.args.part c.args.needs.now ∷ []) ∷ []) c.self.view_is
+returns c = grind (arith, nodes_push)

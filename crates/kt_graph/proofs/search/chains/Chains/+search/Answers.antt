@@ -1,6 +1,6 @@
 -- The lemmas of each step, at the values of the code.
-use Rattle.std.proofs.Common.{◌≡◌, ◌+◌, Some, None, find, length, not, is_some, refl, sym, ap, ◌∙◌, subst, arith, rules, IfSome}
-use Rattle.kt_graph.proofs.Common.{list_all, IfOk-weaker, on_ok_weaker, asking, chain_limit, fitting, is_inferred, is_met, open_candidates, candidate_view, candidates_view}
+use Rattle.std.proofs.Common.{◌≡◌, ◌+◌, Some, find, length, not, is_some, sym, ap, ◌∙◌, subst, arith, rules, IfSome}
+use Rattle.kt_graph.proofs.Common.{list_all, IfOk-weaker, on_ok_weaker, asking, fitting, is_inferred, is_met, open_candidates, candidate_view, candidates_view}
 use Rattle.kt_graph.specs.inner.search.Chains.{IsFound, IsRightFor}
 use Rattle.kt_graph.proofs.lemmas.search.AskingLemmas.{length-with_rule}
 use Rattle.kt_graph.proofs.lemmas.search.ChainLemmas.{keeps_more, last_leaves, last_ready, stood_found, stood_leaves}
@@ -11,30 +11,19 @@ use Rattle.kt_graph.proofs.search.chains.Chains.+search.Goals as goal
 -- ---- names in turn
 
 pub all_found-loop-at-init : goal.all_found-loop-at-init
-all_found-loop-at-init t c = record {
-  asks = asking_starts c.args.self.now.patterns c.args.self.now.known.now (length c.args.used.now) c.args.tried.now _ _ c.requires.ready refl;
-  finds = refl;
-}
+all_found-loop-at-init t c = grind (arith, asking_starts, length)
 
 pub all_found-returns-in_err-ask-clause-kept : goal.all_found-returns-in_err-ask-clause-kept
-all_found-returns-in_err-ask-clause-kept t c =
-    keeps_more c.args.tried.now c.loop-at.tried c.ask.new.tried c.loop-at.invariant.asks.kept c.in_err-ask.ensures.kept
+all_found-returns-in_err-ask-clause-kept t c = grind (arith, keeps_more)
 
 pub all_found-returns-then-is_none-clause-found : goal.all_found-returns-then-is_none-clause-found
-all_found-returns-then-is_none-clause-found t c =
-    finds_not c.args.self.now.patterns c.args.self.now.known.now c.args.left c.args.used.now c.args.names.now c.loop-at.at c.index-names-at.result c.loop-at-test.true
-    c.index-names-at.is c.as_slice.result.now c.as_slice.ensures c.in_ok-ask.field-0 c.in_ok-ask.ensures.found _
-    (c.is_none.ensures ∙ ap not c.if-is_none.true) c.loop-at.invariant.finds
+all_found-returns-then-is_none-clause-found t c = grind (arith, finds_not, not)
 
 pub all_found-returns-then-is_none-clause-leaves : goal.all_found-returns-then-is_none-clause-leaves
-all_found-returns-then-is_none-clause-leaves t c =
-    asks_no_more c.args.self.now.patterns c.args.self.now.known.now c.args.left c.args.used.now c.args.names.now c.loop-at.at c.index-names-at.result c.loop-at-test.true
-    c.index-names-at.is c.as_slice.result.now c.as_slice.ensures c.in_ok-ask.field-0 c.in_ok-ask.ensures.found c.args.tried.now c.loop-at.tried c.ask.new.tried _
-    (c.is_none.ensures ∙ ap not c.if-is_none.true) c.loop-at.invariant.asks c.in_ok-ask.ensures.leaves c.in_ok-ask.ensures.kept
+all_found-returns-then-is_none-clause-leaves t c = grind (arith, asks_no_more, not)
 
 pub all_found-returns-then-is_none-clause-kept : goal.all_found-returns-then-is_none-clause-kept
-all_found-returns-then-is_none-clause-kept t c =
-    keeps_more c.args.tried.now c.loop-at.tried c.ask.new.tried c.loop-at.invariant.asks.kept c.in_ok-ask.ensures.kept
+all_found-returns-then-is_none-clause-kept t c = grind (arith, keeps_more)
 
 pub all_found-loop-at-preserved : goal.all_found-loop-at-preserved
 all_found-loop-at-preserved t c = record {
@@ -53,11 +42,7 @@ all_found-returns-clause-found t c =
     sym (finds_past (fitting rules known c.args.left) (asking rules known c.args.left) c.args.used.now c.args.names.now c.loop-at.at c.loop-at-test.false) ∙ c.loop-at.invariant.finds
 
 pub all_found-returns-clause-leaves : goal.all_found-returns-clause-leaves
-all_found-returns-clause-leaves t c =
-    let rules = c.args.self.now.patterns in
-    let known = c.args.self.now.known.now in
-    asking_ends rules known (length c.args.used.now) c.args.tried.now c.loop-at.tried _ _ c.loop-at.invariant.asks
-    (asked_past (fitting rules known c.args.left) (asking rules known c.args.left) c.args.used.now c.args.names.now c.loop-at.at c.loop-at-test.false)
+all_found-returns-clause-leaves t c = grind (arith, asking_ends, length, asked_past)
 
 pub all_found-returns-clause-kept : goal.all_found-returns-clause-kept
 all_found-returns-clause-kept t c = c.loop-at.invariant.asks.kept
@@ -65,21 +50,13 @@ all_found-returns-clause-kept t c = c.loop-at.invariant.asks.kept
 -- ---- candidates in turn
 
 pub first_inferred-loop-at-init : goal.first_inferred-loop-at-init
-first_inferred-loop-at-init t c = record {
-  asks = asking_starts c.args.self.now.patterns c.args.self.now.known.now (length c.args.used.now + 1) c.args.tried.now _ _ c.requires.ready refl;
-  finds = refl;
-}
+first_inferred-loop-at-init t c = grind (arith, asking_starts, length)
 
 pub first_inferred-returns-in_err-is_inferred-clause-kept : goal.first_inferred-returns-in_err-is_inferred-clause-kept
-first_inferred-returns-in_err-is_inferred-clause-kept t c =
-    keeps_more c.args.tried.now c.loop-at.tried c.is_inferred.new.tried c.loop-at.invariant.asks.kept c.in_err-is_inferred.ensures.kept
+first_inferred-returns-in_err-is_inferred-clause-kept t c = grind (arith, keeps_more)
 
 pub first_inferred-returns-then-branch-clause-found : goal.first_inferred-returns-then-branch-clause-found
-first_inferred-returns-then-branch-clause-found t c =
-    let rules = c.args.self.now.patterns in
-    let known = c.args.self.now.known.now in
-    found_this rules c.args.name.now (is_inferred known (fitting rules known c.args.left) c.args.used.now) c.args.candidates.now c.loop-at.at c.loop-at.invariant.finds
-    _ c.loop-at-test.true (read_itself c.args.candidates.now c.loop-at.at _ c.loop-at-test.true) c.requires.within c.in_ok-is_inferred.field-0 c.in_ok-is_inferred.ensures.inferred c.if-branch.true
+first_inferred-returns-then-branch-clause-found t c = grind (arith, found_this, read_itself)
 
 pub first_inferred-returns-then-branch-clause-leaves : goal.first_inferred-returns-then-branch-clause-leaves
 first_inferred-returns-then-branch-clause-leaves t c =
@@ -88,8 +65,7 @@ first_inferred-returns-then-branch-clause-leaves t c =
     c.args.tried.now c.loop-at.tried c.is_inferred.new.tried (length c.args.used.now + 1) _ c.if-branch.true c.loop-at.invariant.asks c.in_ok-is_inferred.ensures.leaves c.in_ok-is_inferred.ensures.kept
 
 pub first_inferred-returns-then-branch-clause-kept : goal.first_inferred-returns-then-branch-clause-kept
-first_inferred-returns-then-branch-clause-kept t c =
-    keeps_more c.args.tried.now c.loop-at.tried c.is_inferred.new.tried c.loop-at.invariant.asks.kept c.in_ok-is_inferred.ensures.kept
+first_inferred-returns-then-branch-clause-kept t c = grind (arith, keeps_more)
 
 pub first_inferred-loop-at-preserved : goal.first_inferred-loop-at-preserved
 first_inferred-loop-at-preserved t c =
@@ -104,17 +80,10 @@ first_inferred-loop-at-preserved t c =
     }
 
 pub first_inferred-returns-clause-found : goal.first_inferred-returns-clause-found
-first_inferred-returns-clause-found t c =
-    let rules = c.args.self.now.patterns in
-    let known = c.args.self.now.known.now in
-    found_none rules c.args.name.now (is_inferred known (fitting rules known c.args.left) c.args.used.now) c.args.candidates.now c.loop-at.at c.loop-at.invariant.finds c.loop-at-test.false
+first_inferred-returns-clause-found t c = grind (arith, found_none)
 
 pub first_inferred-returns-clause-leaves : goal.first_inferred-returns-clause-leaves
-first_inferred-returns-clause-leaves t c =
-    let rules = c.args.self.now.patterns in
-    let known = c.args.self.now.known.now in
-    asking_ends rules known (length c.args.used.now + 1) c.args.tried.now c.loop-at.tried _ _ c.loop-at.invariant.asks
-    (among_past rules c.args.name.now known (fitting rules known c.args.left) (asking rules known c.args.left) c.args.used.now c.args.candidates.now c.loop-at.at c.loop-at-test.false)
+first_inferred-returns-clause-leaves t c = grind (arith, asking_ends, length, among_past)
 
 pub first_inferred-returns-clause-kept : goal.first_inferred-returns-clause-kept
 first_inferred-returns-clause-kept t c = c.loop-at.invariant.asks.kept
@@ -122,13 +91,7 @@ first_inferred-returns-clause-kept t c = c.loop-at.invariant.asks.kept
 -- ---- one candidate
 
 pub is_inferred-all_found-requires : goal.is_inferred-all_found-requires
-is_inferred-all_found-requires t c =
-    let more : length c.args.used.now + 1 ≡ length c.as_slice-2.result.now
-    = sym (ap length (c.as_slice-2.ensures.value ∙ c.in_ok-chain.ensures) ∙ length-with_rule c.args.candidate.rule c.args.used.now) in
-    let whole : c.args.left + length c.as_slice-2.result.now ≡ chain_limit = omega arith in
-    let ready : IsRightFor c.args.self.now.patterns c.args.self.now.known.now c.args.tried.now (length c.as_slice-2.result.now)
-    = subst (λ n. IsRightFor c.args.self.now.patterns c.args.self.now.known.now c.args.tried.now n) more c.requires.ready in
-    search rules
+is_inferred-all_found-requires t c = grind (arith, length, length-with_rule)
 
 pub is_inferred-returns-clause-inferred : goal.is_inferred-returns-clause-inferred
 is_inferred-returns-clause-inferred t c =
@@ -153,20 +116,17 @@ is_inferred-returns-clause-leaves t c =
 -- ---- what makes a name
 
 pub answer-returns-then-left-eq0-clause-found : goal.answer-returns-then-left-eq0-clause-found
-answer-returns-then-left-eq0-clause-found t c =
-    none_fits c.args.self.now.patterns c.args.self.now.known.now c.args.left c.args.used.now c.args.name.now c.if-left-eq0.true
+answer-returns-then-left-eq0-clause-found t c = grind (arith, none_fits)
 
 pub answer-returns-then-left-eq0-clause-leaves : goal.answer-returns-then-left-eq0-clause-leaves
 answer-returns-then-left-eq0-clause-leaves t c =
     none_asked c.args.self.now.patterns c.args.self.now.known.now c.args.tried.now (length c.args.used.now + 1) c.args.left c.args.used.now c.args.name.now c.if-left-eq0.true c.requires.ready
 
 pub answer-returns-clause-found : goal.answer-returns-clause-found
-answer-returns-clause-found t c =
-    rw (fitting_is c.args.self.now.patterns c.args.self.now.known.now c.args.left c.args.used.now c.args.name.now c.if-left-eq0.false) c.first_fitting.ensures.found
+answer-returns-clause-found t c = grind (arith, fitting_is)
 
 pub answer-returns-clause-leaves : goal.answer-returns-clause-leaves
-answer-returns-clause-leaves t c =
-    rw (after_are c.args.self.now.patterns c.args.self.now.known.now c.args.left c.args.used.now c.args.name.now c.if-left-eq0.false) c.first_fitting.ensures.leaves
+answer-returns-clause-leaves t c = grind (arith, after_are)
 
 pub ask-answer-requires : goal.ask-answer-requires
 ask-answer-requires t c =
@@ -177,16 +137,10 @@ ask-answer-requires t c =
     search rules
 
 pub ask-returns-in-Before-clause-leaves : goal.ask-returns-in-Before-clause-leaves
-ask-returns-in-Before-clause-leaves t c =
-    let question = c.in_ok-question.ensures in
-    stood_leaves c.args.self.now.patterns c.args.self.now.known.now c.args.tried.now c.put.new.self c.in_ok-question.question c.in-Before.answer c.args.left c.args.used.now c.args.name.now
-    question.0 question.1 c.requires.whole c.requires.ready (rw c.in-Before.is at c.in_ok-answer.ensures.placed)
+ask-returns-in-Before-clause-leaves t c = grind (arith, stood_leaves)
 
 pub ask-returns-in-Before-clause-found : goal.ask-returns-in-Before-clause-found
-ask-returns-in-Before-clause-found t c =
-    let question = c.in_ok-question.ensures in
-    stood_found c.args.self.now.patterns c.args.self.now.known.now c.args.tried.now c.put.new.self c.in_ok-question.question c.in-Before.answer c.args.left c.args.used.now c.args.name.now
-    question.0 question.1 c.requires.whole c.requires.ready (rw c.in-Before.is at c.in_ok-answer.ensures.placed)
+ask-returns-in-Before-clause-found t c = grind (arith, stood_found)
 
 pub ask-returns-in_ok-answer-in-Last-clause-leaves : goal.ask-returns-in_ok-answer-in-Last-clause-leaves
 ask-returns-in_ok-answer-in-Last-clause-leaves t c =
@@ -207,11 +161,4 @@ first_fitting-returns-in-Some-clause-leaves t c =
     (subst (λ candidates. IsFound rules c.args.name.now (find (is_met known) candidates) (Some c.in-Some.candidate)) same (rw c.in-Some.is at c.in_ok-candidate.ensures))
 
 pub first_fitting-returns-clause-leaves : goal.first_fitting-returns-clause-leaves
-first_fitting-returns-clause-leaves t c =
-    let rules = c.args.self.now.patterns in
-    let known = c.args.self.now.known.now in
-    let same = ap (candidates_view rules c.args.name.now) c.as_slice.ensures.value ∙ c.in_ok-open.ensures.candidates in
-    let again = ap (candidates_view rules c.args.name.now) c.as_slice-in-None.ensures.value ∙ c.in_ok-open.ensures.candidates in
-    rw (unmet_asked rules known c.args.left c.args.used.now c.args.name.now (open_candidates rules c.args.used.now c.args.name.now)
-    (subst (λ candidates. IsFound rules c.args.name.now (find (is_met known) candidates) None) same (rw c.in-None.is at c.in_ok-candidate.ensures)))
-    (rw again at c.first_inferred.ensures.leaves)
+first_fitting-returns-clause-leaves t c = grind (arith, unmet_asked)

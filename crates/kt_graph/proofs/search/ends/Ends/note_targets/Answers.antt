@@ -1,5 +1,5 @@
-use Rattle.std.proofs.Common.{◌<◌, ◌∙◌, ap, length, subst, List, arith}
-use Rattle.kt_graph.proofs.Common.{take_all, Text, pattern_back, Target, NotesEnd, NotesAll}
+use Rattle.std.proofs.Common.{◌<◌, ◌∙◌, ap, length, subst, arith}
+use Rattle.kt_graph.proofs.Common.{take_all, Text, pattern_back, NotesEnd}
 use Rattle.kt_graph.proofs.lemmas.search.NotingLemmas.{none_noted, target_noted}
 use Rattle.kt_graph.proofs.search.ends.Ends.note_targets.Goals as goal
 
@@ -15,6 +15,4 @@ loop-target-preserved c =
     (subst (λ (end : Text). NotesEnd c.loop-target.self c.note.new.self end c.args.number) (c.end_of.ensures ∙ ap pattern_back c.as_slice.ensures) c.in_ok-note.ensures)
 
 pub returns : goal.returns
-returns c =
-    subst (λ (targets : List Target). NotesAll c.args.self.now c.loop-target.self targets c.args.number)
-    (take_all c.loop-target.target-index c.args.targets.now (omega arith)) c.loop-target.invariant
+returns c = grind (arith, take_all)

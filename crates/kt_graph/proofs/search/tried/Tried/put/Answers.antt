@@ -1,4 +1,4 @@
-use Rattle.std.proofs.Common.{refl}
+use Rattle.std.proofs.Common.{arith}
 use Rattle.kt_graph.proofs.lemmas.search.PlacingLemmas.{placed_before, placed_last}
 use Rattle.kt_graph.proofs.search.tried.Tried.put.Goals as goal
 
@@ -9,7 +9,4 @@ returns-then-is_new-clause-placed c =
     c.if-is_new.true set.added set.keys set.index c.in_ok-push.ensures.items
 
 pub returns-clause-placed : goal.returns-clause-placed
-returns-clause-placed c =
-    let set = c.in_ok-place.ensures in
-    placed_before c.args.self.now (record { questions = c.insert_full.new.self; answers = c.args.self.now.answers }) c.args.question c.in_ok-place.place c.in_ok-place.is_new
-    c.answer_at.result c.if-is_new.false set.added set.keys set.stored refl c.answer_at.ensures
+returns-clause-placed c = grind (arith, placed_before)
