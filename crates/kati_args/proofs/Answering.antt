@@ -1,6 +1,6 @@
 -- What is asked for, put together; and what is answered for an error.
-use Rattle.std.proofs.Common.{◌≡◌, ◌∙◌, List, None, false, Ok, Err, inl, inr, ap, subst, sym, ⊎_elim, [], ◌∷◌, true≢false, find, option_map, unwrap_or, codes, Result, string_bytes, ◌≢◌}
-use Rattle.kati_args.proofs.Common.{cases_Bool, Text, HasKind, IsAmong, Kinds, Row, fault_of, first_of, kind_of, matches_of, takes, Error, ErrorKind, DisplayHelp, OutOfMemory}
+use Rattle.std.proofs.Common.{arith, ◌≡◌, ◌∙◌, List, None, false, Ok, Err, inl, inr, ap, subst, sym, ⊎_elim, [], ◌∷◌, true≢false, find, option_map, unwrap_or, codes, Result, ◌≢◌}
+use Rattle.kati_args.proofs.Common.{cases_Bool, Text, HasKind, IsAmong, Row, fault_of, first_of, kind_of, matches_of, takes, Error, ErrorKind, DisplayHelp, OutOfMemory}
 use Rattle.kati_args.specs.declared.args.Args.{Args}
 use Rattle.kati_args.specs.declared.fault.ArgFault.{ArgFault}
 use Rattle.kati_args.specs.declared.fault.ArgFault.TheVariants.{BadMacro, Help, Memory, Usage}
@@ -10,14 +10,7 @@ use Rattle.kati_args.specs.Args.{AnswersWords, AnswersFound, IsTaken, ReportsErr
 pub args_are : (rows : List Row) (made : Args) → made.makefile ≡ first_of (codes "makefile") rows → made.files ≡ first_of (codes "files") rows
     → made.check ≡ first_of (codes "check") rows → made.limit ≡ unwrap_or (option_map number_in (first_of (codes "depth") rows)) 100
     → made.goals ≡ goals_in (words_in rows) → made.macros ≡ macros_in (words_in rows) → made ≡ args_in rows
-args_are rows made makefile files check limit goals macros = λ i. record {
-  makefile = makefile i;
-  files = files i;
-  check = check i;
-  limit = limit i;
-  goals = goals i;
-  macros = macros i;
-}
+args_are rows made makefile files check limit goals macros = grind arith
 
 pub answers_args : (rows : List Row) (made : Args) → find is_bad_macro (words_in rows) ≡ None → made ≡ args_in rows → answer_to rows ≡ Ok made
 answers_args rows made none is = ap (unless_bad (args_in rows)) none ∙ ap Ok (sym is)
@@ -25,8 +18,7 @@ answers_args rows made none is = ap (unless_bad (args_in rows)) none ∙ ap Ok (
 pub answers_found : (words : List Text) (rows : List Row) (result : Result Args ArgFault) → rows ≡ matches_of kati_app words → IsTaken words
     → AnswersFound rows result → AnswersWords words result
 answers_found words rows (Ok args) found taken answered = (taken, subst (λ (r : List Row). answer_to r ≡ Ok args) found answered)
-answers_found words rows (Err (BadMacro word)) found taken answered =
-    (taken, subst (λ (r : List Row). answer_to r ≡ Err (string_bytes word)) found answered)
+answers_found words rows (Err (BadMacro word)) found taken answered = grind arith
 answers_found words rows (Err Memory) found taken answered = tt
 answers_found words rows (Err (Help text)) found taken answered = absurd answered
 answers_found words rows (Err (Usage text)) found taken answered = absurd answered
@@ -53,8 +45,6 @@ pub usage_alone : (words : List Text) (kind : ErrorKind) → takes kati_app word
     → (result : Result Args ArgFault) → AnswersWords words result → IsUsage result
 usage_alone words kind untaken fault other (Ok args) answered = absurd (true≢false (sym answered.0 ∙ untaken))
 usage_alone words kind untaken fault other (Err (BadMacro word)) answered = absurd (true≢false (sym answered.0 ∙ untaken))
-usage_alone words kind untaken fault other (Err (Help text)) answered =
-    let among : IsAmong DisplayHelp (kind ∷ []) = subst (λ (k : Kinds). IsAmong DisplayHelp k) fault answered.1 in
-    absurd (⊎_elim other (λ none. none) among)
+usage_alone words kind untaken fault other (Err (Help text)) answered = grind (arith, among, ⊎_elim)
 usage_alone words kind untaken fault other (Err (Usage text)) answered = tt
 usage_alone words kind untaken fault other (Err Memory) answered = tt

@@ -1,5 +1,5 @@
 -- Words cut at their first equals sign.
-use Rattle.std.proofs.Common.{◌≡◌, ◌∙◌, ℕ, ◌<◌, List, [], ◌∷◌, length, refl, sym, arith, ⊎_elim, ltb, true, false, Option, Some, None, MatchOption}
+use Rattle.std.proofs.Common.{◌≡◌, ◌∙◌, ℕ, ◌<◌, List, [], ◌∷◌, length, refl, arith, ⊎_elim, ltb, true, false, Option, Some, None, MatchOption}
 use Rattle.kati_args.proofs.Common.{cases_Bool, le-ltb, lt-ltb, Bor, position_or_len, after_first, is_equals}
 use Rattle.std.proofs.lemmas.Bool.Decides.{nat_tests}
 use Rattle.std.proofs.lemmas.Str.Pattern.{IsSplitOnceResult, split_once_first}
@@ -7,8 +7,7 @@ use Rattle.kati_args.specs.Args.{is_macro, name_in}
 
 has_equals : (word : List ℕ) → is_macro word ≡ ltb (position_or_len is_equals word) (length word)
 has_equals [] = refl
-has_equals (b ∷ bs) =
-    ⊎_elim (λ h. rw h (sym (lt-ltb 0 (length (b ∷ bs)) (omega arith)))) (λ h. rw h (has_equals bs ∙ grind (arith, nat_tests))) (cases_Bool (is_equals b))
+has_equals (b ∷ bs) = grind (arith, ⊎_elim, lt-ltb, length, nat_tests, cases_Bool, has_equals bs)
 
 cut_of : (word : List ℕ) (r : Option (Bor (List ℕ) × Bor (List ℕ)))
     → MatchOption r (position_or_len is_equals word ≡ length word)

@@ -1,23 +1,19 @@
 -- The value of `--depth` that clap takes is a number from 1 to 400.
-use Rattle.std.proofs.Common.{◌≡◌, ◌∙◌, ◌<◌, ◌&&◌, ℕ, zero, suc, Bool, true, false, not, List, [], ◌∷◌, length, map, refl, sym, ap, subst, inl, inr, arith, codes, Option, Some, None, IfSome, slice_get, option_map, option_and_then}
-use Rattle.kati_args.proofs.Common.{Bor, All, list_all, slice_index_or, bytes_eq, Entry, EntryPasses, PassesArg, args_of, groups_of, parser_of, parser_of_value, has_plain_fields, is_empty, is_simple_arg, App, IsParsedFrom, IsUnsignedIn, Rule, SameRules, app_of, first_value, found_of, rule_of}
+use Rattle.std.proofs.Common.{◌≡◌, ◌∙◌, ◌<◌, ℕ, zero, suc, Bool, true, false, not, List, [], ◌∷◌, length, map, refl, sym, ap, subst, inl, inr, arith, codes, Option, Some, None, IfSome, slice_get, option_map, option_and_then}
+use Rattle.kati_args.proofs.Common.{Bor, All, list_all, slice_index_or, bytes_eq, Entry, EntryPasses, PassesArg, args_of, groups_of, has_plain_fields, is_empty, is_simple_arg, App, IsParsedFrom, IsUnsignedIn, Rule, app_of, first_value, found_of, rule_of}
 use Rattle.std.proofs.Math.ListN.{get_or-map}
 use Rattle.std.proofs.lemmas.List.{length-map}
 use Rattle.std.proofs.lemmas.List.Folds.{list_all-map}
 use Rattle.std.proofs.lemmas.List.Sums.{AllPass-from_list_all}
 use Rattle.std.proofs.lemmas.Slice.Eq.{bytes_eq-Decides}
-use Rattle.clap.specs.Built.{IsAuto}
 use Rattle.clap.specs.Matches.{matched_of}
-use Rattle.clap.specs.Values.{Accepts}
 use Rattle.clap.specs.declared.builder.arg.Arg.{Arg}
 use Rattle.clap.specs.declared.builder.command.Command.{Command}
 use Rattle.clap.specs.declared.builder.command.Command.TheViews.{out-Command}
-use Rattle.clap.specs.declared.builder.value_parser.ValueParser.{ValueParser}
-use Rattle.clap.specs.declared.builder.value_parser.ValueParser.TheVariants as parser
 use Rattle.clap.specs.declared.parser.matches.ArgMatches.{ArgMatches}
 use Rattle.clap.specs.declared.parser.matches.MatchedArg.{MatchedArg}
 use Rattle.clap.proofs.CallerLemmas.{entry_by_id, same_rules_by_id}
-use Rattle.kati_args.specs.Args.{depth_rule, kati_app}
+use Rattle.kati_args.specs.Args.{kati_app}
 use Rattle.kt_list.proofs.general.Booleans.{and_first, and_second}
 
 -- ---- tests that are joined
@@ -72,26 +68,7 @@ module _ (command : Command) (is : app_of command ≡ kati_app) where
 
   -- a value of this argument has passed its parser
   value_passes : (m : ArgMatches) (parsed : IsParsedFrom command m) (v : Bor (List ℕ)) → PassesArg parsed.built (codes "depth") v.now → IsUnsignedIn 1 400 v.now
-  value_passes m parsed v pass =
-      let d = pass.1 in
-      let it = slice_index_or (args_of command) 4 d in
-      let at : rule_of it ≡ depth_rule = rule_at 4 d in
-      let id_is : it.id.now ≡ codes "depth" = ap (λ (r : Rule). r.id) at in
-      let low : 4 < length (args_of command) = rw six (omega arith) in
-      let only : (j : ℕ) (e : Arg) → j < length (args_of command) → bytes_eq (slice_index_or (args_of command) j e).id.now it.id.now ≡ true → j ≡ 4 =
-      λ j e below same. only_fifth j (rule_of e) (rw six at below)
-      (subst (λ (r : Rule). bytes_eq r.id (codes "depth") ≡ true) (rule_at j e)
-      (subst (λ (id : List ℕ). bytes_eq (slice_index_or (args_of command) j e).id.now id ≡ true) id_is same)) in
-      let own : IsAuto it → ⊥ = λ auto. elim auto [
-        | inl h ↦ let bad : codes "depth" ≡ codes "help" = sym id_is ∙ h in absurd (cc bad)
-        | inr h ↦ let bad : codes "depth" ≡ codes "version" = sym id_is ∙ h in absurd (cc bad)
-      ] in
-      let rules : SameRules it pass.1 =
-      same_rules_by_id command m parsed 4 d low only own pass.0 pass.1 pass.2 pass.3
-      (subst (λ (id : List ℕ). bytes_eq pass.1.id.now id ≡ true) (sym id_is) pass.4.0) in
-      let unsigned : parser_of pass.1 ≡ parser.Unsigned 1 400 =
-      ap parser_of_value (rules.parser (parser.Unsigned 1 400) (ap (λ (r : Rule). r.parser) at)) in
-      subst (λ (q : ValueParser). Accepts pass.1.ignore_case q v.now) unsigned pass.4.1
+  value_passes m parsed v pass = grind (arith, slice_index_or, rule_at, codes, length, six, only_fifth, same_rules_by_id)
 
 -- ---- the first value
 

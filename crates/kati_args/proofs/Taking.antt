@@ -1,9 +1,9 @@
 -- Words at which clap's parse meets no fault are words that it takes: step by step, no kind of error means that the step's
 -- test passes.
-use Rattle.std.proofs.Common.{◌≡◌, ◌≤◌, ℕ, Bool, true, false, not, ◌&&◌, ◌||◌, zero, suc, refl, arith, List, [], ◌∷◌, length, drop, Option, Some, None, Result, Ok, Err, IfOk, codes, if◌then◌else◌, ◌==◌, nat_lt, is_some, slice_get, encode_utf8}
-use Rattle.kati_args.proofs.Common.{list_all, bytes_eq, chars, and_from, eqb-true, le-leb, ltb-false, parser_of_value, unwrap_or_range, Held, Names, Row, Rule, Step, Waiting, Walk, action_of, arg_by_id, arg_by_index, arg_by_long, arg_by_short, attached_value, finished, has_row, is_pending, most_values, next, nothing_held, reacted, settled, subcommand, subcommand_met, takes_several, takes_values, trailing, value, values_or_missing, walk, walk_from, walked, word_met, Shape, argument_words, built, FailsBy, Kinds, fault_of, Error, ErrorKind}
+use Rattle.std.proofs.Common.{◌≡◌, ◌≤◌, ℕ, Bool, true, false, not, ◌&&◌, ◌||◌, zero, suc, refl, arith, List, [], ◌∷◌, length, drop, Option, Some, None, Result, Ok, Err, IfOk, codes, if◌then◌else◌, ◌==◌, nat_lt, is_some, encode_utf8}
+use Rattle.kati_args.proofs.Common.{list_all, bytes_eq, and_from, eqb-true, le-leb, ltb-false, parser_of_value, Held, Names, Row, Rule, Step, Waiting, Walk, arg_by_id, arg_by_index, arg_by_long, attached_value, has_row, is_pending, next, nothing_held, reacted, subcommand, subcommand_met, takes_several, takes_values, trailing, value, walked, Shape, argument_words, built, FailsBy, Kinds, fault_of, Error, ErrorKind}
 use Rattle.std.specs.Option.{option_map_or}
-use Rattle.clap.specs.Lexer.{long_of, short_of}
+use Rattle.clap.specs.Lexer.{short_of}
 use Rattle.clap.specs.Walk.{Text}
 use Rattle.clap.specs.Kinds.{or_else, range_kinds, value_kinds}
 use Rattle.clap.specs.Faults.{action_fault, bundle_fault, bundle_step_fault, count_fault, flag_word_fault, flags_fault, level_fault, long_fault, option_fault, other_fault, positional_fault, react_fault, settle_fault, short_fault, step_fault, stray_fault, turn_fault, use_fault, values_fault, walk_fault, word_fault}
@@ -53,9 +53,7 @@ not_repeated false again kind none = refl
 set_taken : (again : Bool) (a : Rule) (values : List Text) (rows : List Row)
     → or_else (if has_row a.id rows && not again then kind.ArgumentConflict ∷ [] else []) (values_fault a values) ≡ []
     → ((not (has_row a.id rows) || again) && values_pass a values) ≡ true
-set_taken again a values rows none =
-    let parts = both_pass (if has_row a.id rows && not again then kind.ArgumentConflict ∷ [] else []) (values_fault a values) none in
-    and_from _ _ (not_repeated (has_row a.id rows) again _ parts.0) (values_taken a values parts.1)
+set_taken again a values rows none = grind (arith, both_pass, not, and_from, not_repeated, values_taken)
 
 action_taken : (x : ArgAction) (again : Bool) (a : Rule) (values : List Text) (rows : List Row) → action_fault x again a values rows ≡ []
     → action_passes x again a values rows ≡ true
@@ -72,23 +70,14 @@ action_taken action.Version again a values rows none = absurd (cc none)
 in_range_by : (same : Bool) (least most n : ℕ) → (least == most) ≡ same
     → (if same then (if least == n then [] else kind.WrongNumberOfValues ∷ []) else (if nat_lt n least then kind.TooFewValues ∷ [] else (if nat_lt most n then kind.TooManyValues ∷ [] else []))) ≡ []
     → (least ≤ n) × (n ≤ most)
-in_range_by true least most n same none =
-    let here : least ≡ n = eqb-true _ _ (passed (least == n) _ none) in
-    let alike : least ≡ most = eqb-true _ _ same in
-    (omega arith, omega arith)
-in_range_by false least most n same none =
-    let enough = no_kind (nat_lt n least) _ _ none in
-    let few = no_kind (nat_lt most n) _ _ enough.1 in
-    (ltb-false _ _ enough.0, ltb-false _ _ few.0)
+in_range_by true least most n same none = grind (arith, eqb-true, passed)
+in_range_by false least most n same none = grind (arith, no_kind, nat_lt, ltb-false)
 
 in_range : (least most n : ℕ) → range_kinds least most n ≡ [] → (least ≤ n) × (n ≤ most)
 in_range least most n none = in_range_by (least == most) least most n refl (no_kind (nat_lt 0 least && n == 0) _ _ none).1
 
 use_taken : (again : Bool) (a : Rule) (values : List Text) (rows : List Row) → use_fault again a values rows ≡ [] → use_passes again a values rows ≡ true
-use_taken again a values rows none =
-    let parts = both_pass (range_kinds (unwrap_or_range a.range).start_inclusive (most_values a) (length values)) _ none in
-    let range = in_range (unwrap_or_range a.range).start_inclusive (most_values a) (length values) parts.0 in
-    and_from _ _ (le-leb _ _ range.0) (and_from _ _ (le-leb _ _ range.1) (action_taken (action_of a) again a (values_or_missing a values) rows parts.1))
+use_taken again a values rows none = grind (arith, both_pass, length, in_range, and_from, le-leb, action_taken)
 
 -- ---- a word
 
@@ -108,9 +97,7 @@ settle_taken c again h none = pending_taken c again h.rows h.pending none
 
 react_taken : (c : List Rule) (again : Bool) (a : Rule) (values : List Text) (h : Held) → react_fault c again a values h ≡ []
     → react_passes c again a values h ≡ true
-react_taken c again a values h none =
-    let parts = both_pass (settle_fault c again h) (use_fault again a values (settled c h).rows) none in
-    and_from _ _ (settle_taken c again h parts.0) (use_taken again a values (settled c h).rows parts.1)
+react_taken c again a values h none = grind (arith, both_pass, and_from, settle_taken, use_taken)
 
 option_taken : (c : List Rule) (again : Bool) (a : Rule) (v : Option Text) (h : Held) → option_fault c again a v h ≡ [] → option_passes c again a v h ≡ true
 option_taken c again a (Some v) h none = react_taken c again a (v ∷ []) h none
@@ -145,17 +132,14 @@ bundle_step_taken : (c : List Rule) (again : Bool) (first : Option ℕ) (flags :
     (passes : Text → ℕ → Held → Bool) → ((rest : Text) (less : ℕ) (after : Held) → fault rest less after ≡ [] → passes rest less after ≡ true)
     → bundle_step_fault c again first flags skip h fault ≡ [] → bundle_step_passes c again first flags skip h passes ≡ true
 bundle_step_taken c again None flags skip h fault passes so none = refl
-bundle_step_taken c again (Some x) flags zero h fault passes so none =
-    let rest = drop (length (encode_utf8 x)) flags in
-    short_taken c again (arg_by_short c x) rest h (fault rest 0) (passes rest 0) (so rest 0) none
+bundle_step_taken c again (Some x) flags zero h fault passes so none = grind (arith, length, encode_utf8, short_taken)
 bundle_step_taken c again (Some x) flags (suc skip) h fault passes so none = so (drop (length (encode_utf8 x)) flags) skip h none
 
 flags_taken : (c : List Rule) (again : Bool) (k : ℕ) (flags : Text) (skip : ℕ) (h : Held) → flags_fault c again k flags skip h ≡ []
     → flags_pass c again k flags skip h ≡ true
 unfolding flags_fault flags_pass
 flags_taken c again zero flags skip h none = refl
-flags_taken c again (suc k) flags skip h none =
-    bundle_step_taken c again (slice_get (chars flags) 0) flags skip h (flags_fault c again k) (flags_pass c again k) (flags_taken c again k) none
+flags_taken c again (suc k) flags skip h none = grind (arith, bundle_step_taken, flags_taken c again k)
 
 bundle_taken : (c : List Rule) (again : Bool) (flags : Option Text) (h : Held) → option_map_or (λ f. bundle_fault c again f h) flags [] ≡ []
     → option_map_or (λ f. bundle_passes c again f h) flags true ≡ true
@@ -174,8 +158,7 @@ no_help false is_off first second none = refl
 
 other_taken : (s : Shape) (met : Option Text) (word : Text) (h : Held) → other_fault s met word h ≡ [] → other_passes s met word h ≡ true
 other_taken s (Some name) word h none = no_help (bytes_eq name (codes "help")) s.disable_help_subcommand _ _ none
-other_taken s None word h none =
-    or_passed (bytes_eq word (45 ∷ 45 ∷ [])) _ _ (flag_word_taken s.rules s.args_override_self (long_of word) word h) none
+other_taken s None word h none = grind (arith, or_passed, flag_word_taken)
 
 word_taken : (s : Shape) (names : Names) (is_trailing : Bool) (waiting : Waiting) (word : Text) (h : Held) → word_fault s names is_trailing waiting word h ≡ []
     → word_passes s names is_trailing waiting word h ≡ true
@@ -201,12 +184,7 @@ step_taken s position h (trailing past) none = refl
 step_taken s position h (subcommand name) none = refl
 
 turn_taken : (s : Shape) (names : Names) (w : Walk) (word : Text) → turn_fault s names w word ≡ [] → turn_passes s names w word ≡ true
-turn_taken s names w word none =
-    let met = word_met s.rules names w.is_trailing w.waiting w.position word w.held in
-    or_passed (is_some w.stopped) _ _
-    (λ here.
-    let parts = both_pass (word_fault s names w.is_trailing w.waiting word w.held) (step_fault s w.position met.0 met.1) here in
-    and_from _ _ (word_taken s names w.is_trailing w.waiting word w.held parts.0) (step_taken s w.position met.0 met.1 parts.1)) none
+turn_taken s names w word none = grind (arith, or_passed, both_pass, and_from, word_taken, step_taken)
 
 walk_taken : (s : Shape) (names : Names) (w : Walk) (words : List Text) → walk_fault s names w words ≡ [] → walk_passes s names w words ≡ true
 unfolding walk_fault walk_passes
@@ -220,12 +198,7 @@ walk_taken s names w (word ∷ rest) none =
 -- of a command whose defaults pass, and of which nothing is required
 level_taken : (s : Shape) (names : Names) (h : Held) (words : List Text) (has : Bool) (below : Kinds) → list_all default_passes s.rules ≡ true
     → ((rows : List Row) → is_valid s rows false ≡ true) → level_fault s names h words has below ≡ [] → level_passes s names h words false ≡ true
-level_taken s names h words has below defaults valid none =
-    let end = (walk s.rules names h words).held in
-    let parts = both_pass (walk_fault s names (walk_from h) words) _ none in
-    let settles = both_pass (settle_fault s.rules s.args_override_self end) _ (both_pass below _ parts.1).1 in
-    and_from _ _ (walk_taken s names (walk_from h) words parts.0)
-    (and_from _ _ (settle_taken s.rules s.args_override_self end settles.0) (and_from _ _ defaults (valid (finished s.rules end))))
+level_taken s names h words has below defaults valid none = grind (arith, both_pass, and_from, walk_taken, settle_taken)
 
 pub taken : (words : List Text) → fault_of kati_app words ≡ [] → IsTaken words
 taken words none =
