@@ -76,6 +76,31 @@ OTHER_FOR_A_TARGET = {
         ("all: a b\na: export A = $(flavor B)\na: B = 1\na b: ; echo \"$$A\" > $@\n",
          ["- A=recursive in the environment of a", "+ A=undefined in the environment of a"]),
 }
+# What a script tells of names that no text has, and makefiles that export all macros, with those.
+BY_NAME = "for name in $1; do eval \"echo \\\"\\${$name-none}\\\"\"; done\n"
+OF_ALL = {
+    "a special target": (".EXPORT_ALL_VARIABLES:\nA = 1\nB = 2\nall: ; sh ./a.sh 'A B' > out\n", "A B"),
+    "a bare export": ("export\nA = '1' \"$$X\"\nall: ; sh ./a.sh A > out\n", "A"),
+    "what make has by itself":
+        ("export\nA = $(wildcard *.sh)\nall: ; sh ./a.sh 'A CURDIR MAKEFILE_LIST GNUMAKEFLAGS' > out\n",
+         "A CURDIR GNUMAKEFLAGS MAKEFILE_LIST"),
+    "what hangs on the target": ("export\nA = of $@\nall: a b\na b: ; sh ./a.sh A > $@\n", "A"),
+    "what targets have": ("export\nA = 1\nall: a b\na: A += 2\nb: B = 3\na b: ; sh ./a.sh 'A B' > $@\n", "A"),
+    "what isn't exported":
+        ("export\nunexport A B\nA = 1\nC = 1\nall: a b\na: A = 2\na: B = 2\na b: ; sh ./a.sh 'A B C' > $@\n", "C"),
+}
+# The same, by which not all macros reach kati's commands, with the line that tells so.
+NOT_OF_ALL = {
+    "of several lines":
+        ("export\nA = 1\ndefine T\na\nb\nendef\nall: ; sh ./a.sh T > out\n", "T"),
+    "too many":
+        ("export\n" + "".join(f"A{one:03} = {one}\n" for one in range(101)) + "all: ; sh ./a.sh A077 > out\n",
+         "A000, A001, A002, A003, A004 and 99 more"),
+    "too long":
+        (f"export\nA = {'a' * 4000}\nall: ; sh ./a.sh A > out\n", "A, CURDIR, GNUMAKEFLAGS, MAKEFILE_LIST"),
+    "what kati can't make":
+        ("export\nA = $(shell echo $@)\nall: ; sh ./a.sh A > out\n", "A, CURDIR, GNUMAKEFLAGS, MAKEFILE_LIST"),
+}
 
 
 @needs("kati", "kati-asked", "make", "ninja")
@@ -130,6 +155,46 @@ class Exporting(Tree):
                 self.assertEqual(self.by_kati(), wanted, text)
                 self.assertEqual(self.tool("kati-compare", "--builtin").status, 0, text)
                 self.assertIn("kati takes it as it is", self.port(), name)
+
+    def test_what_no_text_names_reaches_commands_where_all_is_exported(self):
+        for name, (makefile, handed) in OF_ALL.items():
+            with self.subTest(name):
+                shutil.rmtree(self.top)
+                self.put_all({"Makefile": makefile, "a.sh": BY_NAME})
+                wanted = self.built(".", "make")
+                said = self.port()
+                self.assertIn("kati's commands are make's\n", said)
+                told = next((line for line in said.split("\n") if ": exported, by SHELL " in line), "").split()
+                self.assertEqual([one for one in handed.split() if one not in told], [], said)
+                self.assertEqual(self.built(".", "make"), wanted)
+                self.assertEqual(self.by_kati(), wanted, self.read("Makefile"))
+                self.assertIn("kati's commands are make's\n", self.port())
+                self.assertEqual(self.by_kati(), wanted, self.read("Makefile"))
+
+    def test_what_is_not_handed_on_where_all_is_exported_is_told(self):
+        for name, (makefile, names) in NOT_OF_ALL.items():
+            with self.subTest(name):
+                shutil.rmtree(self.top)
+                self.put_all({"Makefile": makefile, "a.sh": BY_NAME})
+                wanted = self.built(".", "make")
+                line = f"- {names} in the environment of commands, as make exports all macros\n"
+                said = self.port()
+                self.assertIn(f"Makefile: {line}Makefile: kati's commands differ in their environment\n", said)
+                self.assertEqual(self.built(".", "make"), wanted)
+                self.assertNotEqual(self.by_kati(), wanted)
+                shutil.rmtree(self.top)
+                self.put_all({"Makefile": makefile, "a.sh": BY_NAME})
+                ran = self.tool("kati-build", "--port", "--no-ninja")
+                self.assertEqual(ran.status, 5, ran.all)
+                self.assertIn(line, ran.all)
+
+    def test_what_make_makes_before_it_has_read_all_macros_is_told(self):
+        self.put_all({"Makefile": "export\ninclude a.mk\nall: ; echo $(A) > out\n"
+                                  "a.mk: ; sh ./a.sh A > b; echo A = 1 > $@\n", "a.sh": BY_NAME})
+        said = self.port()
+        self.assertIn("Makefile: - a.mk, b: made before make has read all macros, which it exports\n"
+                      "Makefile: kati's commands differ in their environment\n", said)
+        self.assertEqual(self.built(".", "make"), {"a.mk": "A = 1\n", "b": "none\n", "out": "1\n"})
 
     def test_another_value_for_a_target_is_told(self):
         for name, (makefile, lines) in OTHER_FOR_A_TARGET.items():

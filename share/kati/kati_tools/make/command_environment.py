@@ -10,6 +10,8 @@ NAME = re.compile(r"[A-Za-z_]\w*")
 OWN = {"SHELL", "MAKE", "MAKEFLAGS", "MFLAGS", "GNUMAKEFLAGS", "MAKELEVEL", "MAKEOVERRIDES", "MAKE_RESTARTS",
        "MAKE_TERMOUT", "MAKE_TERMERR", "MAKEFILES", "MAKEFILE_LIST", "MAKECMDGOALS", "PWD", "OLDPWD", "IFS", "SHLVL",
        "_"}
+# Of these, and beside them, what make gives by itself to commands where it exports all macros.
+OF_MAKE_TOO = {"MAKEFILE_LIST", "GNUMAKEFLAGS", "CURDIR"}
 # A macro that commands have in their environment where make exports all of them.
 OF_ALL = "KATI_EXPORTS_ALL"
 BEFORE_SHELL = re.compile(r"""[ \t]*([A-Za-z_]\w*)=((?:"(?:\\.|[^"\\])*"|\\.|[^\s"'\\])*)[ \t]+""")
@@ -25,9 +27,10 @@ class Added:
         self.is_known = None not in told
         first, other = told if self.is_known else ({}, {})
         self.all = first
+        own = OWN - OF_MAKE_TOO if OF_ALL in first else OWN
         self.values = {name: value if other.get(name) == value and shell not in value else None
                        for name, value in first.items()
-                       if NAME.fullmatch(name) and name not in OWN and given.get(name) != value}
+                       if NAME.fullmatch(name) and name not in own and given.get(name) != value}
         self.is_of_all = self.values.pop(OF_ALL, None) is not None
 
 

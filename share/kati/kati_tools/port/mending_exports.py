@@ -1,7 +1,7 @@
 """Exported variables: make is asked which its commands have, and the shell of kati's commands gets those they lack."""
 from ..makefile import references, statements
 from ..make import command_environment, exported_names, target_environment
-from . import frozen_values, inner_makes, shared_includes, target_macros
+from . import exports_of_all, frozen_values, inner_makes, shared_includes, target_macros
 from .mender import Mender
 from ..make.command_environment import NAME, OWN
 
@@ -37,18 +37,24 @@ class Exports(Mender):
         # Those that may have another value for another target, which are compared target by target, and what make told
         # of each of its commands; and macros of the command line, which are told alone.
         self.of_targets, self.by_target, self.of_words = set(), None, []
-        # Those that something asks for, where all are exported.
-        self.asked = set()
+        # Those that something asks for, where all are exported; and all those that kati's commands are to have then.
+        self.named, self.asked = set(), set()
 
     def look(self):
-        """Asks make. Where all variables are exported, those count that lines name, or that something asks for."""
+        """Asks make. Where all variables are exported, kati's commands are to have all that fits in them, or those that
+        lines name or something asks for."""
         self.added = self.port.run.added_to_environment()
         lines, read = list(self.port.lines()), set(self.port.ported)
         texts = exported_names.named(lines)
         told = self.port.run.values([one for one in texts if "$" in one])
         named = [name for text in [*(one for one in texts if "$" not in one), *told] for name in (text or "").split()]
+        targets = set()
         if self.added.is_of_all:
-            self.asked = exported_names.asked_for(lines, self.port.copy.files(), read)
+            self.named = exported_names.asked_for(lines, self.port.copy.files(), read)
+            own = exports_of_all.all_of_one_line(self.added, exported_names.given_by(self.port.run.macros))
+            targets = exports_of_all.of_targets(lines)
+            self.asked = self.named.union(own, targets)
+            self.named.update(named)
         self.wanted, self.of_words = exported_names.chosen(
             self.added, named, self.port.run.macros, lambda: self.asked,
             lambda: exported_names.asked_for(
@@ -58,6 +64,22 @@ class Exports(Mender):
             self.added, [*self.wanted, *self.of_words], self.port.run.macros, lines, lambda: self.asked)
         if self.of_targets:
             self.by_target = self.port.run.environments(self.port.first.shell)
+            self.asked -= targets - self.named - exports_of_all.exported_by(self.by_target)
+
+    def begin(self):
+        """Gives kati the folder that make runs in, which goes with the tree."""
+        if self.added.is_of_all and "CURDIR" in self.wanted and self.added.values["CURDIR"]:
+            self.port.for_kati.of_the_run.setdefault("CURDIR", self.added.values["CURDIR"])
+
+    def lessen(self):
+        """Hands on no more than what something asks for; answers whether that changes the makefile."""
+        others = [name for name in self.handed if name not in self.named]
+        self.asked &= self.named
+        self.of_targets &= self.named
+        self.wanted = [name for name in self.wanted if name in self.named]
+        self.handed = [name for name in self.handed if name in self.named]
+        self.frozen = {name: macro for name, macro in self.frozen.items() if name in self.named}
+        return bool(others) and self.added.is_of_all
 
     def settle(self, translation):
         """Hands on what kati's commands lack; answers whether that changes the makefile."""
@@ -111,6 +133,9 @@ class Exports(Mender):
         katis = command_environment.of_commands(commands_of(translation))
         names = [*self.wanted, *self.of_words]
         found = list(command_environment.differences(self.added, names, katis, self.of_targets))
+        if self.added.is_of_all and katis:
+            known = {*names, *exported_names.given_by(self.port.run.macros)}
+            found += exports_of_all.not_handed(self.added, known)
         if not self.of_targets or not self.added.is_known:
             return found, False
         compared = self.compared_by_target(translation)

@@ -6,8 +6,8 @@ from collections import Counter
 
 from ..make import command_lists, shell_reading
 from ..build import comparing, differences
-from . import by_recipes_shell, folder_search, made_links, mending_exports, newer_names, scanning, shell_flags, \
-    shell_writes, taken_away, target_macros, template_faults, unseen_reads, written_outside
+from . import by_recipes_shell, exports_of_all, folder_search, made_links, mending_exports, newer_names, scanning, \
+    shell_flags, shell_writes, taken_away, target_macros, template_faults, unseen_reads, written_outside
 from .frozen_values import NAME
 from ..base.programs import Stop
 
@@ -134,7 +134,11 @@ class Comparison:
         self.makes, self.katis, self.has_other_blanks = found.makes, found.katis, bool(found.in_blanks)
         forms = (Counter(map(shell_reading.without_quoted_blanks, lines)) for lines in (self.makes, self.katis))
         self.is_in_quotes = next(forms) == next(forms)
-        self.in_environment, has_other_blanks = port.mender(mending_exports.Exports).differences(translation)
+        exports = port.mender(mending_exports.Exports)
+        self.in_environment, has_other_blanks = exports.differences(translation)
+        if exports.added.is_of_all:
+            self.in_environment += exports_of_all.made_before(
+                [*port.first.made, *port.first.remade], translation.statements, port.first.read)
         self.has_other_blanks = self.has_other_blanks or has_other_blanks
         self.of_the_shell = port.mender(shell_flags.ShellFlags).differences(translation)
         self.newer = newer_names.Newer(port, translation)

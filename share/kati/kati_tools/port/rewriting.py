@@ -7,7 +7,7 @@ makes of a makefile is asked before anything is changed (first_look.py). What me
 import os
 import re
 
-from . import asking_kati, constructs, first_look, mending_alike, other_goals, saving
+from . import asking_kati, constructs, first_look, mending_alike, mending_exports, other_goals, saving
 from .stuck import Stuck, last_line
 from ..base.programs import Stop
 
@@ -40,6 +40,8 @@ def mend(port, translation):
         raise Stuck(last_line(translation.said) or f"kati ended with status {translation.status}")
     fault, before = Fault(port, found[-1]), state(port)
     if not any(one(port, fault) and state(port) != before for one in constructs.menders_of(fault)):
+        if port.mender(mending_exports.Exports).lessen():
+            return
         raise Stuck(fault.told(), fault)
     other_goals.note(port, fault)
     mending_alike.mend(port, [fault.number])

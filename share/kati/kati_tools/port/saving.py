@@ -30,12 +30,12 @@ def head_of_words(port):
 
 
 def lines_that_hide(port):
-    """The lines that keep the file of values out of the list of makefiles, where they ask for that, and its macros
-    out of the environment, where they export all."""
+    """The lines that keep the file of values out of the list of makefiles, where they ask for that or export
+    all, and its macros out of the environment then."""
     lines = [line.joined for line in port.lines() if frozen_values.NAME not in line.text]
-    if any("MAKEFILE_LIST" in line for line in lines):
-        yield frozen_values.HIDING
     exports_all = any(line.split() == ["export"] or line.startswith(".EXPORT_ALL_VARIABLES") for line in lines)
+    if exports_all or any("MAKEFILE_LIST" in line for line in lines):
+        yield frozen_values.HIDING
     if exports_all and port.values.all:
         yield f"unexport {' '.join(one.name for one in port.values.all)}"
 
