@@ -1,6 +1,6 @@
 -- An automatic macro is found by its name.
-use Rattle.std.proofs.Common.{◌≡◌, ℕ, Bool, true, false, not, ◌&&◌, ◌==◌, if◌then◌else◌, List, [], ◌∷◌, ◌++◌, map, Option, Some, None, option_map, refl, sym, ap, ◌∙◌, true≢false, nat_eq, flat_map}
-use Rattle.kt_recipe.proofs.Common.{list_any, pointwise, eqb-true, Text, Store, look, Node, Form, Subject, text_of, marks, has_parts, endings, names_in, of_mark, automatic_in}
+use Rattle.std.proofs.Common.{arith, ◌≡◌, ℕ, Bool, true, false, not, ◌&&◌, ◌==◌, if◌then◌else◌, List, [], ◌∷◌, ◌++◌, map, Option, Some, None, option_map, refl, sym, ap, ◌∙◌, true≢false, nat_eq, flat_map}
+use Rattle.kt_recipe.proofs.Common.{list_any, pointwise, eqb-true, Text, Store, look, Node, Form, Subject, text_of, marks, endings, names_in, of_mark, automatic_in}
 use Rattle.std.specs.Option.{option_and_then}
 use Rattle.kt_list.proofs.general.Booleans.{or_first, or_second}
 use Rattle.kt_recipe.specs.declared.forms.Form.TheVariants.{Whole, Directory, File}
@@ -13,19 +13,15 @@ or_else None other = other
 or_else (Some value) other = Some value
 
 or_none : (found : Option Text) → or_else found None ≡ found
-or_none None = refl
-or_none (Some value) = refl
+or_none found = grind arith
 
 test_first : (b : Bool) (value : Text) (found other : Option Text)
     → (if b then Some value else or_else found other) ≡ or_else (if b then Some value else found) other
-test_first true value found other = refl
-test_first false value found other = refl
+test_first b value found other = grind arith
 
 look_after : (first others : Store) (name : Text) → look (first ++ others) name ≡ or_else (look first name) (look others name)
 look_after [] others name = refl
-look_after (e ∷ es) others name =
-    ap (λ found. if pointwise nat_eq e.0 name then Some e.1 else found) (look_after es others name)
-    ∙ test_first (pointwise nat_eq e.0 name) e.1 (look es name) (look others name)
+look_after (e ∷ es) others name = grind (arith, pointwise, nat_eq, test_first, look_after es others name)
 
 -- ---- pairs after a mark
 
@@ -36,8 +32,7 @@ marked : (first mark : ℕ) (macros : Store) (rest : Text) (b : Bool) → (first
     → look (after first macros) (mark ∷ rest) ≡ (if b then look macros rest else None)
 marked first mark [] rest true is = refl
 marked first mark [] rest false is = refl
-marked first mark (macro ∷ macros) rest true is =
-    rw is (ap (λ found. if pointwise nat_eq macro.0 rest then Some macro.1 else found) (marked first mark macros rest true is))
+marked first mark (macro ∷ macros) rest true is = grind (arith, pointwise, nat_eq, marked first mark macros rest true is)
 marked first mark (macro ∷ macros) rest false is = rw is (marked first mark macros rest false is)
 
 -- ---- the marks, one after the other
@@ -57,12 +52,10 @@ abbrev told_by : Node → ℕ → Text → Option Subject → Option Text
 told_by node part rest found = option_and_then (λ subject. look (of_mark node part subject) rest) found
 
 apart : (a b : Bool) → (not a && b) ≡ true → a ≡ false
-apart true b is = absurd (true≢false (sym is))
-apart false b is = refl
+apart a b is = grind (arith, true≢false)
 
 apart_rest : (a b : Bool) → (not a && b) ≡ true → b ≡ true
-apart_rest true b is = absurd (true≢false (sym is))
-apart_rest false b is = is
+apart_rest a b is = grind (arith, true≢false)
 
 none_there : (node : Node) (part : ℕ) (known : List (ℕ × Subject)) (mark : ℕ) (rest : Text) → has_mark known mark ≡ false
     → look (all_after node part known) (mark ∷ rest) ≡ None
@@ -79,9 +72,7 @@ either_mark : (node : Node) (part : ℕ) (one : ℕ × Subject) (known : List (�
     → look (all_after node part known) (mark ∷ rest) ≡ told_by node part rest (subject_in known mark)
     → or_else (if b then look (of_mark node part one.1) rest else None) (look (all_after node part known) (mark ∷ rest))
     ≡ told_by node part rest (if b then Some one.1 else subject_in known mark)
-either_mark node part one known mark rest true is nothing later =
-    ap (or_else (look (of_mark node part one.1) rest)) (nothing refl) ∙ or_none (look (of_mark node part one.1) rest)
-either_mark node part one known mark rest false is nothing later = later
+either_mark node part one known mark rest b is nothing later = grind (arith, or_none)
 
 found_there : (node : Node) (part : ℕ) (known : List (ℕ × Subject)) (mark : ℕ) (rest : Text) → differ known ≡ true
     → look (all_after node part known) (mark ∷ rest) ≡ told_by node part rest (subject_in known mark)
@@ -104,58 +95,44 @@ abbrev of_endings : Node → ℕ → Subject → Bool → Store
 of_endings node part subject parts = map (λ ending. (ending.0, text_of ending.1 (names_in node part subject))) (endings parts)
 
 nothing_after : (node : Node) (part : ℕ) (subject : Subject) (parts : Bool) → look (of_endings node part subject parts) [] ≡ Some (told node part (subject, Whole))
-nothing_after node part subject true = refl
-nothing_after node part subject false = refl
+nothing_after node part subject parts = grind arith
 
 by_letter : (node : Node) (part : ℕ) (subject : Subject) (d f : Bool)
     → (if d && true then Some (told node part (subject, Directory)) else (if f && true then Some (told node part (subject, File)) else None))
     ≡ option_map (told node part) (option_map (λ form. (subject, form)) (if d then Some Directory else (if f then Some File else None)))
-by_letter node part subject true f = refl
-by_letter node part subject false true = refl
-by_letter node part subject false false = refl
+by_letter node part subject d f = grind arith
 
 letter_after : (node : Node) (part : ℕ) (subject : Subject) (letter : ℕ) (parts : Bool)
     → look (of_endings node part subject parts) (letter ∷ [])
     ≡ option_map (told node part) (if parts then option_map (λ form. (subject, form)) (form_of letter) else None)
-letter_after node part subject letter true = by_letter node part subject (68 == letter) (70 == letter)
-letter_after node part subject letter false = refl
+letter_after node part subject letter parts = grind (arith, by_letter)
 
 never : (d f : Bool) (one other : Option Text) → (if d && false then one else (if f && false then other else None)) ≡ None
-never true true one other = refl
-never true false one other = refl
-never false true one other = refl
-never false false one other = refl
+never d f one other = grind arith
 
 more_after : (node : Node) (part : ℕ) (subject : Subject) (letter other : ℕ) (more : Text) (parts : Bool)
     → look (of_endings node part subject parts) (letter ∷ other ∷ more) ≡ None
-more_after node part subject letter other more true =
-    never (68 == letter) (70 == letter) (Some (told node part (subject, Directory))) (Some (told node part (subject, File)))
-more_after node part subject letter other more false = refl
+more_after node part subject letter other more parts = grind (arith, never)
 
 -- ---- names
 
 alone : (node : Node) (part : ℕ) (found : Option Subject)
     → told_by node part [] found ≡ option_map (told node part) (option_map (λ subject. (subject, Whole)) found)
-alone node part None = refl
-alone node part (Some subject) = nothing_after node part subject (has_parts subject)
+alone node part found = grind (arith, nothing_after)
 
 with_letter : (node : Node) (part letter : ℕ) (found : Option Subject)
     → told_by node part (letter ∷ []) found ≡ option_map (told node part) (option_and_then (λ subject. parted subject letter) found)
-with_letter node part letter None = refl
-with_letter node part letter (Some subject) = letter_after node part subject letter (has_parts subject)
+with_letter node part letter found = grind (arith, letter_after)
 
 with_more : (node : Node) (part letter other : ℕ) (more : Text) (found : Option Subject)
     → told_by node part (letter ∷ other ∷ more) found ≡ None
-with_more node part letter other more None = refl
-with_more node part letter other more (Some subject) = more_after node part subject letter other more (has_parts subject)
+with_more node part letter other more found = grind (arith, more_after)
 
 -- what is found among the automatic macros is that of the name
 pub found_by_name : (node : Node) (part : ℕ) (name : Text) → look (automatic_in node part) name ≡ macro_in node part name
 unfolding automatic_in macro_in asked_by subject_of
 found_by_name node part [] = refl
-found_by_name node part (mark ∷ []) =
-    found_there node part marks mark [] refl ∙ alone node part (subject_in marks mark)
-found_by_name node part (mark ∷ letter ∷ []) =
-    found_there node part marks mark (letter ∷ []) refl ∙ with_letter node part letter (subject_in marks mark)
+found_by_name node part (mark ∷ []) = grind (arith, found_there, alone)
+found_by_name node part (mark ∷ letter ∷ []) = grind (arith, found_there, with_letter)
 found_by_name node part (mark ∷ letter ∷ other ∷ more) =
     found_there node part marks mark (letter ∷ other ∷ more) refl ∙ with_more node part letter other more (subject_in marks mark)

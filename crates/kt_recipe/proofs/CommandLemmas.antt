@@ -1,9 +1,9 @@
 -- A command is the calls of its pieces: each step puts its own calls behind those before it.
-use Rattle.std.proofs.Common.{◌≡◌, ℕ, Bool, true, false, List, [], ◌∷◌, ◌++◌, length, map, Option, Some, None, if◌then◌else◌, unwrap_or, slice_get, refl, sym, ap, subst, ◌∙◌, codes, filter, flat_map}
+use Rattle.std.proofs.Common.{arith, ◌≡◌, ℕ, Bool, true, false, List, [], ◌∷◌, ◌++◌, length, map, Option, Some, None, if◌then◌else◌, refl, sym, ap, subst, ◌∙◌, codes, filter, flat_map}
 use Rattle.std.proofs.lemmas.Grind.{flat_map-append}
-use Rattle.kt_recipe.proofs.Common.{append-nil, append_assoc, All, range_with_len, Text, is_nonempty, RecipeLine, Store, Table, Node, part_lines, automatic_in, after_run, is_marked, pieces_of, joined, wrapped, Setting, setting_of, shell_text, expansion, put_piece, put_pieces, put_line, put_lines, put_part, put_parts, shell_of}
+use Rattle.kt_recipe.proofs.Common.{append-nil, append_assoc, All, range_with_len, Text, is_nonempty, RecipeLine, Store, Table, Node, after_run, is_marked, pieces_of, joined, wrapped, Setting, shell_text, expansion, put_piece, put_pieces, put_line, put_lines, put_part, put_parts, shell_of}
 use Rattle.std.proofs.lemmas.List.Elements.{All-nil, All-cons, All-head, All-tail}
-use Rattle.kt_eval.specs.Outcome.{Outcome, Gave, Stopped, StepOver, ◌>>=◌, then_do, done}
+use Rattle.kt_eval.specs.Outcome.{Outcome, Gave, StepOver, ◌>>=◌, then_do, done}
 use Rattle.kt_recipe.specs.Commands.{Line, line_with, lines_in, lines_of, CommandPiece, piece_with, Call, call_text, command_of, Expanded, AreExpanded, MadeLine, CallsItsPieces, shell_at, expanded_for, IsCommandOf, CommandLaw}
 
 -- ---- the steps as one list of lines
@@ -16,38 +16,28 @@ put_all (line ∷ lines) command = do
 
 then_same : {A B : Type 0} (o : Outcome (List Text) A) (next other : A → StepOver (List Text) B)
     → ((x : A) (left : List Text) → next x left ≡ other x left) → then_do o next ≡ then_do o other
-then_same (Gave left x) next other same = same x left
-then_same (Stopped left fault) next other same = refl
+then_same o next other same = grind arith
 
 then_joined : {A B C : Type 0} (o : Outcome (List Text) A) (next : A → StepOver (List Text) B) (last : B → StepOver (List Text) C)
     → then_do o (λ x left. then_do (next x left) last) ≡ then_do (then_do o next) last
-then_joined (Gave left x) next last = refl
-then_joined (Stopped left fault) next last = refl
+then_joined o next last = grind arith
 
 put_all_both : (xs ys : List Line) (command : Option Text) (said : List Text) → put_all (xs ++ ys) command said ≡ then_do (put_all xs command said) (put_all ys)
 unfolding put_all
 put_all_both [] ys command said = refl
-put_all_both (x ∷ xs) ys command said =
-    then_same (put_line x.at x.text command said) (put_all (xs ++ ys)) (λ longer left. then_do (put_all xs longer left) (put_all ys)) (put_all_both xs ys)
-    ∙ then_joined (put_line x.at x.text command said) (put_all xs) (put_all ys)
+put_all_both (x ∷ xs) ys command said = grind (arith, then_same, then_joined, put_all_both xs ys)
 
 put_lines_are : (table : Table) (automatic : Store) (limit : ℕ) (lines : List RecipeLine) (command : Option Text) (said : List Text)
     → put_lines table automatic limit lines command said ≡ put_all (map (line_with table automatic limit) lines) command said
 unfolding put_lines put_all
 put_lines_are table automatic limit [] command said = refl
-put_lines_are table automatic limit (line ∷ lines) command said =
-    then_same (put_line (setting_of table automatic limit line.place) line.text command said) (put_lines table automatic limit lines)
-    (put_all (map (line_with table automatic limit) lines)) (put_lines_are table automatic limit lines)
+put_lines_are table automatic limit (line ∷ lines) command said = grind (arith, then_same, put_lines_are table automatic limit lines)
 
 put_parts_are : (table : Table) (limit : ℕ) (node : Node) (parts : List ℕ) (command : Option Text) (said : List Text)
     → put_parts table limit node parts command said ≡ put_all (flat_map (lines_in table limit node) parts) command said
 unfolding put_parts put_part put_all
 put_parts_are table limit node [] command said = refl
-put_parts_are table limit node (part ∷ parts) command said =
-    let lines = unwrap_or (part_lines (slice_get node.parts part)) [] in
-    then_same (put_part table limit node part command said) (put_parts table limit node parts) (put_all (flat_map (lines_in table limit node) parts)) (put_parts_are table limit node parts)
-    ∙ (ap (λ o. then_do o (put_all (flat_map (lines_in table limit node) parts))) (put_lines_are table (automatic_in node part) limit lines command said)
-    ∙ sym (put_all_both (lines_in table limit node part) (flat_map (lines_in table limit node) parts) command said))
+put_parts_are table limit node (part ∷ parts) command said = grind (arith, then_same, put_lines_are, put_all_both, put_parts_are table limit node parts)
 
 shell_is_all : (table : Table) (limit : ℕ) (node : Node) (said : List Text) → shell_of table limit node said ≡ put_all (lines_of table limit node) None said
 unfolding shell_of
@@ -56,11 +46,7 @@ shell_is_all table limit node said = put_parts_are table limit node (range_with_
 -- ---- one more call
 
 call_joined : (before : List Call) (call : Call) → Some (joined (command_of before) (call_text call)) ≡ command_of (before ++ call ∷ [])
-call_joined [] call = ap Some (sym (append-nil (call_text call)))
-call_joined (first ∷ before) call =
-    let later = λ (call : Call). codes " && " ++ call_text call in
-    ap Some (append_assoc (call_text first) (flat_map later before) (later call)
-    ∙ ap (λ t. call_text first ++ t) (ap (λ t. flat_map later before ++ t) (sym (append-nil (later call))) ∙ sym (flat_map-append later before (call ∷ []))))
+call_joined before call = grind (arith, append-nil, codes, append_assoc, flat_map-append)
 
 after_call : (before : List Call) (call : Call) (start : Option Text) → start ≡ command_of before
     → Some (joined start (wrapped call.piece.ignored call.shell call.piece.text)) ≡ command_of (before ++ call ∷ [])
@@ -77,8 +63,7 @@ pub record GaveBoth {L A B : Type 0} (first : Outcome L A) (next : A → StepOve
 
 pub gave_both : {L A B : Type 0} (first : Outcome L A) (next : A → StepOver L B) (left : L) (value : B) → then_do first next ≡ Gave left value
     → GaveBoth first next left value
-gave_both (Gave middle x) next left value e = record { middle = middle; given = x; is = refl; rest = e }
-gave_both (Stopped middle fault) next left value e = absurd (cc e)
+gave_both first next left value e = grind arith
 
 value_is : {L A : Type 0} (x value : A) (left end : L) → done x left ≡ Gave end value → value ≡ x
 value_is x value left end e = cc e
@@ -99,12 +84,7 @@ record Called (at : Setting) (pieces : List CommandPiece) (before : List Call) (
 
 called_next : (at : Setting) (before : List Call) (call : Call) (pieces : List CommandPiece) (said left heard : List Text) (command : Option Text)
     → expansion at shell_text said ≡ Gave left call.shell → Called at pieces (before ++ call ∷ []) left heard command → Called at (call.piece ∷ pieces) before said heard command
-called_next at before call pieces said left heard command told more = record {
-  calls = call ∷ more.calls;
-  each = ap (λ pieces. call.piece ∷ pieces) more.each;
-  shells = (left, told, more.shells);
-  joined = more.joined ∙ ap command_of (append_assoc before (call ∷ []) more.calls);
-}
+called_next at before call pieces said left heard command told more = grind (arith, append_assoc)
 
 -- a piece is put, if it isn't empty
 abbrev put_if : Bool → Setting → CommandPiece → Option Text → StepOver (List Text) (Option Text)
@@ -120,19 +100,13 @@ piece_called true at piece pieces before start longer command said left heard is
     (both.is ∙ ap (λ left. Gave left both.given) (sym (left_is _ longer both.middle left both.rest)))
     (rest (before ++ record { shell = both.given; piece = piece } ∷ [])
     (value_is _ longer both.middle left both.rest ∙ after_call before (record { shell = both.given; piece = piece }) start is))
-piece_called false at piece pieces before start longer command said left heard is e rest =
-    subst (λ said. Called at pieces before said heard command) (left_is start longer said left e) (rest before (value_is start longer said left e ∙ is))
+piece_called false at piece pieces before start longer command said left heard is e rest = grind (arith, left_is, value_is)
 
 pieces_called : (at : Setting) (marked : Bool) (pieces : List Text) (before : List Call) (start command : Option Text) (said heard : List Text)
     → start ≡ command_of before → put_pieces at marked pieces start said ≡ Gave heard command
     → Called at (filter (λ piece. is_nonempty piece.text) (map (piece_with marked) pieces)) before said heard command
 unfolding put_pieces put_piece
-pieces_called at marked [] before start command said heard is e = record {
-  calls = [];
-  each = refl;
-  shells = left_is start command said heard e;
-  joined = value_is start command said heard e ∙ is ∙ ap command_of (sym (append-nil before));
-}
+pieces_called at marked [] before start command said heard is e = grind (arith, left_is, value_is, append-nil)
 pieces_called at marked (piece ∷ pieces) before start command said heard is e =
     let both = gave_both (put_piece at marked piece start said) (put_pieces at marked pieces) heard command e in
     piece_called (is_nonempty (after_run piece)) at (piece_with marked piece) _ before start both.given command said both.middle heard is both.is
@@ -202,8 +176,7 @@ pieces_put : (at : Setting) (marked : Bool) (pieces : List Text) (heard : List T
     → start ≡ command_of before → map (λ call. call.piece) calls ≡ filter (λ piece. is_nonempty piece.text) (map (piece_with marked) pieces)
     → AreExpanded (map (shell_at at) calls) said heard → put_pieces at marked pieces start said ≡ Gave heard (command_of (before ++ calls))
 unfolding put_pieces put_piece
-pieces_put at marked [] heard [] before start said is each told =
-    ap (λ said. Gave said start) (sym told) ∙ ap (Gave heard) (is ∙ ap command_of (sym (append-nil before)))
+pieces_put at marked [] heard [] before start said is each told = grind (arith, append-nil)
 pieces_put at marked [] heard (call ∷ calls) before start said is each told = absurd (cc each)
 pieces_put at marked (piece ∷ pieces) heard calls before start said is each told =
     piece_put (is_nonempty (after_run piece)) at (piece_with marked piece) _ calls before start said heard (put_pieces at marked pieces) is each told
@@ -213,8 +186,7 @@ lines_put : (made : List MadeLine) (before : List Call) (start : Option Text) (s
     → AreExpanded (flat_map expanded_for made) said heard
     → put_all (map (λ line. line.line) made) start said ≡ Gave heard (command_of (before ++ flat_map (λ line. line.calls) made))
 unfolding put_all put_line
-lines_put [] before start said heard is pieces told =
-    ap (λ said. Gave said start) (sym told) ∙ ap (Gave heard) (is ∙ ap command_of (sym (append-nil before)))
+lines_put [] before start said heard is pieces told = grind (arith, append-nil)
 lines_put (m ∷ made) before start said heard is pieces told =
     let more = parted (map (shell_at m.line.at) m.calls) (flat_map expanded_for made) told.0 heard told.2 in
     let put_rest = put_all (map (λ (line : MadeLine). line.line) made) in

@@ -1,6 +1,6 @@
 -- What isn't too deep is the same with one more level, step by step.
-use Rattle.std.proofs.Common.{◌≡◌, ℕ, suc, Bool, true, false, List, [], ◌∷◌, length, Option, None, if◌then◌else◌, unwrap_or, slice_get, refl, ap, ◌∙◌}
-use Rattle.kt_recipe.proofs.Common.{range_with_len, Text, is_nonempty, RecipeLine, expanded, Store, evaluator, frozen_world, Outcome, Gave, Stopped, StepOver, leaving, then_do, done, Table, expanding_stays, Node, part_lines, automatic_in, after_run, is_marked, pieces_of, Setting, setting_of, shell_text, expansion, put_piece, put_pieces, put_line, put_lines, put_part, put_parts, shell_of}
+use Rattle.std.proofs.Common.{arith, ◌≡◌, ℕ, suc, Bool, List, [], ◌∷◌, length, Option, None, if◌then◌else◌, refl}
+use Rattle.kt_recipe.proofs.Common.{range_with_len, Text, RecipeLine, Store, Outcome, StepOver, leaving, then_do, Table, expanding_stays, Node, Setting, setting_of, expansion, put_piece, put_pieces, put_line, put_lines, put_part, put_parts, shell_of}
 use Rattle.kt_eval.specs.Growing.{IsTooDeep, StaysOneDeeper}
 
 -- the second is the first, unless that is too deep
@@ -9,12 +9,10 @@ Stays before after = (IsTooDeep before → ⊥) → after ≡ before
 
 pub then_stays : {L A B : Type 0} (before after : Outcome L A) (next more : A → StepOver L B) → Stays before after
     → ((x : A) (left : L) → Stays (next x left) (more x left)) → Stays (then_do before next) (then_do after more)
-then_stays (Gave left x) after next more is later deep = ap (λ o. then_do o more) (is (λ never. never)) ∙ later x left deep
-then_stays (Stopped left fault) after next more is later deep = ap (λ o. then_do o more) (is deep)
+then_stays before after next more is later deep = grind arith
 
 pub leaving_stays : {L M A : Type 0} (see : L → M) (before after : Outcome L A) → Stays before after → Stays (leaving see before) (leaving see after)
-leaving_stays see (Gave left x) after is deep = ap (leaving see) (is (λ never. never))
-leaving_stays see (Stopped left fault) after is deep = ap (leaving see) (is deep)
+leaving_stays see before after is deep = grind arith
 
 -- ---- the steps
 
@@ -25,23 +23,16 @@ limited at limit = record { table = at.table; automatic = at.automatic; place = 
 expansion_stays : (at : Setting) (limit : ℕ) (text : Text) (said : List Text)
     → Stays (expansion (limited at limit) text said) (expansion (limited at (suc limit)) text said)
 unfolding expansion
-expansion_stays at limit text said =
-    let w = frozen_world at.table at.automatic at.place said in
-    leaving_stays (λ w. w.said) (expanded (evaluator false [] limit) text w) (expanded (evaluator false [] (suc limit)) text w)
-    (expanding_stays false [] text limit w)
+expansion_stays at limit text said = grind (arith, leaving_stays, expanding_stays)
 
 piece_stays : {A : Type 0} (b : Bool) (before after other : StepOver (List Text) A) (said : List Text) → Stays (before said) (after said)
     → Stays ((if b then before else other) said) ((if b then after else other) said)
-piece_stays true before after other said is deep = is deep
-piece_stays false before after other said is deep = refl
+piece_stays b before after other said is deep = grind arith
 
 put_piece_stays : (at : Setting) (limit : ℕ) (marked : Bool) (piece : Text) (command : Option Text) (said : List Text)
     → Stays (put_piece (limited at limit) marked piece command said) (put_piece (limited at (suc limit)) marked piece command said)
 unfolding put_piece
-put_piece_stays at limit marked piece command said =
-    piece_stays (is_nonempty (after_run piece)) _ _ (done command) said
-    (then_stays (expansion (limited at limit) shell_text said) (expansion (limited at (suc limit)) shell_text said) _ _
-    (expansion_stays at limit shell_text said) (λ shell heard deep. refl))
+put_piece_stays at limit marked piece command said = grind (arith, piece_stays, then_stays, expansion_stays)
 
 put_pieces_stay : (at : Setting) (limit : ℕ) (marked : Bool) (pieces : List Text) (command : Option Text) (said : List Text)
     → Stays (put_pieces (limited at limit) marked pieces command said) (put_pieces (limited at (suc limit)) marked pieces command said)
@@ -55,12 +46,7 @@ put_pieces_stay at limit marked (piece ∷ pieces) command said =
 put_line_stays : (at : Setting) (limit : ℕ) (line : Text) (command : Option Text) (said : List Text)
     → Stays (put_line (limited at limit) line command said) (put_line (limited at (suc limit)) line command said)
 unfolding put_line
-put_line_stays at limit line command said =
-    then_stays (expansion (limited at limit) (after_run line) said) (expansion (limited at (suc limit)) (after_run line) said)
-    (λ text. put_pieces (limited at limit) (is_marked line) (pieces_of text) command)
-    (λ text. put_pieces (limited at (suc limit)) (is_marked line) (pieces_of text) command)
-    (expansion_stays at limit (after_run line) said)
-    (λ text heard. put_pieces_stay at limit (is_marked line) (pieces_of text) command heard)
+put_line_stays at limit line command said = grind (arith, then_stays, expansion_stays, put_pieces_stay)
 
 put_lines_stay : (table : Table) (automatic : Store) (limit : ℕ) (lines : List RecipeLine) (command : Option Text) (said : List Text)
     → Stays (put_lines table automatic limit lines command said) (put_lines table automatic (suc limit) lines command said)
@@ -76,11 +62,7 @@ put_parts_stay : (table : Table) (limit : ℕ) (node : Node) (parts : List ℕ) 
     → Stays (put_parts table limit node parts command said) (put_parts table (suc limit) node parts command said)
 unfolding put_parts put_part
 put_parts_stay table limit node [] command said = λ deep. refl
-put_parts_stay table limit node (part ∷ parts) command said =
-    then_stays (put_part table limit node part command said) (put_part table (suc limit) node part command said)
-    (put_parts table limit node parts) (put_parts table (suc limit) node parts)
-    (put_lines_stay table (automatic_in node part) limit (unwrap_or (part_lines (slice_get node.parts part)) []) command said)
-    (put_parts_stay table limit node parts)
+put_parts_stay table limit node (part ∷ parts) command said = grind (arith, then_stays, put_lines_stay, put_parts_stay table limit node parts)
 
 pub command_stays : (table : Table) (node : Node) → StaysOneDeeper (λ limit. shell_of table limit node)
 unfolding shell_of

@@ -1,6 +1,6 @@
 -- A shell whose values expand to themselves is expanded to these values.
-use Rattle.std.proofs.Common.{◌≡◌, ℕ, zero, suc, Bool, true, false, not, ◌==◌, ◌&&◌, ⊎_elim, List, [], ◌++◌, Option, Some, None, refl, sym, ap, ◌∙◌, arith, true≢false, codes, is_some, option_map, unwrap_or}
-use Rattle.kt_recipe.proofs.Common.{cases_Bool, eqb-true, list_any, Text, is_separator, is_blank, list_text, Place, without_repeats, Deferred, Immediate, Macro, other_function, function_of, is_refused_function, asked_of, asked_by, naming_of, text_function, Evaluator, flavoured, value_of, body_of, value_named, referred, term_of, each_term, expanded, Store, above, evaluator, World, found_of, seen, innermost, lookup, frozen_world, Gave, leaving, Table, find, Node, names_of, automatic_in, text_of, setting_of, shell_text, expansion}
+use Rattle.std.proofs.Common.{◌≡◌, ℕ, zero, suc, Bool, false, not, ◌==◌, ⊎_elim, List, [], ◌++◌, Option, Some, None, refl, ap, arith, codes, option_map, unwrap_or}
+use Rattle.kt_recipe.proofs.Common.{cases_Bool, eqb-true, list_any, Text, is_separator, is_blank, list_text, Place, without_repeats, Deferred, Immediate, Macro, other_function, function_of, is_refused_function, asked_of, asked_by, naming_of, text_function, Evaluator, flavoured, value_of, body_of, value_named, referred, term_of, each_term, expanded, Store, above, evaluator, World, found_of, seen, innermost, lookup, frozen_world, Gave, Table, find, Node, names_of, automatic_in, text_of, setting_of, shell_text, expansion}
 use Rattle.kt_eval.specs.declared.macros.Flavour.{Flavour}
 use Rattle.kt_eval.proofs.lemmas.expanding.LiteralLemmas.{stays}
 use Rattle.kt_recipe.specs.inner.Plain.{is_plain, if_plain, plain_value, spaced, plain_shell}
@@ -11,8 +11,7 @@ use Rattle.kt_eval.proofs.lemmas.expanding.PlainLemmas.{no_text}
 
 free_is : (e : Evaluator) (value text : Text) (w : World) (b : Bool) → list_any (λ byte. byte == 36) value ≡ b → if_plain (not b) value ≡ Some text
     → expanded e value w ≡ Gave w text
-free_is e value text w true is found = absurd (no_text text found)
-free_is e value text w false is found = stays e value w is ∙ ap (λ t. Gave w (unwrap_or t [])) found
+free_is e value text w b is found = grind (arith, no_text, stays)
 
 not_zero : (limit : ℕ) → (suc limit == 0) ≡ false
 not_zero limit = ⊎_elim (λ h. let e = eqb-true _ _ h in absurd (omega arith)) (λ h. h) (cases_Bool (suc limit == 0))
@@ -22,9 +21,7 @@ flavoured_is : (reads : Bool) (store : Store) (limit : ℕ) (flavour : Flavour) 
 unfolding evaluator above
 flavoured_is reads store limit Immediate value text w is = ap (λ t. Gave w (unwrap_or t [])) is
 flavoured_is reads store zero Deferred value text w is = absurd (no_text text is)
-flavoured_is reads store (suc limit) Deferred value text w is =
-    let free = list_any (λ byte. byte == 36) value in
-    free_is (evaluator reads store limit) value text w free refl (ap (λ zero. if_plain (not zero && not free) value) (sym (not_zero limit)) ∙ is)
+flavoured_is reads store (suc limit) Deferred value text w is = grind (arith, free_is, not, not_zero)
 
 value_is : (reads : Bool) (store : Store) (limit : ℕ) (found : Option Macro) (text : Text) (w : World) → plain_value limit found ≡ Some text
     → value_of (evaluator reads store limit) (option_map found_of found) w ≡ Gave w text
@@ -53,17 +50,10 @@ both_are : (node : Node) (part : ℕ) (table : Table) (limit : ℕ) (place : Opt
     → Some text ≡ spaced first second
     → expanded (evaluator false [] limit) shell_text (frozen_world table (automatic_in node part) place said)
     ≡ Gave (frozen_world table (automatic_in node part) place said) text
-both_are node part table limit place said text None second is also found = absurd (no_text text (sym found))
-both_are node part table limit place said text (Some shell) None is also found = absurd (no_text text (sym found))
-both_are node part table limit place said text (Some shell) (Some flags) is also found =
-    let w = frozen_world table (automatic_in node part) place said in
-    terms_are_values (evaluator false [] limit) node part table place said shell flags
-    (value_is false [] limit (find (codes "SHELL") table) shell w is) (value_is false [] limit (find (codes ".SHELLFLAGS") table) flags w also)
-    ∙ ap (λ t. Gave w (unwrap_or t [])) (sym found)
+both_are node part table limit place said text first second is also found = grind (arith, no_text, terms_are_values, value_is, codes)
 
 pub shell_is : (node : Node) (part : ℕ) (table : Table) (limit : ℕ) (place : Place) (said : List Text) (text : Text)
     → Some text ≡ plain_shell table limit
     → expansion (setting_of table (automatic_in node part) limit place) shell_text said ≡ Gave said text
 unfolding plain_shell expansion
-shell_is node part table limit place said text found =
-    ap (leaving (λ w. w.said)) (both_are node part table limit (Some place) said text _ _ refl refl found)
+shell_is node part table limit place said text found = grind (arith, both_are)

@@ -1,7 +1,7 @@
 -- What calls add to pieces whose arguments are known.
-use Rattle.std.proofs.Common.{◌≡◌, ℕ, ◌==◌, true, false, List, [], ◌∷◌, ◌++◌, length, map, get_or, Bor, Option, Some, None, IfSome, refl, sym, ap, arith, ◌∙◌}
+use Rattle.std.proofs.Common.{◌≡◌, ℕ, ◌==◌, true, false, List, [], ◌∷◌, ◌++◌, length, map, get_or, Bor, Option, Some, None, IfSome, refl, ap, arith, ◌∙◌}
 use Rattle.std.proofs.lemmas.Bool.{eq-eqb}
-use Rattle.kt_recipe.proofs.Common.{append-nil, Text, reference, Place, Gave, World, Outcome, then_do, frozen_world, Evaluator, asked_by, term_of, referred, apply, each_argument, Table, Node, automatic_in}
+use Rattle.kt_recipe.proofs.Common.{append-nil, Text, reference, Place, Gave, frozen_world, Evaluator, asked_by, term_of, referred, apply, each_argument, Table, Node, automatic_in}
 use Rattle.kt_text.specs.Words.{stripped}
 use Rattle.kt_text.specs.TextFunctions.{arity}
 use Rattle.kt_text.specs.declared.functions.text_function.TextFunction.{TextFunction}
@@ -11,14 +11,13 @@ use Rattle.kt_eval.specs.declared.expanding.function.Function.{Function}
 use Rattle.kt_eval.specs.expanding.Calls.{calls}
 use Rattle.kt_eval.specs.expanding.Expansion.{apply_text, apply_if}
 use Rattle.kt_recipe.specs.declared.prepared.Pieces.{Pieces}
-use Rattle.kt_recipe.specs.inner.Prepared.{Adds, AddsResult, AreText, IsKnown, filled}
+use Rattle.kt_recipe.specs.inner.Prepared.{Adds, AddsResult, AreText, IsKnown}
 use Rattle.kt_recipe.proofs.PreparedLemmas.{added_to_none}
 
 -- ---- what is known
 
 pub some_weaker : {T : Type 0} (found : Option T) (P Q : T → Type 0) → ((x : T) → P x → Q x) → IfSome found P → IfSome found Q
-some_weaker None P Q more is = tt
-some_weaker (Some x) P Q more is = more x is
+some_weaker found P Q more is = grind arith
 
 -- a text without an automatic macro
 pub known_is : (table : Table) (step : Step Text) (none pieces : Pieces) (text : Text) → none.gaps.items ≡ [] → none.end.items ≡ []
@@ -37,17 +36,11 @@ AreKnownUpTo table e all left now =
 pub argument_known : (table : Table) (e : Evaluator) (all left rest now longer : List Text) (text value x : Text) → left ≡ text ∷ rest
     → longer ≡ now ++ value ∷ [] → value ≡ x → AreKnownUpTo table e all left now → IsKnown table (e.expand text) x → AreKnownUpTo table e all rest longer
 unfolding each_argument
-argument_known table e all left rest now longer text value x is more same before known node part place said =
-    let w = frozen_world table (automatic_in node part) place said in
-    ap (λ now. each_argument e now rest w) (more ∙ ap (λ x. now ++ x ∷ []) same)
-    ∙ (sym (ap (λ (o : Outcome World Text). then_do o (λ x. each_argument e (now ++ x ∷ []) rest)) (known node part place said))
-    ∙ (ap (λ left. each_argument e now left w) (sym is) ∙ before node part place said))
+argument_known table e all left rest now longer text value x is more same before known node part place said = grind arith
 
 pub arguments_known : (table : Table) (e : Evaluator) (all left now : List Text) → left ≡ [] → AreKnownUpTo table e all left now → IsKnown table (each_argument e [] all) now
 unfolding each_argument
-arguments_known table e all left now is before node part place said =
-    let w = frozen_world table (automatic_in node part) place said in
-    sym (before node part place said) ∙ ap (λ left. each_argument e now left w) is
+arguments_known table e all left now is before node part place said = grind arith
 
 -- ---- calls
 
@@ -77,8 +70,7 @@ pub applied_adds : (table : Table) (e : Evaluator) (function : TextFunction) (te
     → length texts ≡ arity function → IsKnown table (each_argument e [] texts) arguments → AddsResult function arguments old new
     → Adds table (apply_text e function texts) old new
 unfolding apply_text
-applied_adds table e function texts arguments old new counted known result node part place said =
-    (result.0, result.2 node part, rw (eq-eqb (length texts) (arity function) counted) (rw (known node part place said) (rw result.1 refl)))
+applied_adds table e function texts arguments old new counted known result node part place said = grind (arith, eq-eqb, length)
 
 -- the text that an `if` takes where its condition isn't empty
 pub chosen_adds : (table : Table) (e : Evaluator) (condition chosen x : Text) (other : Option Text) (old new : Pieces)
@@ -100,5 +92,4 @@ other_adds table e condition chosen x other old new known empty adds node part p
 pub none_chosen_adds : (table : Table) (e : Evaluator) (condition chosen x : Text) (pieces : Pieces)
     → IsKnown table (e.expand (stripped condition)) x → (length x == 0) ≡ true → Adds table (apply_if e condition chosen None) pieces pieces
 unfolding apply_if
-none_chosen_adds table e condition chosen x pieces known empty node part place said =
-    ([], sym (append-nil (filled node part pieces)), rw (known node part place said) (rw empty refl))
+none_chosen_adds table e condition chosen x pieces known empty node part place said = grind (arith, append-nil)

@@ -1,6 +1,6 @@
 -- Pieces stand for what a text expands to, in each part of each node.
 use Rattle.std.proofs.Common.{◌≡◌, ℕ, zero, suc, ◌-◌, Bool, true, false, List, [], ◌∷◌, ◌++◌, Option, Some, None, option_map, refl, sym, ap, ◌∙◌, arith, true≢false, IfSome, MatchOption, codes}
-use Rattle.kt_recipe.proofs.Common.{append-nil, append_assoc, Text, Token, literal, dollar, reference, terms_of, Place, Macro, Outcome, Gave, done, leaving, then_do, World, fixed_or, found_of, frozen_world, innermost, lookup, Evaluator, each_term, expanded, flavoured, term_of, value_of, above, evaluator, names_plainly, Table, find, Node, Form, Subject, automatic_in, names_in, text_of, CommandsOf, expansion}
+use Rattle.kt_recipe.proofs.Common.{append-nil, append_assoc, Text, Token, literal, dollar, reference, terms_of, Place, Macro, Outcome, Gave, done, then_do, World, fixed_or, found_of, frozen_world, innermost, lookup, Evaluator, each_term, expanded, flavoured, term_of, value_of, above, evaluator, names_plainly, Table, find, Node, Form, Subject, automatic_in, names_in, text_of, CommandsOf, expansion}
 use Rattle.kt_syntax.specs.declared.term.Mark.{Mark}
 use Rattle.kt_eval.specs.Step.{Step}
 use Rattle.kt_eval.proofs.lemmas.expanding.PlainLemmas.{plainly_is}
@@ -19,31 +19,18 @@ gaps_after : (node : Node) (part : ℕ) (gaps : List Gap) (gap : Gap)
     → filled_gaps node part (gaps ++ gap ∷ []) ≡ filled_gaps node part gaps ++ (gap.before ++ told node part gap)
 unfolding filled_gaps
 gaps_after node part [] gap = ap (λ t. gap.before ++ t) (append-nil (told node part gap))
-gaps_after node part (first ∷ gaps) gap =
-    ap (λ t. first.before ++ (told node part first ++ t)) (gaps_after node part gaps gap)
-    ∙ sym (append_assoc first.before (told node part first ++ filled_gaps node part gaps) (gap.before ++ told node part gap)
-    ∙ ap (λ t. first.before ++ t) (append_assoc (told node part first) (filled_gaps node part gaps) (gap.before ++ told node part gap)))
+gaps_after node part (first ∷ gaps) gap = grind (arith, append_assoc, gaps_after node part gaps gap)
 
 -- an automatic macro that takes the text before it
 pub macro_added : (subject : Subject) (form : Form) (before : Text) (old new : Pieces) → before ≡ old.end.items
     → new.gaps.items ≡ old.gaps.items ++ record { before = before; subject = subject; form = form } ∷ [] → new.end.items ≡ [] → AddsMacro subject form old new
 unfolding filled
-macro_added subject form before old new is longer empty node part =
-    let t = text_of form (names_in node part subject) in
-    let front = filled_gaps node part old.gaps.items in
-    ap (λ end. filled_gaps node part new.gaps.items ++ end) empty
-    ∙ (append-nil (filled_gaps node part new.gaps.items)
-    ∙ (ap (filled_gaps node part) longer
-    ∙ (gaps_after node part old.gaps.items (record { before = before; subject = subject; form = form })
-    ∙ (ap (λ b. front ++ (b ++ t)) is ∙ sym (append_assoc front old.end.items t)))))
+macro_added subject form before old new is longer empty node part = grind (arith, append-nil, gaps_after, append_assoc)
 
 -- a text after the last one
 pub text_added : (text : Text) (old new : Pieces) → new.gaps.items ≡ old.gaps.items → new.end.items ≡ old.end.items ++ text → AddsText text old new
 unfolding filled
-text_added text old new same longer node part =
-    ap (λ gaps. filled_gaps node part gaps ++ new.end.items) same
-    ∙ (ap (λ end. filled_gaps node part old.gaps.items ++ end) longer
-    ∙ sym (append_assoc (filled_gaps node part old.gaps.items) old.end.items text))
+text_added text old new same longer node part = grind (arith, append_assoc)
 
 -- ---- a term
 
@@ -71,8 +58,7 @@ reference_adds table e mark name old new plain adds node part place said =
 unbound_is : (node : Node) (part : ℕ) (name : Text) (table : Table) (place : Option Place) (said : List Text)
     → lookup name (frozen_world table (automatic_in node part) place said) ≡ fixed_or (macro_in node part name) (option_map found_of (find name table))
 unfolding lookup innermost
-unbound_is node part name table place said =
-    ap (λ found. fixed_or found (option_map found_of (find name table))) (found_by_name node part name)
+unbound_is node part name table place said = grind (arith, found_by_name)
 
 -- that of an automatic macro
 pub macro_adds : (table : Table) (e : Evaluator) (name : Text) (subject : Subject) (form : Form) (old new : Pieces) → asked_by name ≡ Some (subject, form)
@@ -90,9 +76,7 @@ macro_adds table e name subject form old new asked adds node part place said =
 in_table : (node : Node) (part : ℕ) (name : Text) (table : Table) (place : Option Place) (said : List Text) → asked_by name ≡ None
     → lookup name (frozen_world table (automatic_in node part) place said) ≡ option_map found_of (find name table)
 unfolding macro_in
-in_table node part name table place said none =
-    unbound_is node part name table place said
-    ∙ ap (λ asked. fixed_or (option_map (λ asked. text_of asked.1 (names_in node part asked.0)) asked) (option_map found_of (find name table))) none
+in_table node part name table place said none = grind (arith, unbound_is)
 
 -- that of another name
 pub entry_adds : (table : Table) (e : Evaluator) (name : Text) (entry : Macro) (old new : Pieces) → asked_by name ≡ None → find name table ≡ Some entry
@@ -110,12 +94,7 @@ entry_adds table e name entry old new none found adds node part place said =
 pub nothing_adds : (table : Table) (e : Evaluator) (name : Text) (pieces : Pieces) → asked_by name ≡ None → find name table ≡ None
     → Adds table (λ w. value_of e (lookup name w) w) pieces pieces
 unfolding value_of
-nothing_adds table e name pieces none found node part place said =
-    let w = frozen_world table (automatic_in node part) place said in (
-      [],
-      sym (append-nil (filled node part pieces)),
-      ap (λ found. value_of e found w) (in_table node part name table place said none ∙ ap (option_map found_of) found),
-    )
+nothing_adds table e name pieces none found node part place said = grind (arith, append-nil, in_table)
 
 -- a text is expanded one level deeper
 pub deeper_adds : (table : Table) (limit : ℕ) (text : Text) (old new : Pieces) → (limit ≡ 0 → ⊥)
@@ -182,8 +161,7 @@ added_to_none table step none pieces gaps end adds node part place said =
 pub is_filled : (commands : CommandsOf) (line : Text) (node : Node) (part : ℕ) (pieces : Pieces) (text : Text)
     → IsPrepared commands.table commands.limit line pieces → text ≡ filled node part pieces → IsFilled commands line node part text
 unfolding expansion
-is_filled commands line node part pieces text prepared is place said =
-    ap (leaving (λ w. w.said)) (prepared node part (Some place) said) ∙ ap (λ t. Gave said t) (sym is)
+is_filled commands line node part pieces text prepared is place said = grind arith
 
 -- a line whose pieces are right is filled, if it is known
 pub line_fills : (commands : CommandsOf) (line : Text) (node : Node) (part : ℕ) (text : Text) (found : Option Pieces) (known : Bool) → known ≡ true

@@ -1,5 +1,5 @@
 -- A text between single quotes is read back.
-use Rattle.std.proofs.Common.{◌≡◌, ◌<◌, ℕ, zero, suc, ◌+◌, Bool, true, false, ◌==◌, if◌then◌else◌, [], ◌∷◌, ◌++◌, length, take, drop, Some, None, option_map, refl, sym, ap, ◌∙◌, append_assoc, arith, add-one, flat_map, slice_index}
+use Rattle.std.proofs.Common.{◌≡◌, ◌<◌, ℕ, zero, suc, ◌+◌, Bool, true, ◌==◌, if◌then◌else◌, [], ◌∷◌, ◌++◌, length, take, drop, Some, None, refl, ap, ◌∙◌, append_assoc, arith, add-one, flat_map, slice_index}
 use Rattle.kt_recipe.proofs.Common.{eqb-true, Text}
 use Rattle.memchr.specs.Find.{Nowhere, Passes, IsFirstByte, is_byte}
 use Rattle.kt_recipe.specs.Quoting.{quoted_byte, quoted, inside, read_quotes, word_of_quotes}
@@ -8,8 +8,7 @@ use Rattle.kt_recipe.specs.Quoting.{quoted_byte, quoted, inside, read_quotes, wo
 byte_read : (byte : ℕ) (more word : Text) → read_quotes inside more ≡ Some word → (b : Bool) → byte == 39 ≡ b
     → read_quotes inside ((if b then 39 ∷ 92 ∷ 39 ∷ 39 ∷ [] else byte ∷ []) ++ more) ≡ Some (byte ∷ word)
 unfolding read_quotes
-byte_read byte more word h true is = ap (λ read. option_map (λ word. 39 ∷ word) read) h ∙ ap (λ b. Some (b ∷ word)) (sym (eqb-true _ _ is))
-byte_read byte more word h false is = rw is (ap (λ read. option_map (λ word. byte ∷ word) read) h)
+byte_read byte more word h b is = grind (arith, eqb-true)
 
 rest_read : (text : Text) → read_quotes inside (flat_map quoted_byte text ++ (39 ∷ [])) ≡ Some text
 unfolding read_quotes
@@ -29,8 +28,7 @@ later : (byte : ℕ) (text : Text) (count : ℕ) → Nowhere (Passes (is_byte 39
 later byte text count none at low below = none (suc at) (omega arith) (omega arith)
 
 as_it_is : (byte : ℕ) (b : Bool) → byte == 39 ≡ b → (byte == 39 ≡ true → ⊥) → quoted_byte byte ≡ byte ∷ []
-as_it_is byte true is plain = absurd (plain is)
-as_it_is byte false is plain = rw is refl
+as_it_is byte b is plain = grind arith
 
 as_they_are : (text : Text) → Nowhere (Passes (is_byte 39) text) 0 (length text) → flat_map quoted_byte text ≡ text
 as_they_are [] none = refl
@@ -52,5 +50,4 @@ no_quote text none = as_they_are text none
 
 pub first_quote : (text : Text) (at : ℕ) → IsFirstByte (is_byte 39) text (Some at)
     → flat_map quoted_byte text ≡ take at text ++ (39 ∷ 92 ∷ 39 ∷ 39 ∷ flat_map quoted_byte (drop (at + 1) text))
-first_quote text at first =
-    rw add-one (at_first text at first.0.high first.0.before first.1)
+first_quote text at first = grind (arith, add-one, at_first)

@@ -1,5 +1,5 @@
 -- Worked values, one by one: each is found by computing, but for the terms of a text, which are found by the quick way.
-use Rattle.std.proofs.Common.{refl, ◌≡◌, ℕ, List, [], ◌∷◌, ◌++◌, Some, None, codes}
+use Rattle.std.proofs.Common.{arith, refl, ◌≡◌, ℕ, List, [], ◌∷◌, ◌++◌, Some, None, codes}
 use Rattle.kt_recipe.proofs.Common.{Text, is_separator, is_blank, words_of, Place, RecipeLine, Byte, Parentheses, literal, reference, terms_of, Store, Table, find, seen, innermost, lookup, Gave, Stopped, other_function, function_of, is_refused_function, arguments_from, arguments_of, asked_of, asked_by, naming_of, text_function, value_of, each_argument, each_word, apply_foreach, apply_eval, apply_error, apply_info, apply, body_of, value_named, referred, term_of, each_term, expanded, above, none_left, evaluator, Node, automatic_in, is_prefix, is_marked, pieces_of, wrapped, setting_of, shell_text, expansion, put_piece, put_pieces, put_line, put_lines, put_part, put_parts, shell_of}
 use Rattle.kt_eval.specs.Step.{fault_at}
 use Rattle.kt_eval.specs.expanding.TextFunctions.{text_result}
@@ -115,8 +115,7 @@ telling_shell : (node : Node) (part : ℕ) (more : Table) (place : Place) (said 
     → expansion (setting_of (deferred (codes "SHELL") (codes "$(info s)sh") ∷ deferred (codes ".SHELLFLAGS") (codes "-c") ∷ more) (automatic_in node part) 9 place) shell_text said
     ≡ Gave (said ++ codes "s" ∷ []) (codes "sh -c")
 unfolding expanding
-telling_shell node part more place said =
-    rw shell_terms (rw telling_terms (rw (terms_are (codes "s")) (rw (terms_are (codes "-c")) refl)))
+telling_shell node part more place said = grind (arith, shell_terms, telling_terms, terms_are, codes)
 
 refusing_shell : (lines : List RecipeLine) (more : Table) (place : Place) (said : List Text)
     → expansion (setting_of (deferred (codes "SHELL") (codes "$(error $@)") ∷ more) (automatic_in (simple lines) 0) 9 place) shell_text said
@@ -197,8 +196,7 @@ two_told table place said = rw (terms_are (codes "two $<")) refl
 hidden_told : (lines : List RecipeLine) (table : Table) (place : Place) (said : List Text)
     → expansion (setting_of table (automatic_in (simple lines) 0) 9 place) (codes "$(foreach @,a b,$@) $@") said ≡ Gave said (codes "a b t")
 unfolding expanding
-hidden_told lines table place said =
-    rw hidden_terms (rw (terms_are (codes "@")) (rw (terms_are (codes "a b")) (rw target_terms refl)))
+hidden_told lines table place said = grind (arith, hidden_terms, terms_are, codes, target_terms)
 
 -- ---- commands
 

@@ -1,5 +1,5 @@
 -- Names that are added to a set and looked up there, as they are borrowed.
-use Rattle.std.proofs.Common.{◌≡◌, Bool, true, false, ◌||◌, if◌then◌else◌, List, [], ◌∷◌, ◌++◌, map, Bor, refl, ap, ◌∙◌, nat_eq}
+use Rattle.std.proofs.Common.{arith, ◌≡◌, Bool, ◌||◌, if◌then◌else◌, List, [], ◌∷◌, ◌++◌, map, Bor, refl, ap, ◌∙◌, nat_eq}
 use Rattle.kt_recipe.proofs.Common.{list_any, pointwise, map-append, Text, is_among, with_name}
 use Rattle.indexmap.specs.IndexSet.{insert_key}
 use Rattle.kt_list.specs.declared.key.Key.{Key}
@@ -19,8 +19,7 @@ among_keys (key ∷ keys) name = ap (λ rest. pointwise nat_eq name key.0.now ||
 either : (b : Bool) (keys : List Key) (name : Key)
     → map (λ (key : Key). key.0.now) (if b then keys else keys ++ name ∷ [])
     ≡ (if b then map (λ (key : Key). key.0.now) keys else map (λ (key : Key). key.0.now) keys ++ name.0.now ∷ [])
-either true keys name = refl
-either false keys name = map-append (λ (key : Key). key.0.now) keys (name ∷ [])
+either b keys name = grind (arith, map-append)
 
 -- a name that is inserted is added at the end, unless it is there
 pub name_inserted : (keys : List Key) (name : Key)

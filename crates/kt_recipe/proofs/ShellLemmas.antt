@@ -1,6 +1,6 @@
 -- Messages are only added while a command is made, and a step that is stopped stops all that begins with it.
-use Rattle.std.proofs.Common.{◌≡◌, ℕ, Bool, true, false, List, [], ◌∷◌, Option, Some, Ok, Err, ◌||◌, if◌then◌else◌, unwrap_or, slice_get, ap, subst}
-use Rattle.kt_recipe.proofs.Common.{Text, is_nonempty, RecipeLine, Stop, Store, IsPrefix, World, frozen_world, expanded, evaluator, Outcome, Gave, Stopped, StepOver, Fails, IfCutBy, leaving, left_of, then_do, done, Says, Table, front_same, front_next, expanding_grows, Node, part_lines, automatic_in, after_run, is_marked, pieces_of, joined, wrapped, Setting, setting_of, shell_text, expansion, put_piece, put_pieces, put_line, put_lines, put_part, put_parts}
+use Rattle.std.proofs.Common.{arith, ◌≡◌, ℕ, Bool, true, false, List, [], ◌∷◌, Option, Some, Ok, Err, ◌||◌, if◌then◌else◌, unwrap_or, slice_get}
+use Rattle.kt_recipe.proofs.Common.{Text, is_nonempty, RecipeLine, Stop, Store, IsPrefix, World, frozen_world, expanded, evaluator, Outcome, Gave, StepOver, Fails, IfCutBy, leaving, left_of, then_do, done, Says, Table, front_same, front_next, expanding_grows, Node, part_lines, automatic_in, after_run, is_marked, pieces_of, joined, wrapped, Setting, setting_of, shell_text, expansion, put_piece, put_pieces, put_line, put_lines, put_part, put_parts}
 use Rattle.kt_eval.specs.declared.stop.Stop.TheVariants as stops
 
 -- the messages before a step are a prefix of those that it leaves
@@ -9,34 +9,24 @@ Keeps step = (said : List Text) → IsPrefix said (left_of (step said))
 
 pub then_front : {A B : Type 0} (said : List Text) (o : Outcome (List Text) A) (next : A → StepOver (List Text) B) → ((x : A) → Keeps (next x))
     → IsPrefix said (left_of o) → IsPrefix said (left_of (then_do o next))
-then_front said (Gave heard x) next more h = front_next said heard (left_of (next x heard)) h (more x heard)
-then_front said (Stopped heard fault) next more h = h
+then_front said o next more h = grind (arith, front_next)
 
 -- ---- a step that is stopped
 
 fails_then : {A B : Type 0} (stop : Stop) (heard : List Text) (o : Outcome (List Text) A) (next : A → StepOver (List Text) B)
     → Fails stop heard o → Fails stop heard (then_do o next)
-fails_then (stops.Fault fault) heard o next h = ap (λ p. then_do p next) h
-fails_then (stops.Device name) heard o next h = tt
-fails_then stops.Memory heard o next h = tt
+fails_then stop heard o next h = grind arith
 
 cut_then : {A B : Type 0} (stop : Stop) (heard : List Text) (o : Outcome (List Text) A) (next : A → StepOver (List Text) B) → ((x : A) → Keeps (next x))
     → IfCutBy stop (IsPrefix heard (left_of o)) → IfCutBy stop (IsPrefix heard (left_of (then_do o next)))
-cut_then (stops.Fault fault) heard o next more h = tt
-cut_then (stops.Device name) heard o next more h = then_front heard o next more h
-cut_then stops.Memory heard o next more h = then_front heard o next more h
+cut_then stop heard o next more h = grind (arith, then_front)
 
 -- a step that is stopped stops the whole, after this much was done before it
 pub stops_all : {A B C D : Type 0} (see : A → C) (other : B → D) (stop : Stop) (start now new : List Text) (first : StepOver (List Text) C)
     (next : C → StepOver (List Text) D) (whole : StepOver (List Text) D)
     → ((x : C) → Keeps (next x)) → IsPrefix start now → then_do (first now) next ≡ whole start
     → Says see first (Err stop) now new → Says other whole (Err stop) start new
-stops_all {D} see other stop start now new first next whole more before is h = record {
-  gives = subst (λ (o : Outcome (List Text) D). Fails stop new o) is (fails_then stop new (first now) next h.gives);
-  appends = front_next start now new before h.appends;
-  cut = subst (λ (o : Outcome (List Text) D). IfCutBy stop (IsPrefix new (left_of o))) is (cut_then stop new (first now) next more h.cut);
-  asks_nothing = h.asks_nothing;
-}
+stops_all {D} see other stop start now new first next whole more before is h = grind (arith, fails_then, front_next, cut_then)
 
 -- no message was added before memory ran out
 pub out_of_memory : {A B : Type 0} (see : A → B) (step : StepOver (List Text) B) (said : List Text) → Keeps step → Says see step (Err stops.Memory) said said
@@ -50,8 +40,7 @@ says_nothing see step x said is = record { gives = is; appends = front_same said
 -- ---- messages are only added
 
 leaving_front : (said : List Text) (o : Outcome World Text) → IsPrefix said (left_of o).said → IsPrefix said (left_of (leaving (λ w. w.said) o))
-leaving_front said (Gave w x) h = h
-leaving_front said (Stopped w fault) h = h
+leaving_front said o h = grind arith
 
 pub expansion_front : (at : Setting) (text : Text) → Keeps (expansion at text)
 unfolding expansion

@@ -1,6 +1,6 @@
 -- The terms of a text by functions that look only where they must: both sides of an `if` are computed, so that a search
 -- for a closing mark takes three times as long for each byte more.
-use Rattle.std.proofs.Common.{◌≡◌, ℕ, zero, suc, ◌+◌, ◌-◌, Bool, true, false, ◌==◌, if◌then◌else◌, List, [], ◌∷◌, Option, Some, None, refl, ap, ◌∙◌, codes}
+use Rattle.std.proofs.Common.{arith, ◌≡◌, ℕ, zero, suc, ◌+◌, ◌-◌, Bool, true, false, ◌==◌, if◌then◌else◌, List, [], ◌∷◌, Option, Some, None, refl, ap, ◌∙◌, codes}
 use Rattle.kt_recipe.proofs.Common.{Text, Parentheses, Braces, Token, literal, dollar, reference, Continuations, dropped, closing, single, after_dollar, literal_run, first_term, terms_after, terms_of, shell_text}
 use Rattle.kt_syntax.specs.Terms.{referred}
 
@@ -19,17 +19,12 @@ quick_closing opener closer at depth (byte ∷ text) =
     ]
 
 either_way : (b : Bool) (x y u v : Option ℕ) → x ≡ u → y ≡ v → (if b then x else y) ≡ elim b [ true ↦ u | false ↦ v ]
-either_way true x y u v same other = same
-either_way false x y u v same other = other
+either_way b x y u v same other = grind arith
 
 closing_is : (opener closer at depth : ℕ) (text : Text) → closing opener closer at depth text ≡ quick_closing opener closer at depth text
 unfolding closing quick_closing
 closing_is opener closer at depth [] = refl
-closing_is opener closer at depth (byte ∷ text) =
-    either_way (byte == opener) _ _ _ _ (closing_is opener closer (at + 1) (depth + 1) text)
-    (either_way (byte == closer) _ _ _ _
-    (either_way (depth == 0) _ _ _ _ refl (closing_is opener closer (at + 1) (depth - 1) text))
-    (closing_is opener closer (at + 1) depth text))
+closing_is opener closer at depth (byte ∷ text) = grind (arith, either_way, closing_is opener closer (at + 1) (depth + 1) text, closing_is opener closer (at + 1) (depth - 1) text, closing_is opener closer (at + 1) depth text)
 
 unfoldable pub quick_past : Continuations → Text → Token × ℕ
 quick_past continuations [] = (literal [], 0)
@@ -41,8 +36,7 @@ quick_past continuations (byte ∷ text) =
 
 after_are : (continuations : Continuations) (text : Text) → after_dollar continuations text ≡ quick_past continuations text
 unfolding after_dollar quick_past
-after_are continuations [] = refl
-after_are continuations (byte ∷ text) = rw (closing_is 40 41 0 0 text, closing_is 123 125 0 0 text) refl
+after_are continuations text = grind (arith, closing_is)
 
 unfoldable pub quick_first : Continuations → ℕ → Text → Token × ℕ
 quick_first continuations byte text = if byte == 36 then quick_past continuations text else literal_run byte text
