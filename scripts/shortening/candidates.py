@@ -9,8 +9,10 @@ RECORD = re.compile(r"^\s*(?:pub )?(?:record|data) ([^\s:(){}]+) : Type", re.MUL
 DEFINED = re.compile(r"^\s*(?:abbrev |unfoldable |pub |pattern )*([^\s:(){}]+) :(?:\s|$)", re.MULTILINE)
 RELATION = re.compile(r"[≡≤<¬⊥≢↔≥]")
 # Words of terms that are no lemmas.
-WORDS = {"sym", "ap", "subst", "refl", "rw", "rules", "arith", "cc", "search", "omega", "grind", "simp", "in", "let",
-         "if", "then", "else", "elim", "record", "where", "first_of", "tt", "suc", "zero", "true", "false", "inl", "inr"}
+WORDS = {"sym", "ap", "subst", "refl", "rw", "rules", "arith", "cc", "search", "omega", "grind", "simp", "first_of",
+         "in", "let", "if", "then", "else", "elim", "record", "where", "tt", "suc", "zero", "true", "false", "inl",
+         "inr"}
+ENDS = re.compile(r"\s(?:[∙≡]|in|then|else|at)\s")
 LONGEST = 160
 
 
@@ -54,7 +56,7 @@ def application(text, start):
             depth += 1
         elif byte in proof_files.CLOSING:
             depth -= 1
-        if depth < 0 or (depth == 0 and (byte in ",;=" or re.match(r"\s(?:[∙≡]|in|then|else|at)\s", text[end:end + 7]))):
+        if depth < 0 or (depth == 0 and (byte in ",;=" or ENDS.match(text, end))):
             break
         end += 1
     found = " ".join(text[start:end].split())

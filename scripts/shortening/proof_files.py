@@ -2,7 +2,7 @@
 import re
 
 # Lines at the margin that are no part of a declaration of something proved.
-OTHERS = re.compile(r"^(?:pub )?(?:use|mod|module|record|data|abbrev|unfoldable|mutual|infix|ruleset|syntax|pattern|open)"
+OTHERS = re.compile(r"^(?:pub )?(?:use|mod|module|record|data|abbrev|unfoldable|mutual|infix|ruleset|syntax|pattern)"
                     r"\b|^--")
 STATED = re.compile(r"^(?P<pub>pub )?(?P<name>[^\s:(){}]+) :(?:\s|$)")
 MODULE = re.compile(r"^(?:pub )?module\b")

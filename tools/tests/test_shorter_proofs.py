@@ -15,7 +15,7 @@ for path in sorted(Path("proofs").rglob("*.antt")):
     for place, line in enumerate(path.read_text().split("\\n"), 1):
         name = line.split(" ")[0]
         if any(word in line for word in refused):
-            print(f"./{path}:{place}:1: error: 1 declaration that depends on `x`, which was rejected, was not checked: {name}")
+            print(f"./{path}:{place}:1: error: 1 declaration that depends on another, was not checked: {name}")
         elif ("= grind" in line and "easy" not in line) or ("= search" in line and "found" not in line):
             print(f"./{path}:{place}:9: error: `{name}`: no proof was found")
             refused.append(name)
