@@ -252,8 +252,8 @@ class Told(Meant):
         self.put_all({"Makefile": "CC = sh cc.sh\nall: a\na:: b\na:: c\nb c: ; touch $@\n", "a.c": "",
                       "cc.sh": "shift $(($# - 1)); echo program > $1\n"})
         told = "a:: has no recipe and stands there more than once: make looks for an implicit rule for each, "
-        self.assertIn(told, self.port(status=DIFFERS))
-        self.assertIn(told, self.tool("kati-build", "--port", "--no-ninja").said)
+        self.assertEqual(self.port(status=DIFFERS).count(told), 1)
+        self.assertEqual(self.tool("kati-build", "--port", "--no-ninja").said.count(told), 1)
 
     def test_what_make_finds_in_a_folder_that_is_searched(self):
         self.put_all({"Makefile": "VPATH = obj\nall: x.o y.o\n%.o: %.c\n\tcp $< $@\n", "x.c": "", "y.c": "",

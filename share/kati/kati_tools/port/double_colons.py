@@ -59,8 +59,10 @@ class DoubleColons(Mender):
         several = [name for name in names if counts[name] > 1]
         if several or line.is_wrapped:
             more = " and stands there more than once" if several else ""
-            self.told.append(f"{(several or names)[0]}:: has no recipe{more}: {ADVICE}")
-            self.port.note(self.told[-1])
+            told = f"{(several or names)[0]}:: has no recipe{more}: {ADVICE}"
+            if told not in self.told:
+                self.told.append(told)
+                self.port.note(told)
             return False
         line.wrap(with_one_colon)
         self.port.tell("double colon")
