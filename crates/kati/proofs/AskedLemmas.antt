@@ -1,6 +1,6 @@
 -- The names that are asked for up to the end of a step, or until it was stopped.
-use Rattle.std.proofs.Common.{◌≡◌, ℕ, List, [], Result, Ok, Err, refl, sym, ap, ◌∙◌, subst, inl, inr}
-use Rattle.kati.proofs.Common.{Text, Stop, Store, IsPrefix, ComesBefore, Read, Trace, predefined, read_of, traced, Gives, IfCut, Outcome, Gave, Stopped, left_of, then_do, Plan, front_same, Args, Meaning, MeansAfter, MeansGoals, Wanted, meaning_of, prepared, wanted_by, planned}
+use Rattle.std.proofs.Common.{arith, ◌≡◌, ℕ, List, [], Result, Ok, Err, sym, ap, subst, inl, inr}
+use Rattle.kati.proofs.Common.{Text, Stop, Store, IsPrefix, ComesBefore, Read, Trace, predefined, read_of, traced, Gives, IfCut, Outcome, Gave, Stopped, left_of, then_do, front_same, Args, Meaning, MeansAfter, MeansGoals, Wanted, prepared, wanted_by}
 use Rattle.kt_eval.specs.declared.stop.Stop.TheVariants as stops
 use Rattle.kt_eval.proofs.lemmas.reading.MachineLemmas.{before_reading}
 use Rattle.kati.specs.Meaning.{NamesAreAsked, names_asked}
@@ -15,8 +15,7 @@ use Rattle.kati.proofs.OutcomeLemmas.{asked_then, telling_asks}
 pub reads_asked : {A C : Type 0} (see : A → C) (result : Result A Stop) (trace : Trace) (end : Outcome Trace C) → Gives see result trace end
     → IfCut result (ComesBefore trace (left_of end)) → IsPrefix trace.asked (left_of end).asked
 reads_asked {C} see (Ok x) trace end is cut = subst (λ (o : Outcome Trace C). IsPrefix trace.asked (left_of o).asked) (sym is) (front_same trace.asked)
-reads_asked {C} see (Err (stops.Fault fault)) trace end is cut =
-    subst (λ (o : Outcome Trace C). IsPrefix trace.asked (left_of o).asked) (sym is) (front_same trace.asked)
+reads_asked {C} see (Err (stops.Fault fault)) trace end is cut = grind (arith, front_same)
 reads_asked see (Err (stops.Device name)) trace end is cut = cut.1
 reads_asked see (Err stops.Memory) trace end is cut = cut.1
 
@@ -28,41 +27,28 @@ before_makefile args store trace =
 -- ---- after the makefile no name is asked for
 
 goals_front : (args : Args) (list : Text) (read : Read) (trace : Trace) → IsPrefix trace.asked (left_of (telling (wanted_by args list read) trace)).asked
-goals_front args list read trace =
-    subst (λ (names : List Text). IsPrefix trace.asked names) (sym (telling_asks trace (wanted_by args list read))) (front_same trace.asked)
+goals_front args list read trace = grind (arith, telling_asks, front_same)
 
 makefile_stops : (args : Args) (store : Store) (list : Text) (trace : Trace) (names : List Text)
     → IsPrefix names (left_of (makefile_read args store trace)).asked
     → IsPrefix names (left_of (then_do (makefile_read args store trace) (λ read. telling (wanted_by args list read)))).asked
-makefile_stops args store list trace names h =
-    asked_then names (makefile_read args store trace) (λ read. telling (wanted_by args list read)) (goals_front args list) h
+makefile_stops args store list trace names h = grind (arith, asked_then, goals_front)
 
 -- if the list was stopped
 pub list_stops : (args : Args) (store : Store) (asked names : List Text) → IsPrefix names (left_of (listed store args.files (traced [] asked))).asked
     → IsPrefix names (names_asked args store asked)
-list_stops args store asked names h = asked_then names (listed store args.files (traced [] asked))
-    (λ list trace. then_do (makefile_read args store trace) (λ read. telling (wanted_by args list read)))
-    (λ list trace. makefile_stops args store list trace trace.asked (before_makefile args store trace)) h
+list_stops args store asked names h = grind (arith, asked_then, makefile_stops, before_makefile)
 
 -- if the list was read, and the makefile came to an end or was stopped
 pub list_read : (args : Args) (store : Store) (asked middle names : List Text) (list : Text)
     → listed store args.files (traced [] asked) ≡ Gave (traced [] middle) list
     → IsPrefix names (left_of (makefile_read args store (traced [] middle))).asked → IsPrefix names (names_asked args store asked)
-list_read args store asked middle names list is h =
-    subst (λ (o : Outcome Trace Text). IsPrefix names (left_of (then_do o (λ list trace. then_do (makefile_read args store trace) (λ read. telling (wanted_by args list read))))).asked)
-    (sym is) (makefile_stops args store list (traced [] middle) names h)
+list_read args store asked middle names list is h = grind (arith, makefile_stops)
 
 -- ---- the whole
 
 what_goals_ask : (limit : ℕ) (want : Wanted) (trace : Trace) (m : Meaning) → MeansGoals limit want trace m → m.asked ≡ trace.asked
-what_goals_ask limit want trace m (inl p) =
-    ap (λ (n : Meaning). n.asked) p.means
-    ∙ means_asked (telling (planned want.read.book want.read.table limit want.goals p.nodes) trace)
-    ∙ telling_asks trace (planned want.read.book want.read.table limit want.goals p.nodes)
-  where
-    means_asked : (o : Outcome Trace Plan) → (meaning_of o).asked ≡ (left_of o).asked
-    means_asked (Gave left plan) = refl
-    means_asked (Stopped left fault) = refl
+what_goals_ask limit want trace m (inl p) = grind (arith, telling_asks)
 what_goals_ask limit want trace m (inr trouble) = ap (λ (n : Meaning). n.asked) trouble.means
 
 after_asks : (limit : ℕ) (outcome : Outcome Trace Wanted) (m : Meaning) → MeansAfter limit outcome m → m.asked ≡ (left_of outcome).asked

@@ -1,6 +1,6 @@
 -- A list that holds all names that goals may need: those that rules name, and texts of bounded length.
-use Rattle.std.proofs.Common.{◌≡◌, ◌⊎◌, ◌≤◌, ℕ, Bool, true, false, not, List, [], ◌∷◌, ◌++◌, length, filter, flat_map, Option, Some, None, refl, sym, subst, ⊎_elim, inl, inr, if◌then◌else◌}
-use Rattle.kati.proofs.Common.{Contains, after_last, before_last, last_or, list_any, Contains-append_cases, Contains-append_left, Contains-append_right, none-some, same_Some, Text, Target, Rule, needs_for, is_among, without_repeats, all_needs, is_suffix_rule, suffixes_of, Candidate, Part, bare_part, double_node, inputs_of, joined_needs, needs_after, node_by, node_of, order_only_of, other_rules, own_part, searched, used_rule, HasInput, first_or_rest, from_flat_map, in_first, in_flat_map, in_rest, chosen_is, Contains-from_map, Contains-none, kept_by_filter, from_without_repeats}
+use Rattle.std.proofs.Common.{arith, ◌≡◌, ◌⊎◌, ◌≤◌, ℕ, Bool, true, false, not, List, [], ◌∷◌, ◌++◌, length, filter, flat_map, Option, Some, None, refl, sym, subst, ⊎_elim, inl, inr, if◌then◌else◌}
+use Rattle.kati.proofs.Common.{Contains, after_last, before_last, last_or, list_any, Contains-append_cases, Contains-append_left, Contains-append_right, none-some, Text, Target, Rule, needs_for, is_among, without_repeats, all_needs, is_suffix_rule, suffixes_of, Candidate, Part, bare_part, double_node, inputs_of, joined_needs, needs_after, node_by, node_of, order_only_of, other_rules, own_part, searched, used_rule, HasInput, first_or_rest, from_flat_map, in_first, in_flat_map, in_rest, chosen_is, Contains-from_map, Contains-none, kept_by_filter, from_without_repeats}
 use Rattle.kt_rules.specs.declared.entry.Needs.{Needs}
 use Rattle.kt_rules.specs.Book.{explicit_rules, has_recipe, is_double, is_made, patterns_of, rules_of, target_rules}
 use Rattle.kt_graph.specs.search.Search.{choice_of}
@@ -47,10 +47,7 @@ fewer_named made more input within named = (named.0, within named.0 named.1, nam
 
 last_in : (o : Option (Rule × Target)) (made : List (Rule × Target)) (one : Rule × Target) → last_or o made ≡ Some one → (o ≡ Some one) ⊎ Contains made one
 last_in o [] one e = inl e
-last_in o (first ∷ made) one e = ⊎_elim
-    (λ (h : Some first ≡ Some one). inr (subst (Contains (first ∷ made)) (same_Some first one h) (in_first first made)))
-    (λ (h : Contains made one). inr (in_rest first one made h))
-    (last_in (Some first) made one e)
+last_in o (first ∷ made) one e = grind (arith, ⊎_elim, in_first, in_rest, last_in (Some first) made one e)
 
 used_in : (made : List (Rule × Target)) (one : Rule × Target) → used_rule made ≡ Some one → Contains made one
 used_in made one e = ⊎_elim (λ (h : None ≡ Some one). absurd (none-some one h)) (λ (h : Contains (filter has_recipe made) one). (kept_by_filter has_recipe made one h).0)

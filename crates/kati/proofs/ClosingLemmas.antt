@@ -140,8 +140,7 @@ module _ (next : Text → List Text) (starts universe : List Text) (Met : Text �
 
   shorter : (n : ℕ) (earlier : List Text) (one : Text) (later rest : List Text) → rest ≡ earlier ++ one ∷ later → length rest ≤ suc n
       → length (earlier ++ later) ≤ n
-  shorter n earlier one later rest cut short =
-      omega (arith, short, ap length cut ∙ length-append earlier (one ∷ later), length-append earlier later)
+  shorter n earlier one later rest cut short = grind (arith, length, length-append)
 
   closing_from : (n : ℕ) (done rest : List Text) → length rest ≤ n → Covers done rest → Closed next starts Met
   closing_from zero done [] short so = whole done [] so (λ name has missing. Contains-none name has)

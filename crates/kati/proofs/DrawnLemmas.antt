@@ -1,6 +1,6 @@
 -- The statements read from a sketch are those of the plan.
-use Rattle.std.proofs.Common.{◌≡◌, ℕ, ◌+◌, Bool, true, false, not, List, [], ◌∷◌, ◌++◌, length, Option, Some, None, refl, sym, ap, ◌∙◌, arith, zero, suc, ◌&&◌, ◌||◌, is_some, min, slice_get}
-use Rattle.kati.proofs.Common.{list_any, length-append, Text, Rule, without_repeats, Outcome, Gave, Stopped, Fails, done, then_do, Table, Stop, Node, order_only_of, Statement, is_empty, command_for, has_implicit, has_phony, implicit_of, joined_inputs, made_by, outs_of, plan_groups, statement_of, with_always_built}
+use Rattle.std.proofs.Common.{rules, ◌≡◌, ℕ, ◌+◌, Bool, true, false, not, List, [], ◌∷◌, ◌++◌, length, Option, Some, None, refl, sym, ap, ◌∙◌, arith, zero, suc, ◌||◌, min, slice_get}
+use Rattle.kati.proofs.Common.{list_any, length-append, Text, Rule, without_repeats, Outcome, Gave, Stopped, Fails, done, then_do, Table, Stop, Node, Statement, is_empty, command_for, has_implicit, implicit_of, plan_groups, statement_of, with_always_built}
 use Rattle.kt_eval.specs.declared.stop.Stop.TheVariants as stops
 use Rattle.kt_ninja.specs.declared.plan.Made.{Made}
 use Rattle.kati.specs.inner.Drawn.{AlwaysFirst, Drawn, always_drawn, drawn_of, statement_drawn, statements_drawn}
@@ -13,11 +13,7 @@ stated outs made inputs implicit order_only = record { outs = outs; made = made;
 pub told_is : (rules : List Rule) (group : List Node) (command : Option Text) → statement_drawn group (drawn_of rules group command) ≡ statement_of rules group command
 unfolding statement_of without_repeats
 told_is rules [] command = refl
-told_is rules (node ∷ []) command =
-    let outs = outs_of (node ∷ []) in
-    let implicit = implicit_of (is_some command && has_phony rules (node ∷ [])) in
-    ap (λ (l : List Text). stated outs (made_by command) l implicit (order_only_of node)) (sym (own_inputs node))
-    ∙ ap (λ (l : List Text). stated outs (made_by command) (joined_inputs (node ∷ [])) implicit l) (sym (own_order_only node))
+told_is rules (node ∷ []) command = grind (arith, own_inputs, own_order_only)
 told_is rules (node ∷ other ∷ others) command = refl
 
 -- ---- statements one after another
@@ -38,11 +34,7 @@ drawn_found (Some group) (Some one) = Some (statement_drawn group one)
 pub told_at : (groups : List (List Node)) (drawn : List Drawn) (i : ℕ) → slice_get (statements_drawn groups drawn) i ≡ drawn_found (slice_get groups i) (slice_get drawn i)
 told_at [] drawn i = refl
 told_at (group ∷ groups) [] zero = refl
-told_at (group ∷ groups) [] (suc i) = by (slice_get groups i)
-  where
-    by : (found : Option (List Node)) → None ≡ drawn_found found None
-    by None = refl
-    by (Some one) = refl
+told_at (group ∷ groups) [] (suc i) = grind arith
 told_at (group ∷ groups) (one ∷ drawn) zero = refl
 told_at (group ∷ groups) (one ∷ drawn) (suc i) = told_at groups drawn i
 
@@ -82,13 +74,7 @@ module _ (rules : List Rule) (table : Table) (limit : ℕ) (groups : List (List 
   next_drawn = then_do (command_for table limit group said) (λ command. done (sketch ++ drawn_of rules group command ∷ []))
 
   pub size_next : (drawn : List Drawn) (heard : List Text) → next_drawn ≡ Gave heard drawn → length drawn ≡ length sketch + 1
-  size_next drawn heard is = by (command_for table limit group said) is
-    where
-      by : (o : Outcome (List Text) (Option Text)) → then_do o (λ command. done (sketch ++ drawn_of rules group command ∷ [])) ≡ Gave heard drawn
-          → length drawn ≡ length sketch + 1
-      by (Gave left command) e =
-          omega (arith, length-append sketch (drawn_of rules group command ∷ []), ap (λ (o : Outcome (List Text) (List Drawn)). length (drawn_left o)) e)
-      by (Stopped left fault) e = absurd (cc e)
+  size_next drawn heard is = grind (arith, length, length-append)
 
   module _ (left : List (List Node)) (same : length groups ≡ length sketch) where
     abbrev from_next : List Drawn → List Text → Outcome (List Text) (List Statement)
@@ -110,9 +96,7 @@ module _ (rules : List Rule) (table : Table) (limit : ℕ) (groups : List (List 
     pub plan_next : (groups' : List (List Node)) (drawn : List Drawn) (heard : List Text) → groups' ≡ groups ++ group ∷ [] → next_drawn ≡ Gave heard drawn
         → plan_groups rules table limit left (statements_drawn groups' drawn) heard
         ≡ plan_groups rules table limit (group ∷ left) (statements_drawn groups sketch) said
-    plan_next groups' drawn heard grown is =
-        ap (λ (gs : List (List Node)). plan_groups rules table limit left (statements_drawn gs drawn) heard) grown
-        ∙ sym (on_next ∙ ap (λ (o : Outcome (List Text) (List Drawn)). then_do o from_next) is)
+    plan_next groups' drawn heard grown is = grind (arith, on_next)
 
     pub plan_stops : (stop : Stop) (heard : List Text) → Fails stop heard next_drawn
         → Fails stop heard (plan_groups rules table limit (group ∷ left) (statements_drawn groups sketch) said)

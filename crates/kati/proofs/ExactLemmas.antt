@@ -50,20 +50,13 @@ single_output (first ∷ statements) one other name differ has_one in_one has_ot
 
 group_later : (read : Read) (limit : ℕ) (first : List Node) (groups : List (List Node)) (statement : Statement)
     → IsOfGroup read limit groups statement → IsOfGroup read limit (first ∷ groups) statement
-group_later read limit first groups statement of = record {
-  group = of.group;
-  among = in_rest first of.group groups of.among;
-  command = of.command;
-  is_command = of.is_command;
-  is = of.is;
-}
+group_later read limit first groups statement of = grind (arith, in_rest)
 
 groups_told : (read : Read) (limit : ℕ) (groups : List (List Node)) (before : List Statement) (said : List Text) (heard : List Text)
     (statements : List Statement) → plan_groups read.book read.table limit groups before said ≡ Gave heard statements
     → (statement : Statement) → Contains statements statement → Contains before statement ⊎ IsOfGroup read limit groups statement
 unfolding plan_groups
-groups_told read limit [] before said heard statements e statement has =
-    inl (subst (λ (ss : List Statement). Contains ss statement) (sym (ap statements_in e)) has)
+groups_told read limit [] before said heard statements e statement has = grind (arith, statements_in)
 groups_told read limit (group ∷ groups) before said heard statements e statement has =
     let both = gave_both (command_for read.table limit group said)
     (λ command. plan_groups read.book read.table limit groups (before ++ statement_of read.book group command ∷ [])) heard statements e in
@@ -101,9 +94,7 @@ first_out (node ∷ nodes) = refl
 
 first_outs : (groups : List (List Node)) → map (λ (group : List Node). first_output (outs_of group)) groups ≡ map leader_name groups
 first_outs [] = refl
-first_outs (group ∷ groups) =
-    ap (λ (name : Text). name ∷ map (λ (one : List Node). first_output (outs_of one)) groups) (first_out group)
-    ∙ ap (λ (names : List Text). leader_name group ∷ names) (first_outs groups)
+first_outs (group ∷ groups) = grind (arith, first_out, first_outs groups)
 
 -- the least outputs of the statements of groups are the least members
 least_are : (statements : List Statement) (groups : List (List Node)) → map outs_in statements ≡ map outs_of groups
@@ -185,41 +176,15 @@ module _ (read : Read) (limit : ℕ) (known goals : List Text) (nodes : List Nod
 
   only_made : (name : Text) → Contains (outputs all) name → IsMade read.book known goals name ⊎ (name ≡ always_build)
   unfolding with_always_built
-  only_made name has = by (list_any has_implicit statements) has
-    where
-      by : (b : Bool) → Contains (outputs (cond b (always_built ∷ statements) statements)) name → IsMade read.book known goals name ⊎ (name ≡ always_build)
-      by false h = inl (of_statements name h)
-      by true h = ⊎_elim
-          (λ (same : always_build ≡ name). inr (sym same))
-          (λ (later : Contains (outputs statements) name). inl (of_statements name later))
-          (first_or_rest always_build name (outputs statements) h)
+  only_made name has = grind (arith, cond, of_statements, ⊎_elim, first_or_rest)
 
   grouped : (statement : Statement) → Contains all statement → IsOfGroup read limit (groups_of nodes) statement ⊎ IsAlwaysBuilt all statement
   unfolding with_always_built
-  grouped statement has = by (list_any has_implicit statements) refl has
-    where
-      of : Contains statements statement → IsOfGroup read limit (groups_of nodes) statement
-      of h = ⊎_elim
-          (λ (none : Contains [] statement). Contains-none statement none)
-          (λ (is : IsOfGroup read limit (groups_of nodes) statement). is)
-          (groups_told read limit (groups_of nodes) [] said heard statements groups_are statement h)
-
-      by : (b : Bool) → list_any has_implicit statements ≡ b → Contains (cond b (always_built ∷ statements) statements) statement
-          → IsOfGroup read limit (groups_of nodes) statement ⊎ IsAlwaysBuilt (cond b (always_built ∷ statements) statements) statement
-      by false is h = inl (of h)
-      by true is h = ⊎_elim
-          (λ (same : always_built ≡ statement). inr (sym same, is))
-          (λ (later : Contains statements statement). inl (of later))
-          (first_or_rest always_built statement statements h)
+  grouped statement has = grind (arith, ⊎_elim, Contains-none, groups_told, cond, first_or_rest)
 
   always : list_any has_implicit all ≡ true → Contains all always_built
   unfolding with_always_built
-  always needs = by (list_any has_implicit statements) refl needs
-    where
-      by : (b : Bool) → list_any has_implicit statements ≡ b → list_any has_implicit (cond b (always_built ∷ statements) statements) ≡ true
-          → Contains (cond b (always_built ∷ statements) statements) always_built
-      by true is h = in_first always_built statements
-      by false is h = absurd (false≢true (sym is ∙ h))
+  always needs = grind (arith, cond, in_first, false≢true)
 
   ordered : StandInOrder all
   ordered = record {
@@ -230,17 +195,7 @@ module _ (read : Read) (limit : ℕ) (known goals : List Text) (nodes : List Nod
   }
 
   pub tells_graph : TellsGraph read limit known goals (plan_of statements goals)
-  tells_graph = record {
-    nodes = nodes;
-    graph = sound;
-    each = made_once;
-    different = fine.different;
-    only = only_made;
-    grouped = grouped;
-    always = always;
-    ordered = ordered;
-    defaults = refl;
-  }
+  tells_graph = grind (arith, made_once, only_made, grouped, always, ordered)
 
 -- ---- the whole
 
@@ -251,8 +206,7 @@ goals_told limit want trace m plan ok fine (inl p) =
     let of = plan_given limit want p.nodes trace plan (sym (ap (λ (n : Meaning). n.result) p.means) ∙ ok) in
     subst (λ (q : Plan). TellsGraph want.read limit want.known want.goals q) (sym of.is)
     (tells_graph want.read limit want.known want.goals p.nodes p.graph trace.said of.heard of.statements of.groups (subst IsWritable of.is fine))
-goals_told limit want trace m plan ok fine (inr trouble) =
-    absurd (false≢true (sym (ap (λ (n : Meaning). has_plan n.result) trouble.means) ∙ ap has_plan ok))
+goals_told limit want trace m plan ok fine (inr trouble) = grind (arith, false≢true, has_plan)
 
 pub are_graphs : PlansAreGraphs
 are_graphs args store asked m plan means ok =

@@ -1,5 +1,5 @@
 -- Each run has a meaning: the result of its goals can be decided, since the names that they may need are in a list.
-use Rattle.std.proofs.Common.{◌≡◌, ◌⊎◌, ℕ, Bool, true, false, List, [], ◌∷◌, ◌++◌, map, filter, find, flat_map, Option, Some, None, refl, sym, ap, ◌∙◌, subst, ⊎_elim, inl, inr}
+use Rattle.std.proofs.Common.{arith, ◌≡◌, ◌⊎◌, ℕ, Bool, true, false, List, [], ◌∷◌, ◌++◌, map, filter, find, flat_map, Option, Some, None, refl, sym, ap, subst, ⊎_elim, inl, inr}
 use Rattle.kati.proofs.Common.{Contains, list_any, IsStrictlySortedBy, nat_cmp, slice_cmp, Text, word_set, Rule, IsSoundGraph, fault_number, fault_words, is_one_making, Instance, Node, all_inputs, node_of, is_reserved, AreOneMaking, ComesFirst, HasEdge, HasInput, IsCyclic, IsFirst, IsGraph, IsInGroup, IsReached, Leads, Reaches, Trouble, beside, itself, circular, no_rule, one_file, reserved_name, unmade_goal, first_or_rest, from_flat_map, in_first, in_flat_map, in_rest, reached_on, node_name, comes_first, file_trouble, in_filter, kept_by_filter, is_reserved_there, none_below, group_cases, Trace, traced, Gave, Outcome, Stopped, fault_at, Meaning, MeansAfter, MeansGoals, Wanted, meaning_of, prepared, planned}
 use Rattle.kt_text.proofs.SortLemmas.{word_set-sorts}
 use Rattle.kt_graph.specs.inner.faults.Files.{is_repeated, made_names}
@@ -23,8 +23,7 @@ along Edge names closed from [] to has same = subst (Contains names) same has
 along Edge names closed from (step ∷ steps) to has path = along Edge names closed step steps to (closed from step has path.0) path.1
 
 one_making : (one other : Option Instance) (making : Instance) → one ≡ Some making → other ≡ Some making → is_one_making one other ≡ true
-one_making one other making first second =
-    ap (λ (m : Option Instance). is_one_making m other) first ∙ ap (is_one_making (Some making)) second ∙ one_itself making
+one_making one other making first second = grind (arith, one_itself)
 
 module _ (rules : List Rule) (known goals names : List Text) (are : IsClosed rules known goals names) where
   reach : Closed (λ name. all_inputs (node_of rules known name)) goals (IsReached rules known goals)
@@ -51,9 +50,7 @@ module _ (rules : List Rule) (known goals names : List Text) (are : IsClosed rul
 
   named_alike : (ns : List Text) → map (λ (node : Node). node.name) (map (node_of rules known) ns) ≡ ns
   named_alike [] = refl
-  named_alike (name ∷ ns) =
-      ap (λ (one : Text). one ∷ map (λ (node : Node). node.name) (map (node_of rules known) ns)) (node_name rules known name)
-      ∙ ap (λ (l : List Text). name ∷ l) (named_alike ns)
+  named_alike (name ∷ ns) = grind (arith, node_name, named_alike ns)
 
   graph : IsGraph rules known goals nodes
   graph = record {
@@ -83,12 +80,7 @@ module _ (rules : List Rule) (known goals names : List Text) (are : IsClosed rul
       (first_or_rest name member (filter (λ other. is_one_making (node_of rules known name).made_with (node_of rules known other).made_with) reach.names) has)
 
   is_member : (name member : Text) → IsInGroup rules known goals name member → Contains (members name) member
-  is_member name member in_group = ⊎_elim
-      (λ (same : name ≡ member). subst (Contains (members name)) same (in_first name _))
-      (λ (p : IsReached rules known goals member × AreOneMaking rules known name member). in_rest name member _
-      (in_filter (λ other. is_one_making (node_of rules known name).made_with (node_of rules known other).made_with) reach.names member (all_reached member p.0)
-      (one_making (node_of rules known name).made_with (node_of rules known member).made_with p.1.making p.1.first p.1.second)))
-      (group_cases rules known goals name member in_group)
+  is_member name member in_group = grind (arith, ⊎_elim, in_first, in_rest, in_filter, all_reached, one_making, group_cases)
 
   edge_of : (name input : Text) → Contains (edges name) input → HasEdge rules known goals name input
   edge_of name input has =

@@ -1,6 +1,6 @@
 -- What pattern rules make of names: texts of bounded length, of the symbols that are there.
 use Rattle.std.proofs.Common.{◌≡◌, ◌⊎◌, ◌≤◌, ◌<◌, ◌+◌, ◌-◌, ◌==◌, ◌&&◌, ℕ, zero, suc, Bool, true, false, not, List, [], ◌∷◌, ◌++◌, length, map, flat_map, take, drop, Option, Some, None, refl, sym, ap, subst, ⊎_elim, arith, if◌then◌else◌, fold, nat_le, option_map, filter_map}
-use Rattle.kati.proofs.Common.{Contains, slice_range, option_and_then, option_to_list, leb-true, take-append-drop, Contains-append_cases, Contains-append_left, Contains-append_right, none-some, same_Some, Text, name_part, with_stem, Target, Rule, after_dots, without_dots, all_needs, Candidate, are_short, candidate_by, candidate_of, candidate_with, candidates_for, directory_of, fit_of, has_slash, left_out, matched_part, matching_from, needed_name, needed_names, nonempty, shorter, shortest, size_of, spelled_out, stem_of, unless_long, without_any, first_or_rest, from_flat_map, in_first, in_flat_map, in_rest, Contains-from_map, Contains-map, Contains-none, each_passes, Contains-from_filter_map}
+use Rattle.kati.proofs.Common.{Contains, slice_range, option_and_then, option_to_list, leb-true, take-append-drop, Contains-append_cases, Contains-append_left, Contains-append_right, none-some, same_Some, Text, name_part, with_stem, Target, Rule, after_dots, without_dots, all_needs, Candidate, are_short, candidate_by, candidate_of, candidates_for, directory_of, fit_of, has_slash, left_out, matched_part, matching_from, needed_name, needed_names, nonempty, shorter, shortest, size_of, spelled_out, stem_of, unless_long, without_any, first_or_rest, from_flat_map, in_first, in_flat_map, in_rest, Contains-from_map, Contains-map, Contains-none, each_passes, Contains-from_filter_map}
 use Rattle.kt_text.specs.Match.{has_percent, pattern_back, pattern_front}
 use Rattle.kt_graph.proofs.lemmas.search.GrowthLemmas.{from_by_size}
 use Rattle.kt_graph.proofs.lemmas.nodes.MadeLemmas.{from_without_any, in_option}
@@ -197,22 +197,7 @@ module _ (most : ℕ) (enough : 48 ≤ most) where
     order_only : one.needs.order_only ≡ needed_names fit.0 fit.1 rule.needs.order_only
 
   by_is : (number : ℕ) (rule : Rule) (name : Text) (target : Target) (one : Candidate) → candidate_by number rule name target ≡ Some one → IsOf rule name one
-  by_is number rule name target one e = by (fit_of target.name name) refl e
-    where
-      of : (fit : Text × Text) → fit_of target.name name ≡ Some fit → candidate_with number rule target.name fit ≡ one → IsOf rule name one
-      of fit is same = record {
-        fit = fit;
-        pattern = target.name;
-        is_fit = is;
-        directory = ap (λ (c : Candidate). c.directory) (sym same);
-        stem = ap (λ (c : Candidate). c.stem) (sym same);
-        prerequisites = ap (λ (c : Candidate). c.needs.prerequisites) (sym same);
-        order_only = ap (λ (c : Candidate). c.needs.order_only) (sym same);
-      }
-
-      by : (o : Option (Text × Text)) → fit_of target.name name ≡ o → option_map (candidate_with number rule target.name) o ≡ Some one → IsOf rule name one
-      by None f e = absurd (none-some one e)
-      by (Some fit) f e = of fit f (same_Some (candidate_with number rule target.name fit) one e)
+  by_is number rule name target one e = grind (arith, none-some)
 
   shorter_of : (P : Candidate → Type 0) (best : Candidate) (others : List Candidate) → P best → ((one : Candidate) → Contains others one → P one) → P (fold shorter best others)
   shorter_of P best [] first rest = first

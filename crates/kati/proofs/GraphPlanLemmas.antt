@@ -7,9 +7,7 @@ use Rattle.kati.proofs.DrawnLemmas.{drawn_found, told_at, told_size}
 module _ (groups : List (List Node)) (sketch : List Drawn) (i : ℕ) where
   pub group_there : (group : List Node) (one : Drawn) → Some group ≡ slice_get groups i → Some one ≡ slice_get sketch i
       → Some (statement_drawn group one) ≡ slice_get (statements_drawn groups sketch) i
-  group_there group one is also =
-      ap (λ (o : Option (List Node)). drawn_found o (Some one)) is ∙ ap (λ (o : Option Drawn). drawn_found (slice_get groups i) o) also
-      ∙ sym (told_at groups sketch i)
+  group_there group one is also = grind (arith, drawn_found, told_at)
 
   pub group_gone : None ≡ slice_get groups i → None ≡ slice_get (statements_drawn groups sketch) i
   group_gone is = ap (λ (o : Option (List Node)). drawn_found o (slice_get sketch i)) is ∙ sym (told_at groups sketch i)
@@ -19,8 +17,7 @@ module _ (groups : List (List Node)) (sketch : List Drawn) (i : ℕ) where
   none_found (Some group) = refl
 
   pub drawn_gone : None ≡ slice_get sketch i → None ≡ slice_get (statements_drawn groups sketch) i
-  drawn_gone is =
-      none_found (slice_get groups i) ∙ ap (λ (o : Option Drawn). drawn_found (slice_get groups i) o) is ∙ sym (told_at groups sketch i)
+  drawn_gone is = grind (arith, none_found, drawn_found, told_at)
 
 -- ---- with the statement `always_built` before them
 
@@ -30,11 +27,8 @@ one_more n m same = omega (arith, same)
 module _ (groups : List (List Node)) (sketch : List Drawn) (always : Bool) where
   pub size_with_always : always ≡ true
       → min (length groups) (length sketch) + 1 ≡ length (always_drawn always (statements_drawn groups sketch))
-  size_with_always is =
-      one_more (min (length groups) (length sketch)) (length (statements_drawn groups sketch)) (sym (told_size groups sketch))
-      ∙ ap (λ (b : Bool). length (always_drawn b (statements_drawn groups sketch))) (sym is)
+  size_with_always is = grind (arith, one_more, min, length, told_size)
 
   pub size_without_always : always ≡ false
       → min (length groups) (length sketch) ≡ length (always_drawn always (statements_drawn groups sketch))
-  size_without_always is =
-      sym (told_size groups sketch) ∙ ap (λ (b : Bool). length (always_drawn b (statements_drawn groups sketch))) (sym is)
+  size_without_always is = grind (arith, told_size, length)

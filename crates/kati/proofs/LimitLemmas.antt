@@ -1,40 +1,25 @@
 -- A result that isn't too deep with a limit is the same with a larger one.
-use Rattle.std.proofs.Common.{ℕ, zero, suc, ◌+◌, ◌-◌, true, false, List, [], ◌∷◌, ◌++◌, None, refl, sym, ap, ◌∙◌, subst, inl, inr, arith, codes}
-use Rattle.kati.proofs.Common.{Text, Rule, Store, Read, Trace, first_read, first_world, predefined, read_of, trace_of, traced, Outcome, Gave, Stopped, leaving, Table, groups_of, Node, Plan, Statement, Args, Meaning, Means, MeansAfter, MeansGoals, Wanted, meaning_of, prepared, wanted_by, command_for, plan_groups, planned, statement_of}
-use Rattle.kt_eval.specs.expanding.Expansion.{expanded}
+use Rattle.std.proofs.Common.{rules, ℕ, zero, suc, ◌+◌, ◌-◌, List, [], ◌∷◌, ◌++◌, refl, subst, inl, inr, arith, codes}
+use Rattle.kati.proofs.Common.{Text, Rule, Store, Read, Trace, traced, Outcome, Gave, Stopped, leaving, Table, Node, Plan, Statement, Args, Meaning, Means, MeansAfter, MeansGoals, Wanted, meaning_of, prepared, wanted_by, command_for, plan_groups, planned, statement_of}
 use Rattle.kt_eval.specs.Growing as growing
-use Rattle.kt_eval.specs.expanding.Levels.{evaluator}
-use Rattle.kt_eval.specs.reading.Reading.{read_first}
-use Rattle.kt_eval.specs.State.{frozen_world}
 use Rattle.kt_eval.proofs.lemmas.GrowingReads.{expanding_stays, reading_stays}
 use Rattle.kt_recipe.proofs.DeeperLemmas.{Stays, command_stays, leaving_stays, then_stays}
 use Rattle.kati.specs.Goals.{chosen_goals, default_goal_text}
 use Rattle.kati.specs.Limits.{IsRunTooDeep, OnlyCuts, OnlyCutsRuns, with_limit}
 use Rattle.kati.specs.Listing.{listed}
-use Rattle.kati.specs.Makefile.{command_line_table, makefile_names, makefile_read}
-use Rattle.kati.specs.Steps.{telling}
+use Rattle.kati.specs.Makefile.{makefile_read}
 use Rattle.kati.proofs.RunLemmas.{graph_if_plan}
 
 -- ---- the steps
 
 makefile_deeper : (args : Args) (store : Store) (limit : ℕ) (trace : Trace)
     → Stays (makefile_read (with_limit limit args) store trace) (makefile_read (with_limit (suc limit) args) store trace)
-makefile_deeper args store limit trace =
-    let names = makefile_names args.makefile in
-    let w = first_world (read_of (predefined (command_line_table args.macros)) []) trace in
-    leaving_stays trace_of (first_read store (evaluator true store limit) names w) (first_read store (evaluator true store (suc limit)) names w)
-    (then_stays (read_first store (evaluator true store limit) names w) (read_first store (evaluator true store (suc limit)) names w) _ _
-    (reading_stays true store names limit w) (λ x v deep. refl))
+makefile_deeper args store limit trace = grind (arith, leaving_stays, then_stays, reading_stays)
 
 goals_deeper : (limit : ℕ) (read : Read) (words said : List Text) → Stays (chosen_goals limit read words said) (chosen_goals (suc limit) read words said)
 unfolding default_goal_text
 goals_deeper limit read (word ∷ words) said = λ deep. refl
-goals_deeper limit read [] said =
-    let w = frozen_world read.table [] None said in
-    then_stays (default_goal_text limit read.table said) (default_goal_text (suc limit) read.table said) _ _
-    (leaving_stays (λ w. w.said) (expanded (evaluator false [] limit) (codes "$(.DEFAULT_GOAL)") w)
-    (expanded (evaluator false [] (suc limit)) (codes "$(.DEFAULT_GOAL)") w) (expanding_stays false [] (codes "$(.DEFAULT_GOAL)") limit w))
-    (λ text heard deep. refl)
+goals_deeper limit read [] said = grind (arith, then_stays, leaving_stays, codes, expanding_stays)
 
 telling_stays : {A : Type 0} (trace : Trace) (before after : Outcome (List Text) A) → Stays before after
     → Stays (leaving (λ said. traced said trace.asked) before) (leaving (λ said. traced said trace.asked) after)
@@ -68,9 +53,7 @@ groups_deeper rules table limit (group ∷ groups) before said =
 plan_deeper : (rules : List Rule) (table : Table) (limit : ℕ) (goals : List Text) (nodes : List Node) (said : List Text)
     → Stays (planned rules table limit goals nodes said) (planned rules table (suc limit) goals nodes said)
 unfolding planned
-plan_deeper rules table limit goals nodes said =
-    then_stays (plan_groups rules table limit (groups_of nodes) [] said) (plan_groups rules table (suc limit) (groups_of nodes) [] said) _ _
-    (groups_deeper rules table limit (groups_of nodes) [] said) (λ statements heard deep. refl)
+plan_deeper rules table limit goals nodes said = grind (arith, then_stays, groups_deeper)
 
 -- ---- the whole
 
@@ -81,31 +64,17 @@ deep_means (Stopped trace fault) deep = deep
 
 goals_mean : (limit : ℕ) (want : Wanted) (trace : Trace) (m : Meaning) → (IsRunTooDeep m.result → ⊥) → MeansGoals limit want trace m
     → MeansGoals (suc limit) want trace m
-goals_mean limit want trace m fine (inl plan) =
-    let before = planned want.read.book want.read.table limit want.goals plan.nodes in
-    let after = planned want.read.book want.read.table (suc limit) want.goals plan.nodes in
-    inl (record {
-      nodes = plan.nodes;
-      graph = plan.graph;
-      means = plan.means ∙ sym (ap meaning_of (telling_stays trace (before trace.said) (after trace.said)
-          (plan_deeper want.read.book want.read.table limit want.goals plan.nodes trace.said)
-          (λ deep. fine (subst (λ (n : Meaning). IsRunTooDeep n.result) (sym plan.means) (deep_means (telling before trace) deep)))));
-    })
+goals_mean limit want trace m fine (inl plan) = grind (arith, telling_stays, plan_deeper, deep_means)
 goals_mean limit want trace m fine (inr trouble) = inr trouble
 
 after_mean : (limit : ℕ) (before after : Outcome Trace Wanted) (m : Meaning) → (IsRunTooDeep m.result → ⊥) → Stays before after
     → MeansAfter limit before m → MeansAfter (suc limit) after m
-after_mean limit (Gave trace want) after m fine is h =
-    subst (λ (o : Outcome Trace Wanted). MeansAfter (suc limit) o m) (sym (is (λ never. never))) (goals_mean limit want trace m fine h)
-after_mean limit (Stopped trace fault) after m fine is h =
-    subst (λ (o : Outcome Trace Wanted). MeansAfter (suc limit) o m)
-    (sym (is (λ deep. fine (subst (λ (n : Meaning). IsRunTooDeep n.result) (sym h) deep)))) h
+after_mean limit (Gave trace want) after m fine is h = grind (arith, goals_mean)
+after_mean limit (Stopped trace fault) after m fine is h = grind arith
 
 one_more : (args : Args) (store : Store) (asked : List Text) (limit : ℕ) (m : Meaning) → Means (with_limit limit args) store asked m
     → (IsRunTooDeep m.result → ⊥) → Means (with_limit (suc limit) args) store asked m
-one_more args store asked limit m means fine =
-    after_mean limit (prepared (with_limit limit args) store (traced [] asked)) (prepared (with_limit (suc limit) args) store (traced [] asked)) m fine
-    (prepared_deeper args store limit (traced [] asked)) means
+one_more args store asked limit m means fine = grind (arith, after_mean, prepared_deeper)
 
 -- this many more
 some_more : (args : Args) (store : Store) (asked : List Text) (limit more : ℕ) (m : Meaning) → Means (with_limit limit args) store asked m

@@ -1,6 +1,6 @@
 -- The meaning of a call that comes to goals and their plan, from its result.
-use Rattle.std.proofs.Common.{◌≡◌, ℕ, List, [], None, Result, Ok, Err, refl, sym, ap, ◌∙◌, subst, inl, inr}
-use Rattle.kati.proofs.Common.{Text, Rule, Fault, Stop, Trace, traced, Store, Ends, IsOfNoDevice, Gives, Outcome, Gave, Stopped, fault_at, IsSoundGraph, ReportsFirst, fault_number, Node, Plan, Args, Meaning, MeansAfter, Wanted, meaning_of, prepared, planned}
+use Rattle.std.proofs.Common.{arith, rules, ◌≡◌, ℕ, List, [], Result, Ok, Err, refl, sym, ap, subst, inl, inr}
+use Rattle.kati.proofs.Common.{Text, Rule, Fault, Stop, Trace, traced, Store, Ends, IsOfNoDevice, Gives, Outcome, Gave, Stopped, IsSoundGraph, ReportsFirst, Node, Plan, Args, Meaning, MeansAfter, Wanted, meaning_of, prepared, planned}
 use Rattle.kt_eval.specs.declared.stop.Stop.TheVariants as stops
 use Rattle.kt_graph.specs.declared.faults.fault.GraphFault.{GraphFault}
 use Rattle.kt_graph.specs.declared.faults.fault.GraphFault.TheVariants as graphs
@@ -24,9 +24,7 @@ seen_means see limit want trace nodes heard (Err stops.Memory) sound is = tt
 pub first_stop : (rules : List Rule) (known goals : List Text) (fault : GraphFault) (stop : Stop) → ReportsFirst rules known goals fault → IsStopOf fault stop
     → IsFirstStop rules known goals stop
 first_stop rules known goals graphs.Memory stop tells is = subst (λ (s : Stop). IsFirstStop rules known goals s) (sym is) tt
-first_stop rules known goals (graphs.Refused number words) stop tells is =
-    subst (λ (s : Stop). IsFirstStop rules known goals s) (sym is)
-    (tells.0, tells.1, ap (λ (n : ℕ). fault_at None n words) tells.2.0 ∙ ap (λ (w : Text). fault_at None (fault_number tells.0) w) tells.2.1)
+first_stop rules known goals (graphs.Refused number words) stop tells is = grind arith
 
 pub trouble_means : {A : Type 0} (see : A → Plan) (limit : ℕ) (want : Wanted) (trace : Trace) (stop : Stop) → IsFirstStop want.read.book want.known want.goals stop
     → Ends (GoalsEnd limit want) trace see (Err stop) trace

@@ -1,6 +1,6 @@
 -- A run has one meaning.
-use Rattle.std.proofs.Common.{◌≡◌, List, [], ◌∷◌, map, Some, None, refl, sym, ap, ◌∙◌, ⊎_elim, inl, inr}
-use Rattle.kati.proofs.Common.{Contains, IsStrictlySortedBy, is_lt, ordering_reverse, Ordering, Less, Equal, Greater, true≢false, All-contains, sorted_tail, All-after_first, none-some, same_Some, first_or_rest, in_first, in_rest, Text, Rule, Trace, traced, Outcome, Gave, Stopped, fault_at, fault_number, fault_words, Node, node_of, ComesFirst, IsFirst, IsGraph, IsSound, Trouble, no_rule, circular, reserved_name, one_file, Contains-none, Meaning, MeansAfter, MeansGoals, Wanted, meaning_of, prepared, planned}
+use Rattle.std.proofs.Common.{arith, ◌≡◌, List, [], ◌∷◌, map, Some, refl, sym, ap, ◌∙◌, ⊎_elim, inl, inr}
+use Rattle.kati.proofs.Common.{Contains, IsStrictlySortedBy, ordering_reverse, Ordering, Less, Equal, Greater, All-contains, sorted_tail, All-after_first, none-some, same_Some, first_or_rest, in_first, in_rest, Text, Rule, Trace, traced, Outcome, Gave, Stopped, Node, node_of, ComesFirst, IsFirst, IsGraph, IsSound, Trouble, no_rule, circular, reserved_name, one_file, Contains-none, Meaning, MeansAfter, MeansGoals, Wanted, meaning_of, prepared, planned}
 use Rattle.std.proofs.lemmas.Cmp.{nat_list_cmp_total}
 use Rattle.std.proofs.lemmas.Map.Lookups.{exact_bytes}
 use Rattle.kati.specs.Once.{HasOneMeaning}
@@ -23,17 +23,10 @@ first_once P one other f g = equal_by one other (g.least one f.holds) (f.least o
 
 not_before_first : (first : Text) (names : List Text) (name : Text) → IsStrictlySortedBy order (first ∷ names) → Contains (first ∷ names) name
     → order name first ≡ Less → ⊥
-not_before_first first names name rises has less = ⊎_elim
-    (λ (same : first ≡ name). not_less name first less (sym same))
-    (λ (later : Contains names name). never_both name first less
-    (All-contains (λ (q : Text). order first q ≡ Less) names name (All-after_first order first names rises) later))
-    (first_or_rest first name names has)
+not_before_first first names name rises has less = grind (arith, ⊎_elim, not_less, never_both, All-contains, order, All-after_first, first_or_rest)
 
 later_of : (first : Text) (names : List Text) (name : Text) → (first ≡ name → ⊥) → Contains (first ∷ names) name → Contains names name
-later_of first names name other has = ⊎_elim
-    (λ (same : first ≡ name). absurd (other same))
-    (λ (later : Contains names name). later)
-    (first_or_rest first name names has)
+later_of first names name other has = grind (arith, ⊎_elim, first_or_rest)
 
 module _ (name other : Text) (names others : List Text) (rises : IsStrictlySortedBy order (name ∷ names)) where
   -- what is contained after the first of two lists whose first names are the same
@@ -106,11 +99,7 @@ goals_once limit want trace m n (inl p) (inl q) =
     ∙ sym q.means
 goals_once limit want trace m n (inl p) (inr u) = absurd (sound_or_not want.read.book want.known want.goals u.trouble p.graph.0 u.first)
 goals_once limit want trace m n (inr t) (inl q) = absurd (sound_or_not want.read.book want.known want.goals t.trouble q.graph.0 t.first)
-goals_once limit want trace m n (inr t) (inr u) =
-    t.means
-    ∙ ap (λ (trouble : Trouble). meaning_of (Stopped trace (fault_at None (fault_number trouble) (fault_words trouble))))
-    (trouble_once want.read.book want.known want.goals t.trouble u.trouble t.first u.first)
-    ∙ sym u.means
+goals_once limit want trace m n (inr t) (inr u) = grind (arith, trouble_once)
 
 after_once : (limit : _) (outcome : Outcome Trace Wanted) (m n : Meaning) → MeansAfter limit outcome m → MeansAfter limit outcome n → m ≡ n
 after_once limit (Gave trace want) m n h k = goals_once limit want trace m n h k

@@ -1,17 +1,13 @@
 -- What a step leaves, and what comes after it.
-use Rattle.std.proofs.Common.{◌≡◌, List, [], Result, Ok, Err, refl}
-use Rattle.kati.proofs.Common.{Text, Stop, Store, IsPrefix, Read, Trace, traced, Gives, Outcome, Gave, Stopped, StepOver, leaving, left_of, then_do, front_next, Args, Wanted, prepared, wanted_by}
+use Rattle.std.proofs.Common.{arith, ◌≡◌, List, [], Result, Ok, Err, refl}
+use Rattle.kati.proofs.Common.{Text, Stop, Store, IsPrefix, Read, Trace, traced, Gives, Outcome, Gave, Stopped, StepOver, left_of, then_do, front_next, Args, Wanted, prepared, wanted_by}
 use Rattle.kt_eval.specs.declared.stop.Stop.TheVariants as stops
 use Rattle.kati.specs.Listing.{listed}
 use Rattle.kati.specs.Makefile.{makefile_read}
 use Rattle.kati.specs.Steps.{telling}
 
 pub telling_asks : {A : Type 0} (trace : Trace) (step : StepOver (List Text) A) → (left_of (telling step trace)).asked ≡ trace.asked
-telling_asks {A} trace step = by (step trace.said)
-  where
-    by : (o : Outcome (List Text) A) → (left_of (leaving (λ said. traced said trace.asked) o)).asked ≡ trace.asked
-    by (Gave said x) = refl
-    by (Stopped said fault) = refl
+telling_asks {A} trace step = grind arith
 
 -- names that are asked for before the end of a step are before those of a longer step
 pub asked_then : {A B : Type 0} (names : List Text) (first : Outcome Trace A) (next : A → StepOver Trace B)

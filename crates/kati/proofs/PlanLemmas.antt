@@ -1,6 +1,6 @@
 -- The plan of what goals need can be written, if its names and commands can.
-use Rattle.std.proofs.Common.{◌≡◌, ◌≢◌, ℕ, ◌+◌, Bool, true, false, not, ◌&&◌, if◌then◌else◌, cond, List, [], ◌∷◌, ◌++◌, map, filter, find, flat_map, Option, Some, None, refl, sym, ap, ◌∙◌, subst, ⊎_elim, append-nil, arith, ◌||◌, IfOk, MatchOption, Result, Ok, Err, slice_get}
-use Rattle.kati.proofs.Common.{option_and_then, option_map_or, All, AllPairs, Contains, list_all, list_any, IsStrictlySortedBy, is_eq, nat_cmp, Ordering, Less, slice_cmp, false≢true, true≢false, append_assoc, map-append, flat_map-cons, All-contains, All-cons, All-nil, Contains-append_cases, flat_map-map, sorted_tail, All-after_first, bytes_eq-Decides, Text, from_flat_map, in_first, in_flat_map, in_rest, Rule, Fault, Stop, Outcome, Gave, Stopped, Table, IsSoundGraph, AreGroups, are_together, groups_among, groups_of, is_leading, leader_name, made_nodes, Node, is_leaf, node_of, canon_of, is_reserved, parts_of, IsGraph, IsReached, unmade_goal, Contains-from_map, Contains-map, Contains-none, in_filter, found_nowhere, kept_by_filter, mapped_itself, Plan, Statement, outputs, IsWritable, HasWritableTexts, Obstacle, bad_name, bad_command, is_empty, is_made, is_name, obstacle_of_statements, always_build, always_built, command_for, first_output, has_implicit, outs_of, plan_groups, plan_of, statement_of, text_fault, unwritable_in, with_always_built, gave_both, none-some, same_Some}
+use Rattle.std.proofs.Common.{rules, ◌≡◌, ◌≢◌, ℕ, ◌+◌, Bool, true, false, not, ◌&&◌, if◌then◌else◌, cond, List, [], ◌∷◌, ◌++◌, map, filter, find, flat_map, Option, Some, None, refl, sym, ap, ◌∙◌, subst, ⊎_elim, append-nil, arith, IfOk, MatchOption, Result, Ok, Err, slice_get}
+use Rattle.kati.proofs.Common.{option_and_then, option_map_or, All, AllPairs, Contains, list_all, list_any, IsStrictlySortedBy, is_eq, nat_cmp, Ordering, Less, slice_cmp, false≢true, true≢false, append_assoc, map-append, flat_map-cons, All-contains, All-cons, All-nil, Contains-append_cases, flat_map-map, sorted_tail, All-after_first, bytes_eq-Decides, Text, from_flat_map, in_first, in_flat_map, in_rest, Rule, Fault, Stop, Outcome, Gave, Stopped, Table, IsSoundGraph, AreGroups, are_together, groups_among, groups_of, is_leading, leader_name, made_nodes, Node, is_leaf, node_of, canon_of, is_reserved, parts_of, IsGraph, IsReached, unmade_goal, Contains-from_map, Contains-map, Contains-none, in_filter, found_nowhere, kept_by_filter, Plan, Statement, outputs, IsWritable, HasWritableTexts, Obstacle, bad_name, bad_command, is_empty, is_made, is_name, obstacle_of_statements, always_build, always_built, command_for, first_output, has_implicit, outs_of, plan_groups, plan_of, statement_of, text_fault, unwritable_in, with_always_built, gave_both, none-some, same_Some}
 use Rattle.std.proofs.lemmas.List.Kept.{AllPairs-cons}
 use Rattle.std.proofs.lemmas.Map.Text.{is_eq-slice_cmp}
 use Rattle.kt_graph.proofs.lemmas.nodes.GroupLaw.{are_groups, in_graph, itself_together}
@@ -143,8 +143,7 @@ pub outs_told : (rules : List Rule) (table : Table) (limit : ℕ) (groups : List
     (heard : List Text) (statements : List Statement) → plan_groups rules table limit groups before said ≡ Gave heard statements
     → map outs_in statements ≡ map outs_in before ++ map outs_of groups
 unfolding plan_groups statement_of
-outs_told rules table limit [] before said heard statements e =
-    sym (ap (λ p. map outs_in (statements_in p)) e) ∙ sym (append-nil (map outs_in before))
+outs_told rules table limit [] before said heard statements e = grind (arith, append-nil)
 outs_told rules table limit (group ∷ groups) before said heard statements e =
     let both = gave_both (command_for table limit group said)
     (λ command. plan_groups rules table limit groups (before ++ statement_of rules group command ∷ [])) heard statements e in
@@ -188,10 +187,7 @@ module _ (rules : List Rule) (known goals : List Text) (nodes : List Node) (soun
       (goal_named rules known goals nodes sound.1 sound.0.free.uncircled.goals_made.made goal has)
 
   always_apart : (name : Text) → Contains (outputs statements) name → always_build ≢ name
-  always_apart name has same = sound.0.free.free name (record {
-    reached = name_reached rules known goals nodes sound.1 name (subst (λ (names : List Text). Contains names name) names_are has);
-    reserved = subst (λ (one : Text). is_reserved one ≡ true) same always_reserved;
-  })
+  always_apart name has same = grind (arith, name_reached, names_are, always_reserved)
 
   pub can_be_written : HasWritableTexts (plan_of statements goals) → IsWritable (plan_of statements goals)
   unfolding with_always_built
@@ -259,17 +255,9 @@ text_settled plan trouble (Some stop) is h = (h.0, ap (option_and_then (text_fau
 pub least_here : (found : Option Statement) (name : Text) → slice_get (names_at (λ s. s.outs) found) 0 ≡ Some name
     → name ≡ option_map_or (λ statement. first_output statement.outs) found []
 least_here None name is = absurd (cc is)
-least_here (Some s) name is = by s.outs is
-  where
-    by : (outs : List Text) → slice_get outs 0 ≡ Some name → name ≡ first_output outs
-    by [] e = absurd (cc e)
-    by (first ∷ outs) e = sym (same_Some first name e)
+least_here (Some s) name is = grind arith
 
 pub least_none : (found : Option Statement) → None ≡ slice_get (names_at (λ s. s.outs) found) 0
     → [] ≡ option_map_or (λ statement. first_output statement.outs) found []
 least_none None is = refl
-least_none (Some s) is = by s.outs is
-  where
-    by : (outs : List Text) → None ≡ slice_get outs 0 → [] ≡ first_output outs
-    by [] e = refl
-    by (first ∷ outs) e = absurd (cc e)
+least_none (Some s) is = grind arith

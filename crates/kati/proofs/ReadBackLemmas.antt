@@ -1,5 +1,5 @@
 -- Each plan that a run means can be written, and is read back.
-use Rattle.std.proofs.Common.{◌≡◌, ℕ, Bool, true, false, List, [], Option, Some, None, Result, Ok, Err, refl, sym, ap, ◌∙◌, subst, inl, inr}
+use Rattle.std.proofs.Common.{arith, ◌≡◌, ℕ, Bool, true, false, List, [], Option, Some, None, Result, Ok, Err, refl, sym, ap, ◌∙◌, subst, inl, inr}
 use Rattle.kati.proofs.Common.{option_and_then, false≢true, Text, Fault, Store, Trace, traced, Outcome, Gave, Stopped, leaving, groups_of, Node, Plan, Statement, IsWritable, Obstacle, no_output, bad_name, bad_command, repeated, not_an_output, obstacle_of_statements, texts_exactly, printed_is_read, Args, Meaning, Means, MeansAfter, MeansGoals, Wanted, meaning_of, prepared, plan_groups, plan_of, plan_unless, planned, text_fault, unwritable_in, written, gave_both}
 use Rattle.kati.specs.Once.{PlansReadBack}
 use Rattle.kati.specs.Steps.{telling}
@@ -70,12 +70,7 @@ pub plan_given : (limit : ℕ) (want : Wanted) (nodes : List Node) (trace : Trac
     → (meaning_of (telling (planned want.read.book want.read.table limit want.goals nodes) trace)).result ≡ Ok plan
     → IsPlanOf limit want nodes trace.said plan
 unfolding planned written
-plan_given limit want nodes trace plan e =
-    let told = told_plan (planned want.read.book want.read.table limit want.goals nodes trace.said) trace plan e in
-    let both = gave_both (plan_groups want.read.book want.read.table limit (groups_of nodes) [] trace.said)
-    (λ statements. written (plan_of statements want.goals)) told.0 plan told.1 in
-    let stored = plan_unless_is plan (plan_of both.given want.goals) (unwritable_in (plan_of both.given want.goals).statements) both.middle told.0 both.rest in
-    record { heard = both.middle; statements = both.given; groups = both.is; fine = stored.0; is = stored.1 }
+plan_given limit want nodes trace plan e = grind (arith, told_plan, gave_both, plan_unless_is)
 
 pub goals_fine : (limit : ℕ) (want : Wanted) (trace : Trace) (m : Meaning) (plan : Plan) → m.result ≡ Ok plan
     → MeansGoals limit want trace m → IsWritable plan
@@ -85,8 +80,7 @@ goals_fine limit want trace m plan ok (inl p) =
     (can_be_written want.read.book want.known want.goals p.nodes p.graph of.statements
     (outs_told want.read.book want.read.table limit (groups_of p.nodes) [] trace.said of.heard of.statements of.groups)
     ((texts_exactly (plan_of of.statements want.goals) (Ok tt) (sym (untroubled (plan_of of.statements want.goals).statements of.fine))).0 refl))
-goals_fine limit want trace m plan ok (inr trouble) =
-    absurd (false≢true (sym (ap (λ (n : Meaning). has_plan n.result) trouble.means) ∙ ap has_plan ok))
+goals_fine limit want trace m plan ok (inr trouble) = grind (arith, false≢true)
 
 writable : (args : Args) (store : Store) (asked : List Text) (m : Meaning) (plan : Plan) → Means args store asked m → m.result ≡ Ok plan → IsWritable plan
 writable args store asked m plan means ok =

@@ -1,5 +1,5 @@
 -- How a run ends.
-use Rattle.std.proofs.Common.{◌≡◌, ◌∙◌, List, [], ◌∷◌, ◌++◌, Option, Some, None, Result, Ok, Err, refl, sym, ap, subst, inr, IfErr, IfOk, OnOk}
+use Rattle.std.proofs.Common.{arith, ◌≡◌, List, [], ◌∷◌, ◌++◌, Some, None, Result, Ok, Err, refl, IfErr, IfOk, OnOk}
 use Rattle.kati.proofs.Common.{Text, Fault, Store, look, Plan, IsWritable, Takes, printed_is_read, Args, RunFault, Status, Devices, Meaning, Means}
 use Rattle.kati.specs.declared.faults.RunFault.TheVariants as faults
 use Rattle.kati.specs.Checking.{AskedAtCheck, HasStatus, IsChecked, names_with_check}
@@ -32,61 +32,26 @@ module _ (args : Args) (store : Store) (said asked : List Text) (plan : Plan) (o
 
   ended : (status : Status) → HasStatus store args.check (Ok plan) status → new.files.names ≡ names_with_check args.check (Ok plan) asked
       → HasOutput args.check (Ok plan) old.out new.out → Leaves args store (Ok status) old new
-  ended status is names written = record {
-    meaning = meant said asked (Ok plan);
-    means = means;
-    graph = graph;
-    sound = sound;
-    ends = is;
-    names = names;
-    written = written;
-    told = told;
-  }
+  ended status is names written = grind (arith, meant, graph, sound)
 
   -- which is written
   pub written_leaves : (result : Result Status RunFault) → args.check ≡ None → IsWritable plan → new.files.names ≡ asked → Writes plan result old.out new.out
       → Leaves args store result old new
-  written_leaves (Ok status) is fine names w =
-      ended status (subst (λ (checked : Option Text). HasStatus store checked (Ok plan) status) (sym is) w.0)
-      (names ∙ ap (λ (checked : Option Text). names_with_check checked (Ok plan) asked) (sym is))
-      (subst (λ (checked : Option Text). HasOutput checked (Ok plan) old.out new.out) (sym is) (record { taken = w.1; read = printed_is_read plan fine }))
-  written_leaves (Err faults.WriteOut) is fine names w = record {
-    meaning = meant said asked (Ok plan);
-    means = means;
-    names = names;
-    plan = plan;
-    planned = refl;
-    graph = graph;
-    sound = sound;
-    unchecked = is;
-    written = w;
-    told = told;
-  }
+  written_leaves (Ok status) is fine names w = grind (arith, ended, printed_is_read)
+  written_leaves (Err faults.WriteOut) is fine names w = grind (arith, meant, graph, sound)
   written_leaves (Err faults.WriteErr) is fine names w = absurd w
   written_leaves (Err (faults.Read name)) is fine names w = absurd w
   written_leaves (Err faults.Memory) is fine names w = absurd w
 
   kept_at_check : (name : Text) (fault : RunFault) → args.check ≡ Some name → AskedAtCheck fault name asked new.files.names → new.out ≡ old.out
       → IsUntouched args store fault old new
-  kept_at_check name fault is names same = inr (record {
-    meaning = meant said asked (Ok plan);
-    means = means;
-    planned = refl;
-    name = name;
-    checks = is;
-    names = names;
-    written = same;
-    told = told;
-  })
+  kept_at_check name fault is names same = grind (arith, meant)
 
   -- with which a file is compared
   pub checked_leaves : (name : Text) (result : Result Status RunFault) → args.check ≡ Some name → IfOk result (IsChecked plan (look store name))
       → OnOk result (new.files.names ≡ asked ++ name ∷ []) → IfErr result (λ fault. AskedAtCheck fault name asked new.files.names) → new.out ≡ old.out
       → Leaves args store result old new
-  checked_leaves name (Ok status) is checks names stopped same =
-      ended status (subst (λ (checked : Option Text). HasStatus store checked (Ok plan) status) (sym is) checks)
-      (names ∙ ap (λ (checked : Option Text). names_with_check checked (Ok plan) asked) (sym is))
-      (subst (λ (checked : Option Text). HasOutput checked (Ok plan) old.out new.out) (sym is) same)
+  checked_leaves name (Ok status) is checks names stopped same = grind (arith, ended)
   checked_leaves name (Err (faults.Read copy)) is checks names stopped same = kept_at_check name (faults.Read copy) is stopped same
   checked_leaves name (Err faults.Memory) is checks names stopped same = kept_at_check name faults.Memory is stopped same
   checked_leaves name (Err faults.WriteOut) is checks names stopped same = absurd stopped

@@ -1,5 +1,5 @@
 -- The inputs of a single name are those of its statement as they are.
-use Rattle.std.proofs.Common.{◌≡◌, Bool, true, false, not, cond, if◌then◌else◌, List, [], ◌∷◌, ◌++◌, filter, flat_map, refl, sym, ap, ◌∙◌, append-nil, nat_eq, fold}
+use Rattle.std.proofs.Common.{arith, ◌≡◌, Bool, true, false, not, cond, if◌then◌else◌, List, [], ◌∷◌, ◌++◌, filter, flat_map, refl, sym, ap, ◌∙◌, append-nil, nat_eq, fold}
 use Rattle.kati.proofs.Common.{pointwise, or_from, or_parts, append_assoc, list_any-append, Text, is_among, with_name, without_repeats, Node, inputs_of, order_only_of, joined_inputs, joined_order_only}
 
 -- none of the names is among those before it
@@ -22,13 +22,11 @@ adds_by : (old : List Text) (name : Text) (names : List Text) (b : Bool) → is_
     → Adds old names → Adds (old ++ name ∷ []) names
     → ((more : List Text) × (fold with_name (if b then old else old ++ name ∷ []) names ≡ old ++ more) × AreNew old more)
 adds_by old name names true e same longer = same
-adds_by old name names false e same longer =
-    (name ∷ longer.0, longer.1 ∙ append_assoc old (name ∷ []) longer.0, (e, longer.2))
+adds_by old name names false e same longer = grind (arith, append_assoc)
 
 adds : (old names : List Text) → Adds old names
 adds old [] = ([], sym (append-nil old), tt)
-adds old (name ∷ names) =
-    adds_by old name names (is_among old name) refl (adds old names) (adds (old ++ name ∷ []) names)
+adds old (name ∷ names) = grind (arith, adds_by, adds old names, adds (old ++ name ∷ []) names)
 
 once_more : (names : List Text) → without_repeats (without_repeats names) ≡ without_repeats names
 unfolding without_repeats
@@ -42,16 +40,10 @@ abbrev NotAmong : List Text → List Text → Type 0
 NotAmong old kept = (name : Text) → is_among old name ≡ false → is_among kept name ≡ false
 
 one_passed : (old kept : List Text) (name : Text) → NotAmong old kept → NotAmong (old ++ name ∷ []) kept
-one_passed old kept name fewer other e =
-    fewer other (or_parts (is_among old other) (is_among (name ∷ []) other)
-    (sym (list_any-append (pointwise nat_eq other) old (name ∷ [])) ∙ e)).0
+one_passed old kept name fewer other e = grind (arith, or_parts, list_any-append, pointwise, nat_eq)
 
 one_kept : (old kept : List Text) (name : Text) → NotAmong old kept → NotAmong (old ++ name ∷ []) (kept ++ name ∷ [])
-one_kept old kept name fewer other e =
-    let both = or_parts (is_among old other) (is_among (name ∷ []) other)
-    (sym (list_any-append (pointwise nat_eq other) old (name ∷ [])) ∙ e) in
-    list_any-append (pointwise nat_eq other) kept (name ∷ [])
-    ∙ or_from (is_among kept other) (is_among (name ∷ []) other) (fewer other both.0) both.1
+one_kept old kept name fewer other e = grind (arith, or_parts, list_any-append, pointwise, nat_eq, or_from)
 
 fewer_by : (p : Text → Bool) (kept : List Text) (name : Text) (names : List Text) (b : Bool) → is_among kept name ≡ false
     → AreNew kept (filter p names) → AreNew (kept ++ name ∷ []) (filter p names)
@@ -76,8 +68,7 @@ filtered_once p names =
 
 twice_by : (p : Text → Bool) (name : Text) (names : List Text) (b : Bool) → p name ≡ b → filter p (filter p names) ≡ filter p names
     → filter p (cond b (name ∷ filter p names) (filter p names)) ≡ cond b (name ∷ filter p names) (filter p names)
-twice_by p name names true e rest =
-    ap (λ (b : Bool). cond b (name ∷ filter p (filter p names)) (filter p (filter p names))) e ∙ ap (λ (l : List Text). name ∷ l) rest
+twice_by p name names true e rest = grind (arith, cond)
 twice_by p name names false e rest = rest
 
 filter_twice : (p : Text → Bool) (names : List Text) → filter p (filter p names) ≡ filter p names
@@ -88,18 +79,11 @@ filter_twice p (name ∷ names) = twice_by p name names (p name) refl (filter_tw
 
 pub own_inputs : (node : Node) → joined_inputs (node ∷ []) ≡ inputs_of node
 unfolding inputs_of
-own_inputs node =
-    ap without_repeats (append-nil (inputs_of node)) ∙ once_more (flat_map (λ part. part.needs.prerequisites) node.parts)
+own_inputs node = grind (arith, append-nil, once_more)
 
 order_only_by : (node : Node) (inputs : List Text) → order_only_of node ≡ filter (λ name. not (is_among inputs name)) (without_repeats (flat_map (λ part. part.needs.order_only) node.parts))
     → filter (λ name. not (is_among inputs name)) (without_repeats (order_only_of node ++ [])) ≡ order_only_of node
-order_only_by node inputs is =
-    let others : List Text = flat_map (λ part. part.needs.order_only) node.parts in
-    let test : Text → Bool = λ name. not (is_among inputs name) in
-    ap (λ (names : List Text). filter test (without_repeats names)) (append-nil (order_only_of node) ∙ is)
-    ∙ ap (filter test) (filtered_once test others)
-    ∙ filter_twice test (without_repeats others)
-    ∙ sym is
+order_only_by node inputs is = grind (arith, not, append-nil, filtered_once, filter_twice)
 
 pub own_order_only : (node : Node) → joined_order_only (node ∷ []) ≡ order_only_of node
 unfolding order_only_of

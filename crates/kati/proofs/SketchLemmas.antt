@@ -1,5 +1,5 @@
 -- A sketch as the code holds it.
-use Rattle.std.proofs.Common.{◌≡◌, ℕ, Bool, true, false, List, [], ◌∷◌, ◌++◌, length, take, Option, Some, None, Result, Ok, Err, OnOk, OnErr, refl, sym, ap, ◌∙◌, arith, zero, suc, ◌||◌, option_map, get_or}
+use Rattle.std.proofs.Common.{◌≡◌, ℕ, Bool, true, false, List, [], ◌∷◌, ◌++◌, length, take, Option, Some, None, Result, Ok, Err, OnOk, OnErr, refl, ap, ◌∙◌, arith, zero, suc, ◌||◌, option_map, get_or}
 use Rattle.kati.proofs.Common.{list_all, list_any, option_to_list, and_from, and_parts, Text, is_made, made_by}
 use Rattle.std.proofs.Math.Seq.{take-append_seam}
 use Rattle.std.specs.Result.{is_err}
@@ -28,14 +28,11 @@ if_ok (Err refused) P is holds = absurd (cc is)
 module _ {A R E : Type 0} (rows opened put : List (List A)) (one : A) (opens : opened ≡ rows ++ [] ∷ []) where
   pub row_put : (joined : Option A) (result : Result R E) → joined ≡ Some one → OnOk result (put ≡ with_item opened one)
       → OnOk result (put ≡ rows ++ option_to_list joined ∷ [])
-  row_put joined (Ok done) is puts =
-      puts ∙ ap (λ (list : List (List A)). with_item list one) opens ∙ item_last rows [] one
-      ∙ ap (λ (o : Option A). rows ++ option_to_list o ∷ []) (sym is)
+  row_put joined (Ok done) is puts = grind (arith, item_last)
   row_put joined (Err refused) is puts = tt
 
   pub row_kept : (result : Result R E) → OnOk result (put ≡ with_item opened one) → OnErr result (put ≡ opened) → take (length rows) put ≡ rows
-  row_kept (Ok done) puts leaves =
-      cut_back (length rows) rows put (one ∷ []) refl (puts ∙ ap (λ (list : List (List A)). with_item list one) opens ∙ item_last rows [] one)
+  row_kept (Ok done) puts leaves = grind (arith, cut_back, length, item_last)
   row_kept (Err refused) puts leaves = cut_back (length rows) rows put [] refl (leaves ∙ opens)
 
 pub all_more : (commands : List Text) (joined : List (List BoxedJoined)) (always : List Bool) (command : Text) (row : List BoxedJoined) (one : Bool)
@@ -54,11 +51,7 @@ pub pushed : (commands commands' : List Text) (joined joined' : List (List Boxed
     → all_drawn commands joined always ≡ all → commands' ≡ commands ++ command ∷ [] → joined' ≡ joined ++ option_to_list row ∷ []
     → always' ≡ always ++ one ∷ [] → all_drawn commands' joined' always'
     ≡ all ++ record { always = one; joined = option_map (λ b. joined_view b.value) row; command = command_in command } ∷ []
-pushed commands commands' joined joined' always always' command row one all same also is more_commands more_joined more_always =
-    rw (more_commands, more_joined, more_always)
-    (all_more commands joined always command (option_to_list row) one same also
-    ∙ ap (λ (l : List Drawn). l ++ drawn_by command (option_to_list row) one ∷ []) is
-    ∙ ap (λ j. all ++ record { always = one; joined = j; command = command_in command } ∷ []) (first_of_one row))
+pushed commands commands' joined joined' always always' command row one all same also is more_commands more_joined more_always = grind (arith, all_more, first_of_one)
 
 -- how many there are
 pub all_size : (commands : List Text) (joined : List (List BoxedJoined)) (always : List Bool)

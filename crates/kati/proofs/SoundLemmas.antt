@@ -1,5 +1,5 @@
 -- No plan that a run means has a cycle, two outputs of one file or a reserved name.
-use Rattle.std.proofs.Common.{◌≡◌, ◌≢◌, ◌⊎◌, ℕ, Bool, true, false, not, List, [], ◌∷◌, ◌++◌, flat_map, Option, Result, Ok, Err, refl, sym, ap, ◌∙◌, subst, ⊎_elim, inl, inr, IfOk}
+use Rattle.std.proofs.Common.{arith, ◌≡◌, ◌≢◌, ◌⊎◌, ℕ, Bool, true, false, not, List, [], ◌∷◌, ◌++◌, flat_map, Option, Result, Ok, Err, refl, sym, ap, ◌∙◌, subst, ⊎_elim, inl, inr, IfOk}
 use Rattle.kati.proofs.Common.{Contains, bytes_eq, true≢false, Contains-append_cases, Contains-append_left, Contains-append_right, bytes_eq-Decides, Text, Rule, is_among, without_repeats, Stop, Read, Trace, Ends, groups_of, Node, all_inputs, inputs_of, order_only_of, always_name, canon_of, is_reserved, HasEdge, IsInGroup, IsMade, IsReached, Leads, reached_on, Contains-from_map, Contains-map, Contains-none, kept_by_filter, from_without_repeats, outputs, Plan, Statement, IsWritable, Meaning, MeansGoals, Wanted, always_build, always_built, implicit_of, joined_inputs, joined_order_only, outs_of, statement_of, first_or_rest, from_flat_map, in_flat_map}
 use Rattle.kati.specs.Exact.{IsAlwaysBuilt, IsOfGroup, TellsGraph}
 use Rattle.kati.specs.Sound.{IsSoundPlan, IsUnreserved, NeedsInput, NeedsItself, PlansAreSound}
@@ -30,10 +30,7 @@ order_only_needed group input has =
     record { member = from.0; among = from.1; needs = Contains-append_right (inputs_of from.0) (order_only_of from.0) input from.2 }
 
 implicit_is : (always : Bool) (input : Text) → Contains (implicit_of always) input → input ≡ always_build
-implicit_is true input has = ⊎_elim
-    (λ (same : always_build ≡ input). sym same)
-    (λ (none : Contains [] input). Contains-none input none)
-    (first_or_rest always_build input [] has)
+implicit_is true input has = grind (arith, ⊎_elim, Contains-none, first_or_rest)
 implicit_is false input has = Contains-none input has
 
 group_needs : (rules : List Rule) (group : List Node) (command : Option Text) (input : Text)

@@ -1,5 +1,5 @@
 -- What is written to a sink in pieces, and what is reported at the end.
-use Rattle.std.proofs.Common.{◌≡◌, ◌≤◌, ◌++◌, Result, Ok, Err, refl, sym, subst, inl, inr, arith, IfErr, OnErr, OnOk}
+use Rattle.std.proofs.Common.{◌≡◌, ◌≤◌, ◌++◌, Result, Ok, Err, refl, inl, inr, arith, IfErr, OnErr, OnOk}
 use Rattle.kati.proofs.Common.{Rises, Text, GrowsByFront, SinkSeen, Takes, front_after, front_of_more, takes_twice, RunFault, Status, devices, FilesSeen}
 use Rattle.kati.specs.ErrorOutput.{WritesOrFails, ReportsEnd, fault_words}
 
@@ -23,6 +23,5 @@ told_by (Err e) text old new whole cut fails = inr (fails, cut)
 -- what is reported at the end goes to the error output alone
 pub told_end : (result : Result Status RunFault) (files : FilesSeen) (out err err' : SinkSeen) → OnOk result (err' ≡ err)
     → IfErr result (λ fault. WritesOrFails (fault_words fault) err err') → ReportsEnd result (devices files out err) (devices files out err')
-told_end (Ok status) files out err err' same told =
-    subst (λ (last : SinkSeen). devices files out last ≡ devices files out err) (sym same) refl
+told_end (Ok status) files out err err' same told = grind arith
 told_end (Err fault) files out err err' same told = (refl, refl, told)

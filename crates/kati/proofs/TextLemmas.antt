@@ -1,6 +1,6 @@
 -- All texts of a plan can be written, if the names of its graph and its commands can.
-use Rattle.std.proofs.Common.{◌≡◌, ℕ, Bool, true, false, not, ◌&&◌, cond, List, [], ◌∷◌, ◌++◌, flat_map, Option, None, refl, sym, ap, subst, is_some}
-use Rattle.kati.proofs.Common.{Contains, list_all, list_any, option_and_then, and_from, and_parts, Contains-append_left, Contains-append_right, Text, Rule, is_among, without_repeats, Gave, Table, HasInput, IsGraph, IsReached, groups_of, Node, all_inputs, inputs_of, order_only_of, all_pass, each_passes, Contains-from_map, Contains-map, kept_by_filter, reached_on, from_without_repeats, Plan, Statement, names_of, HasWritableTexts, is_made, is_name, texts_unobstructed, always_built, command_for, has_implicit, has_phony, implicit_of, joined_inputs, joined_order_only, made_by, outs_of, plan_groups, plan_of, statement_of, text_fault, unwritable_in, with_always_built, gave_both, from_flat_map, in_first, in_rest}
+use Rattle.std.proofs.Common.{arith, ◌≡◌, ℕ, Bool, true, false, not, ◌&&◌, cond, List, [], ◌∷◌, ◌++◌, flat_map, Option, None, refl, sym, ap, subst, is_some}
+use Rattle.kati.proofs.Common.{Contains, list_all, option_and_then, and_from, and_parts, Contains-append_left, Contains-append_right, Text, Rule, is_among, without_repeats, Gave, Table, HasInput, IsGraph, IsReached, groups_of, Node, all_inputs, inputs_of, order_only_of, all_pass, each_passes, Contains-from_map, Contains-map, kept_by_filter, reached_on, from_without_repeats, Plan, Statement, names_of, HasWritableTexts, is_made, is_name, texts_unobstructed, command_for, has_phony, implicit_of, joined_inputs, joined_order_only, made_by, outs_of, plan_groups, plan_of, statement_of, text_fault, unwritable_in, with_always_built, gave_both, from_flat_map, in_first, in_rest}
 use Rattle.kt_ninja_reader.proofs.PrintedPieces.{all_both}
 use Rattle.kati.specs.inner.Drawn.{Drawn, statements_drawn}
 use Rattle.kati.proofs.PlanLemmas.{law, name_in, statements_in}
@@ -96,11 +96,7 @@ both_pass (s ∷ statements) names commands =
 
 first_too : (statements : List Statement) (goals : List Text) → list_all fine statements ≡ true → HasWritableTexts (plan_of statements goals)
 unfolding with_always_built
-first_too statements goals all = by (list_any has_implicit statements)
-  where
-    by : (b : Bool) → list_all fine (cond b (always_built ∷ statements) statements) ≡ true
-    by true = all
-    by false = all
+first_too statements goals all = grind (arith, cond)
 
 -- the texts of a plan can be written, if the names of the graph and the commands can
 pub plan_texts : (rules : List Rule) (table : Table) (limit : ℕ) (known goals : List Text) (nodes : List Node) (said heard : List Text)
