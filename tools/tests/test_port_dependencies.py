@@ -88,7 +88,8 @@ class Dependencies(Tree):
                               ("$(sort a.d b.d)", "*.d"), ("$(sort a.d b.mk)", "*"), ("$(subst .o,.d,a.o)", "*"),
                               ("$(if $(X),a.mk,$(OBJS:.o=.d))", "*"), ("d/$(if $(X),$(OBJS:.o=.d))", "d/*.d"),
                               ("$(addprefix d/,$(notdir $(OBJS:=.P)))", "*.P"), ("$(shell find . -name '*.d')", "*"),
-                              ("$(addsuffix .d,$(OBJS) t)", "*.d"), ("$(call names,a.c)", "*")):
+                              ("$(addsuffix .d,$(OBJS) t)", "*.d"), ("$(call names,a.c)", "*"),
+                              ("$(patsubst /t/%,../%,$(patsubst /t/s/%,%,a.d))", "*a.d")):
             self.assertEqual(includes.named_in(f"include {name}\n"), [pattern])
 
     def test_ninja_reads_what_the_compiler_writes_and_kati_does_not(self):

@@ -41,7 +41,10 @@ def words_giving(text):
     function, blank, rest = text.partition(" ")
     if not blank or function not in GIVING:
         return text[text.find("=", text.find(":")) + 1:].split() if ":" in text and "=" in text else []
-    return " ".join(rest.split(",")[GIVING[function]]).split()
+    given = rest.split(",")
+    # What puts another beginning before words leaves them their endings.
+    keeps = function == "patsubst" and all(one.rstrip().endswith("%") for one in given[:2])
+    return " ".join(given[2:] if keeps else given[GIVING[function]]).split()
 
 
 def ending_in(text):
