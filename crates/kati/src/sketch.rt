@@ -120,7 +120,7 @@ impl Sketch {
     pub(crate) fn joined(&self, place: usize) -> Option<&Joined>
         ensures { option_map (λ b. joined_view b.now) result ≡ (get_or self.now place no_drawn).joined }
     {
-        first_of(row_at(&self.joined, place))
+        first_of(self.joined.row_at(place))
     }
 
     /// The command of the group at a place, which is empty if there is none.
@@ -128,7 +128,7 @@ impl Sketch {
     pub(crate) fn command(&self, place: usize) -> &[u8]
         ensures { command_in result.now ≡ (get_or self.now place no_drawn).command }
     {
-        row_at(&self.commands, place)
+        self.commands.row_at(place)
     }
 }
 
@@ -142,16 +142,6 @@ fn flag_at(flags: &[bool], place: usize) -> bool
     ensures { result ≡ get_or flags.now place false }
 {
     flags.get(place).copied().unwrap_or(false)
-}
-
-#[inline(always)]
-fn row_at<T>(rows: &Rows<T>, place: usize) -> &[T]
-    ensures { result.now ≡ get_or rows.now place [] }
-{
-    match rows.row(place) {
-        Some(row) => row,
-        None => &[],
-    }
 }
 
 // Adds a row of one or none. If memory runs out, the row may be there.

@@ -24,19 +24,21 @@ pub use Rattle.kt_graph.specs.inner.nodes.GraphBuilder.{AllSay, AreOf, AreTold, 
 pub use Rattle.kt_graph.specs.inner.nodes.Inputs.{HasOwnInputs, inputs_held, numbers_without, others_held, with_number}
 unfoldable pub use Rattle.kt_graph.specs.inner.nodes.Inputs.{differ, rise, rise_after}
 pub use Rattle.kt_graph.specs.inner.nodes.Needed.{first_needs, joined_after, needed_as, needed_by, needed_by_parts, needing_as, needing_view, part_with, rules_needs, single_node}
-pub use Rattle.kt_graph.specs.inner.nodes.Numbering.{AddsNumbers, HasNumbers, IsMaking, IsNumbered, IsStoredAs, SayParts, SaysNeeds, SaysNode, SaysPart, StandFor}
+pub use Rattle.kt_graph.specs.inner.nodes.Numbering.{AddsNumbers, HasNumbers, IsMaking, IsNumbered, IsStoredAs, SayParts, SaysNeeds, SaysNode, SaysPart}
 pub use Rattle.kt_graph.specs.inner.nodes.Reached.{HasSame, IsPlaced, IsPushed, IsReachedAt, ReachesNumber, StaysPlaced, listed_in, place_held, place_marked, reached_text}
 pub use Rattle.kt_graph.specs.inner.nodes.Stored.{AreAlike, AreRowsOf, AreStored, Grew, HasOnePart, IsHeadOf, IsHeadWithin, IsLike, IsPartWithin, IsSpanWithin, PutsParts, StoredNode, StoredPart, cut, input_numbers, node_like, node_stored, nodes_stored, order_only_numbers, part_held, part_like, part_stored, parts_held, parts_stored, some_if, stored_at, stored_with}
 pub use Rattle.kt_graph.specs.inner.search.Ends.{AreAllNoted, AreNoted, HasAll, IsFixedEnd, IsNoted, KeepsNoted, NotesAll, NotesEnd, candidate_numbered, candidates_numbered, numbers_at}
 pub use Rattle.kt_graph.specs.nodes.Node.{bare_part, chosen_rule, double_node, explicit_node, implicit_node, kind_without, needs_after, node_by, node_with, other_rules, part_of, plain_node, searched, used_rule}
 unfoldable pub use Rattle.kt_graph.specs.nodes.Node.{inputs_of, joined_needs, node_of, order_only_of, suffix_stem}
-pub use Rattle.kt_graph.specs.nodes.Views.{NodeTable, instance_at, instance_view, name_at, names_at, node_at, node_numbered, node_view, nodes_view, part_view}
+pub use Rattle.kt_graph.specs.nodes.Views.{NodeTable, instance_at, instance_view, node_at, node_numbered, node_view, nodes_view, part_view}
 pub use Rattle.kt_graph.specs.search.Candidates.{are_short, by_size, candidate_by, candidate_with, drops_any, has_slash, left_out, matched_part, needed_name, nonempty, shorter, shortest, size_of, spelled_out, unless_long, without_any}
 unfoldable pub use Rattle.kt_graph.specs.search.Candidates.{candidate_of, candidates_for, fit_of, matching_from, needed_names, stem_of}
 pub use Rattle.kt_graph.specs.search.Search.{Asking, Choosing, IsFoundByTrees, Searching, asked_among, asked_by, asked_eq, asked_for, asked_inside, chain_limit, chosen_of, is_begun, is_inferred, is_met, is_used, open_candidates, unknown_needs}
 unfoldable pub use Rattle.kt_graph.specs.search.Search.{HasTree, asking, fitting, with_rule}
 pub use Rattle.kt_graph.specs.search.Views.{AreWithin, IsFitWithin, candidate_at, candidate_view, candidates_view, choice_view, found_view, held_by_size, held_without_any, question_view, stays}
+pub use Rattle.kt_list.specs.Names.{AreNumbersOf, name_at, names_at}
 pub use Rattle.kt_list.proofs.NameLemmas.{number_found}
+pub use Rattle.kt_list.proofs.NumberLemmas.{named_at, names_read, numbers_below, numbers_push, numbers_stay}
 pub use Rattle.kt_list.proofs.general.Booleans.{and_first, and_nothing, and_second, equal_when, or_first, or_second, or_swap}
 pub use Rattle.kt_list.proofs.general.Elements.{first_or_rest, from_flat_map, in_first, in_flat_map, in_rest, none_in_empty}
 pub use Rattle.kt_list.proofs.general.Places.{at_place, head_is}

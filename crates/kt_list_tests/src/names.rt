@@ -11,10 +11,12 @@ fn numbers_each_name_once(rt: HostRuntime) -> Result<(), AllocError> {
     for (name, number) in [(b"b".as_slice(), 0), (LONG, 1), (b"", 2)] {
         same(&rt, name, names.number_of(name), Some(number));
         same(&rt, name, names.get(number), Some(name));
+        same(&rt, name, names.name_at(number), name);
         same(&rt, name, names.contains(name), true);
     }
     assert_eq!(rt; names.len(), 3);
     assert_eq!(rt; names.number_of(b"ab"), None);
+    assert_eq!(rt; names.name_at(3), b"".as_slice());
     Ok(())
 }
 

@@ -14,8 +14,10 @@ fn holds_rows_of_any_size(rt: HostRuntime) -> Result<(), AllocError> {
         (4, [8, 9].as_slice()),
     ] {
         assert_eq!(rt; rows.row(place), Some(row));
+        assert_eq!(rt; rows.row_at(place), row);
     }
     assert_eq!(rt; rows.row(5), None);
+    assert_eq!(rt; rows.row_at(5), [].as_slice());
     Ok(())
 }
 

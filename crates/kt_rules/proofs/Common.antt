@@ -1,5 +1,6 @@
 -- The names that most proofs cite, passed on from one place. Declares nothing.
 pub use Rattle.kt_list.proofs.NameLemmas.{number_found}
+pub use Rattle.kt_list.proofs.NumberLemmas.{name_read, named_at, names_read, number_stays, numbers_below, numbers_push, numbers_stay}
 pub use Rattle.kt_list.proofs.general.Booleans.{and_first, and_nothing, and_second, or_nothing, or_swap}
 pub use Rattle.kt_list.proofs.general.Numbers.{less_one}
 pub use Rattle.kt_list.proofs.general.Places.{head_is, is_some-map, none_in, tail_is}
@@ -16,18 +17,19 @@ pub use Rattle.kt_rules.specs.Slots.{AreAlike, AreBefore, AreIn, ForgotFrom, Got
 unfoldable pub use Rattle.kt_rules.specs.Slots.{explicit_left, found, spots_from}
 pub use Rattle.kt_rules.specs.Suffixes.{all_needs, is_bare, is_cut_at, is_empty, is_suffix_rule, percent, suffix_cut, suffix_patterns, suffixes_after, suffixes_of}
 unfoldable pub use Rattle.kt_rules.specs.Suffixes.{start_suffixes}
-pub use Rattle.kt_rules.specs.Targets.{entry_view, line_needs, name_put, names_at, names_put, names_view, needed_view, needs_view, target_view, targets_view}
+pub use Rattle.kt_rules.specs.Targets.{entry_view, line_needs, name_put, names_put, names_view, needed_view, needs_view, target_view, targets_view}
 pub use Rattle.kt_rules.specs.declared.book.book_names.Marks.{Marks}
 pub use Rattle.kt_rules.specs.declared.book.kinds.Kinds.{Kinds}
 pub use Rattle.kt_rules.specs.declared.cutting.Cut.TheVariants.{Colon, Separator}
 pub use Rattle.kt_rules.specs.declared.entry.RecipeLine.{RecipeLine}
 pub use Rattle.kt_rules.specs.declared.fault.RuleFault.{RuleFault}
 pub use Rattle.kt_rules.specs.declared.fault.RuleFault.TheVariants.{Memory, Refused}
-pub use Rattle.kt_rules.specs.inner.Dictionary.{AreNumbersOf, Grows, IsListOf, IsNumberOf}
+pub use Rattle.kt_rules.specs.inner.Dictionary.{Grows, IsListOf, IsNumberOf}
 pub use Rattle.kt_rules.specs.inner.Held.{AreHeld, AreNeeds, AreRuleNumbers, HoldsAll, IsKnown, IsLast, needs_held, numbered_target, rule_held, rules_held, sees}
 pub use Rattle.kt_rules.specs.inner.SuffixCuts.{HaveLengths, KeepLengths, earlier, goes_on, is_bare_at, is_number, with_number}
 unfoldable pub use Rattle.kt_rules.specs.inner.SuffixCuts.{cut_after, end_of_length, first_cut, first_end, lengths_with}
 pub use Rattle.kt_list.proofs.general.Results.{on_err}
+pub use Rattle.kt_list.specs.Names.{AreNumbersOf, name_at, names_at}
 pub use Rattle.kt_text.proofs.MatchLemmas.{list_any-place}
 pub use Rattle.kt_text.proofs.PlaceLemmas.{differ_turned, drop-prefix_len, first_byte_place, occurs_found}
 pub use Rattle.kt_text.specs.Functions.{quotes_percent, with_stem}

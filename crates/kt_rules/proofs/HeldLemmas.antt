@@ -1,7 +1,7 @@
 -- Rules whose names are held as numbers.
 use Rattle.std.proofs.Common.{rules, ◌≡◌, ℕ, zero, suc, ◌+◌, min, Bool, true, false, if◌then◌else◌, List, [], ◌∷◌, ◌++◌, length, take, get_or, slice_get, Option, Some, None, is_some, option_map, unwrap_or, refl, sym, ap, ◌∙◌, subst, arith, length-append}
-use Rattle.kt_rules.proofs.Common.{All, length-take, All-cons, All-head, All-nil, All-push, All-tail, All-take, All-weaker, Text, Kinds, Kind, Needs, RecipeLine, Rule, rule_by, is_double, is_group, AreHeld, AreNeeds, AreRuleNumbers, Grows, IsKnown, IsLast, needs_held, rule_held, rules_held, sees}
-use Rattle.kt_rules.proofs.DictionaryLemmas.{list_stays, number_named_if, number_stays_if, numbers_named}
+use Rattle.kt_rules.proofs.Common.{names_read, All, length-take, All-cons, All-head, All-nil, All-push, All-tail, All-take, All-weaker, Text, Kinds, Kind, Needs, RecipeLine, Rule, rule_by, is_double, is_group, AreHeld, AreNeeds, AreRuleNumbers, Grows, IsKnown, IsLast, needs_held, rule_held, rules_held, sees}
+use Rattle.kt_rules.proofs.DictionaryLemmas.{list_stays, number_named_if, number_stays_if}
 use Rattle.kt_rules.specs.declared.book.row.NeedsNumbers.{NeedsNumbers}
 use Rattle.kt_rules.specs.declared.book.row.Row.{Row}
 use Rattle.kt_rules.specs.declared.book.row.RuleNumbers.{RuleNumbers}
@@ -11,14 +11,14 @@ use Rattle.kt_rules.specs.declared.entry.Kind.TheVariants.{SingleColon, DoubleCo
 -- ---- a rule by its numbers
 
 needs_named : (d : List Text × List (List ℕ)) (needs : Needs) (numbers : NeedsNumbers) → AreNeeds d needs numbers → needs_held d numbers ≡ needs
-needs_named d needs numbers are = grind (arith, numbers_named, get_or)
+needs_named d needs numbers are = grind (arith, names_read, get_or)
 
 -- the rule that has these names
 pub rule_named : (d : List Text × List (List ℕ)) (lines : List RecipeLine) (row : Row) (targets : List Text) (pattern : Option Text) (needs : Needs)
     → AreRuleNumbers d targets pattern needs row.numbers
     → rule_held d lines row ≡ rule_by row.kind targets pattern needs (if row.has_recipe then Some lines else None) row.place
 rule_named d lines row targets pattern needs are =
-    let front = numbers_named d.0 (get_or d.1 row.numbers.targets []) targets are.of_targets.numbers in
+    let front = names_read d.0 (get_or d.1 row.numbers.targets []) targets are.of_targets.numbers in
     let between = number_named_if d.0 row.numbers.pattern pattern are.of_pattern in
     let end = needs_named d needs row.numbers.needs are.of_needs in
     λ j. rule_by row.kind (front j) (between j) (end j) (if row.has_recipe then Some lines else None) row.place

@@ -1,7 +1,6 @@
 -- The names of rules are among those that are held.
 use Rattle.std.proofs.Common.{◌≡◌, ℕ, ◌<◌, List, [], ◌∷◌, length, map, get_or, Option, Some, None, refl, ap, sym, subst}
-use Rattle.kt_rules.proofs.Common.{All, Contains, flat_map, All-append, All-head, All-map, All-nil, All-tail, All-weaker, Contains-get_or, Text, Kinds, Needs, RecipeLine, Rule, shared_needs, target_of, all_needs, AreNumbersOf, AreRuleNumbers, IsKnown, rule_held, rules_held}
-use Rattle.kt_rules.proofs.DictionaryLemmas.{numbers_below, numbers_named}
+use Rattle.kt_rules.proofs.Common.{All, Contains, flat_map, All-append, All-head, All-map, All-nil, All-tail, All-weaker, Contains-get_or, Text, Kinds, Needs, RecipeLine, Rule, shared_needs, target_of, all_needs, AreNumbersOf, AreRuleNumbers, name_at, names_read, numbers_below, unwrap_or-slice_get, IsKnown, rule_held, rules_held}
 use Rattle.kt_rules.proofs.HeldLemmas.{rule_named}
 use Rattle.kt_rules.specs.Known.{names_in}
 use Rattle.kt_rules.specs.declared.book.row.Row.{Row}
@@ -9,9 +8,10 @@ use Rattle.kt_rules.specs.declared.book.row.Row.{Row}
 -- names with numbers
 numbered_among : (names : List Text) (numbers : List ℕ) (list : List Text) → AreNumbersOf names numbers list → All (Contains names) list
 numbered_among names numbers list are =
-    subst (All (Contains names)) (numbers_named names numbers list are)
-    (All-map (Contains names) (λ number. get_or names number []) numbers
-    (All-weaker (λ number. number < length names) (λ number. Contains names (get_or names number [])) (λ number within. Contains-get_or names number [] within)
+    subst (All (Contains names)) (names_read names numbers list are)
+    (All-map (Contains names) (name_at names) numbers
+    (All-weaker (λ number. number < length names) (λ number. Contains names (name_at names number))
+    (λ number within. subst (Contains names) (sym (unwrap_or-slice_get names number [])) (Contains-get_or names number [] within))
     numbers (numbers_below names numbers list are)))
 
 -- targets have the names of their line

@@ -1,7 +1,8 @@
 -- Targets and prerequisites of the code as those of the definitions (kati's own).
-use Rattle.std.specs.Prelude.{ℕ, List, [], Option, Some, None, get_or, map, option_map}
+use Rattle.std.specs.Prelude.{List, Option, Some, None, map, option_map}
 use Rattle.std.specs.Borrow.{Bor}
 use Rattle.kt_rules.specs.Prelude.{Text, BookRule, Needs, Target, Rule, rule_by, stemmed_names, target_of, without_dots}
+use Rattle.kt_list.specs.Names.{names_at}
 use Rattle.kt_text.specs.Functions.{with_stem}
 use Rattle.kt_rules.specs.declared.listed.Listed.{Listed}
 use Rattle.kt_rules.specs.declared.listed.Listed.TheVariants.{ByNumber, Own}
@@ -11,10 +12,6 @@ use Rattle.kt_rules.specs.declared.needs.NeededName.{NeededName}
 use Rattle.kt_rules.specs.declared.needs.NeededNames.{NeededNames}
 use Rattle.kt_rules.specs.declared.target.TargetView.{TargetView}
 use Rattle.kt_rules.specs.declared.target.Targets.{Targets}
-
--- the names with these numbers
-abbrev pub names_at : List Text → List ℕ → List Text
-names_at names numbers = map (λ number. get_or names number []) numbers
 
 -- names as they are held
 abbrev pub listed_view : Listed → List Text

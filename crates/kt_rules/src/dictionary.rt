@@ -2,10 +2,10 @@
 //! Fast: a name is held once and told by its number from then on, and so is a list of names. Spares a hash, a copy and
 //! a comparison at each further place, and the numbers of a list that several rules have.
 ghost use Rattle.std.specs.Prelude.{◌≡◌, [], Some, get_or, length, option_map, slice_get, IfOk, IsTrue, OnOk};
-ghost use Rattle.kt_list.specs.Names.{AreBelow, place_of};
+ghost use Rattle.kt_list.specs.Names.{AreBelow, AreNumbersOf, name_at, place_of};
 ghost use Rattle.kt_list.specs.Prefixes.{HasMore};
 ghost use Rattle.kt_rules.specs.Targets.{text_in};
-ghost use Rattle.kt_rules.specs.inner.Dictionary.{AreNumbersOf, Grows, IsListOf};
+ghost use Rattle.kt_rules.specs.inner.Dictionary.{Grows, IsListOf};
 
 use crate::entry::Name;
 use kt_list::{Lists, Names, narrow};
@@ -56,14 +56,14 @@ impl Dictionary {
 
     /// The name with a number, or nothing.
     pub(crate) fn name(&self, number: u32) -> &[u8]
-        ensures { result.now ≡ get_or self.now.0 number [] }
+        ensures { result.now ≡ name_at self.now.0 number }
     {
-        name_at(&self.names, number as usize)
+        self.names.name_at(number as usize)
     }
 
     /// The name with a number, if there is a number.
     pub(crate) fn name_if(&self, number: Option<u32>) -> Option<&[u8]>
-        ensures { text_in result ≡ option_map (λ number. get_or self.now.0 number []) number }
+        ensures { text_in result ≡ option_map (name_at self.now.0) number }
     {
         match number {
             Some(number) => Some(self.name(number)),
@@ -109,16 +109,6 @@ impl Dictionary {
         number_names(&mut self.names, &mut self.numbers, list)?;
         let number = self.lists.add(self.numbers.as_slice())?;
         Ok(number)
-    }
-}
-
-/// The name with the given number, or nothing.
-pub(crate) fn name_at(names: &Names, number: usize) -> &[u8]
-    ensures { result.now ≡ get_or names.now number [] }
-{
-    match names.get(number) {
-        Some(name) => name,
-        None => b"",
     }
 }
 

@@ -2,9 +2,9 @@
 ghost use Rattle.std.specs.Prelude.{◌≡◌, ◌∷◌, [], MatchOption, length, option_map, slice_get};
 ghost use Rattle.kt_rules.specs.Entry.{no_needs};
 ghost use Rattle.kt_rules.specs.Suffixes.{is_empty};
-ghost use Rattle.kt_rules.specs.Targets.{listed_needs, listed_view, names_at};
+ghost use Rattle.kt_list.specs.Names.{names_at};
+ghost use Rattle.kt_rules.specs.Targets.{listed_needs, listed_view};
 
-use crate::dictionary::name_at;
 use crate::entry::{Name, Needs};
 use kt_list::Names;
 
@@ -97,7 +97,7 @@ fn first_numbered<'a>(list: Numbered<'a>) -> Option<(ListedName<'a>, Listed<'a>)
         (λ cut. names_at list.entry.names.now list.entry.numbers.now ≡ cut.0.name.now ∷ listed_view cut.1) }
 {
     let (number, numbers) = list.numbers.split_first()?;
-    let name = name_at(list.names, *number as usize);
+    let name = list.names.name_at(*number as usize);
     let number = Some(*number as usize);
     let names = list.names;
     Some((
@@ -112,7 +112,7 @@ impl<'a> Numbered<'a> {
             ≡ slice_get (names_at self.entry.names.now self.entry.numbers.now) place }
     {
         let number = self.numbers.get(place)?;
-        Some(name_at(self.names, *number as usize))
+        Some(self.names.name_at(*number as usize))
     }
 }
 

@@ -1,5 +1,6 @@
 -- The code's own types of nodes as those of the definitions (kati's own).
 use Rattle.std.specs.Prelude.{ℕ, List, [], map, filter_map, Option, option_map, unwrap_or, slice_get}
+use Rattle.kt_list.specs.Names.{name_at, names_at}
 use Rattle.kt_graph.specs.Prelude.{option_and_then, Text, RecipeLine, Instance, Node, Part, of_group, of_pattern}
 use Rattle.kt_graph.specs.declared.nodes.node.Instance.{Instance as Held}
 use Rattle.kt_graph.specs.declared.nodes.node.Instance.TheVariants as held
@@ -11,13 +12,6 @@ pub record NodeTable : Type 0 where
   pub names : List Text
   pub instances : List Held
   pub nodes : List StoredNode
-
--- the name with a number
-abbrev pub name_at : List Text → ℕ → Text
-name_at names number = unwrap_or (slice_get names number) []
-
-abbrev pub names_at : List Text → List ℕ → List Text
-names_at names numbers = map (name_at names) numbers
 
 abbrev pub instance_view : Held → Instance
 instance_view (held.Group first) = of_group first.items

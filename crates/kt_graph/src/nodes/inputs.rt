@@ -6,7 +6,6 @@ ghost use Rattle.std.specs.List.{IsDistinct};
 ghost use Rattle.kt_graph.specs.inner.nodes.Inputs.{HasOwnInputs, differ, inputs_held, numbers_without, others_held};
 ghost use Rattle.kt_graph.specs.inner.nodes.Inputs.{rise, rise_after, with_number};
 
-use crate::nodes::rows::row_at;
 use crate::nodes::stored::HeldPart;
 use indexmap::IndexSet;
 use kt_list::Rows;
@@ -24,11 +23,11 @@ pub(crate) fn has_own_inputs(
 ) -> Result<bool, AllocError>
     ensures { IfOk result (λ own. own ≡ true → HasOwnInputs rows.now part.now) }
 {
-    let order_only = row_at(rows, part.needs as usize + 1);
+    let order_only = rows.row_at(part.needs as usize + 1);
     if !order_only.is_empty() {
         return Ok(false);
     }
-    are_distinct(alloc, row_at(rows, part.needs as usize))
+    are_distinct(alloc, rows.row_at(part.needs as usize))
 }
 
 /// The prerequisites of parts, each once.
@@ -41,7 +40,7 @@ pub(crate) fn input_set(
 {
     let mut inputs = IndexSet::new(alloc);
     for part in parts {
-        add_all(&mut inputs, row_at(rows, part.needs as usize))?;
+        add_all(&mut inputs, rows.row_at(part.needs as usize))?;
     }
     Ok(inputs)
 }
@@ -58,7 +57,7 @@ pub(crate) fn order_only_set(
 {
     let mut others = IndexSet::new(alloc);
     for part in parts {
-        add_others(&mut others, inputs, row_at(rows, part.needs as usize + 1))?;
+        add_others(&mut others, inputs, rows.row_at(part.needs as usize + 1))?;
     }
     Ok(others)
 }

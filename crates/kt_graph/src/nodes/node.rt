@@ -3,7 +3,8 @@
 ghost use Rattle.std.specs.Prelude.{◌≡◌, length, not, option_map, slice_get};
 ghost use Rattle.std.specs.Iterator.{YieldsFirstRef, item_count};
 ghost use Rattle.kt_graph.specs.nodes.Node.{inputs_of, is_leaf, order_only_of};
-ghost use Rattle.kt_graph.specs.nodes.Views.{instance_view, name_at, part_lines, part_needed, part_order_only};
+ghost use Rattle.kt_list.specs.Names.{name_at};
+ghost use Rattle.kt_graph.specs.nodes.Views.{instance_view, part_lines, part_needed, part_order_only};
 ghost use Rattle.kt_graph.specs.nodes.Views.{part_stem};
 
 use crate::nodes::node_table::NodeTable;
@@ -172,13 +173,13 @@ impl<'g> Model for Inputs<'g> {
 
     ghost Value = { List (List ℕ) };
 
-    ghost use Rattle.kt_graph.specs.nodes.Views.{names_at};
+    ghost use Rattle.kt_list.specs.Names.{names_at};
 
     ghost view = { λ inputs. names_at inputs.names.now inputs.numbers.now };
 }
 
 impl<'g> Inputs<'g> {
-    ghost use Rattle.kt_graph.specs.nodes.Views.{names_at};
+    ghost use Rattle.kt_list.specs.Names.{names_at};
 
     fn of(names: &'g NameNumbers<'g>, numbers: &'g [u32]) -> Inputs<'g>
         ensures { result ≡ names_at names.now numbers.now }

@@ -2,7 +2,7 @@
 ghost use Rattle.std.specs.Prelude.{◌≡◌, ◌^◌, ◌+◌, ◌<◌, ◌++◌, [], Some, bytes_eq, fold, is_some};
 ghost use Rattle.std.specs.Prelude.{length, map, option_map, slice_get, IfOk, OnOk};
 ghost use Rattle.std.specs.List.{IsDistinct};
-ghost use Rattle.kt_list.specs.Names.{is_among, place_of};
+ghost use Rattle.kt_list.specs.Names.{is_among, name_at, place_of};
 ghost use Rattle.kt_rules.specs.Names.{with_name};
 ghost use Rattle.kt_rules.specs.Slots.{rule_view};
 ghost use Rattle.kt_rules.specs.Suffixes.{all_needs};
@@ -11,13 +11,12 @@ ghost use Rattle.kt_graph.specs.inner.nodes.Needed.{first_needs, needing_as, nee
 ghost use Rattle.kt_graph.specs.inner.nodes.Numbering.{AddsNumbers, SaysNeeds};
 ghost use Rattle.kt_graph.specs.inner.nodes.Reached.{reached_text};
 ghost use Rattle.kt_list.specs.Prefixes.{HasMore};
-ghost use Rattle.kt_graph.specs.nodes.Views.{name_at};
 
 use crate::nodes::needing::{Needing, Sort, needed_as};
 use crate::nodes::part::Numbered;
 use crate::nodes::reached::Reached;
 use crate::nodes::reached_name::ReachedName;
-use crate::nodes::tables::{Tables, name_at};
+use crate::nodes::tables::Tables;
 use kt_list::{Names, narrow};
 use kt_rules::{Name, NeededName, NeededNames, NeedsView, TargetRule};
 use std::alloc::{AllocError, Global};
@@ -42,7 +41,7 @@ impl<'a> Model for NameNumbers<'a> {
     ghost Value = { List (List ℕ) };
 
     ghost use Rattle.kt_graph.specs.inner.nodes.Reached.{IsPlaced};
-    ghost use Rattle.kt_graph.specs.nodes.Views.{names_at};
+    ghost use Rattle.kt_list.specs.Names.{names_at};
 
     ghost view = { λ s. names_at (s.tables ++ s.others) s.reached.numbers.items };
 
@@ -260,7 +259,7 @@ fn reached_name<'a>(
     if number < tables.len() {
         Ok(ReachedName::InTables(tables.name(number), number))
     } else {
-        let other = name_at(others, number - tables.len());
+        let other = others.name_at(number - tables.len());
         Ok(ReachedName::Other(Name::copied(alloc, other)?))
     }
 }
@@ -272,7 +271,7 @@ fn name_among<'n>(tables: &'n Tables<'_>, others: &'n Names, number: usize) -> &
     if number < tables.len() {
         tables.name(number)
     } else {
-        name_at(others, number - tables.len())
+        others.name_at(number - tables.len())
     }
 }
 

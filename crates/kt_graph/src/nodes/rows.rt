@@ -1,23 +1,12 @@
 //! The lists of numbers of all nodes, each a row.
 //! Fast: the lists of all nodes are rows of one vector, and a part takes those of the part before it where they are
 //! equal. Spares an allocation for each list, and equal lists of targets that stand together.
-ghost use Rattle.std.specs.Prelude.{◌≡◌, [], IfOk, Some, get_or, slice_get, true};
+ghost use Rattle.std.specs.Prelude.{◌≡◌, IfOk, Some, slice_get, true};
 ghost use Rattle.kt_graph.specs.inner.nodes.Stored.{AreRowsOf};
 ghost use Rattle.kt_list.specs.Prefixes.{HasMore};
 
 use kt_list::{Rows, narrow};
 use std::alloc::AllocError;
-
-/// The numbers in a row.
-#[inline(always)]
-pub(crate) fn row_at(rows: &Rows<u32>, place: usize) -> &[u32]
-    ensures { result.now ≡ get_or rows.now place [] }
-{
-    match rows.row(place) {
-        Some(row) => row,
-        None => &[],
-    }
-}
 
 /// Whether these are the rows from a place on.
 pub(crate) fn are_rows(rows: &Rows<u32>, place: u32, first: &[u32], second: &[u32]) -> bool

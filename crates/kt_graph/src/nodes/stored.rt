@@ -13,7 +13,7 @@ ghost use Rattle.kt_graph.specs.inner.nodes.Stored.{parts_held, parts_stored, so
 use crate::nodes::inputs::{has_own_inputs, input_set, order_only_set};
 use crate::nodes::node::NodeKind;
 use crate::nodes::part::{Maker, Numbered, NumberedPart, Part};
-use crate::nodes::rows::{are_rows, put_rows, row_at};
+use crate::nodes::rows::{are_rows, put_rows};
 use crate::nodes::stem::Stem;
 use kt_list::{Rows, narrow};
 use kt_rules::RecipeLine;
@@ -204,8 +204,8 @@ impl<'a> StoredNodes<'a> {
         Some(SeenPart {
             recipe: part.recipe(),
             stem: &part.stem,
-            prerequisites: row_at(&self.rows, part.needs as usize),
-            order_only: row_at(&self.rows, part.needs as usize + 1),
+            prerequisites: self.rows.row_at(part.needs as usize),
+            order_only: self.rows.row_at(part.needs as usize + 1),
         })
     }
 
@@ -214,7 +214,7 @@ impl<'a> StoredNodes<'a> {
         ensures { result.now ≡ (stored_at self.now number).inputs }
     {
         match self.heads.get(number) {
-            Some(head) => row_at(&self.rows, head.inputs as usize),
+            Some(head) => self.rows.row_at(head.inputs as usize),
             None => &[],
         }
     }
@@ -224,7 +224,7 @@ impl<'a> StoredNodes<'a> {
         ensures { result.now ≡ (stored_at self.now number).order_only }
     {
         match self.heads.get(number) {
-            Some(head) => row_at(&self.rows, head.inputs as usize + 1),
+            Some(head) => self.rows.row_at(head.inputs as usize + 1),
             None => &[],
         }
     }

@@ -2,10 +2,9 @@
 //! Fast: names of the book and of the list of files are read where they are held. Spares a copy of each, and a place
 //! in a second table.
 ghost use Rattle.std.specs.Prelude.{◌≡◌, ◌^◌, ◌+◌, ◌<◌, Some, length, option_map, IfOk, IfSome};
-ghost use Rattle.kt_list.specs.Names.{place_of};
+ghost use Rattle.kt_list.specs.Names.{name_at, place_of};
 ghost use Rattle.kt_rules.specs.Targets.{needed_view};
 ghost use Rattle.kt_graph.specs.inner.nodes.Reached.{listed_in};
-ghost use Rattle.kt_graph.specs.nodes.Views.{name_at};
 
 use kt_list::{Names, narrow};
 use kt_rules::NeededName;
@@ -65,7 +64,7 @@ impl<'a> Tables<'a> {
         ensures { result.now ≡ name_at self.now number }
     {
         if number < self.book.len() {
-            name_at(self.book, number)
+            self.book.name_at(number)
         } else {
             name_listed(self.list, number - self.book.len())
         }
@@ -116,16 +115,6 @@ fn name_listed<'a>(list: Option<&'a Names>, place: usize) -> &'a [u8]
 {
     match list {
         None => b"",
-        Some(list) => name_at(list, place),
-    }
-}
-
-/// The name with a number, or nothing.
-pub(crate) fn name_at(names: &Names, number: usize) -> &[u8]
-    ensures { result.now ≡ name_at names.now number }
-{
-    match names.get(number) {
-        Some(name) => name,
-        None => b"",
+        Some(list) => list.name_at(place),
     }
 }

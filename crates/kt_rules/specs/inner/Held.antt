@@ -10,7 +10,8 @@ use Rattle.kt_rules.specs.declared.book.row.RuleNumbers.{RuleNumbers}
 use Rattle.kt_rules.specs.declared.book.rules.LastNeeds.{LastNeeds}
 use Rattle.kt_rules.specs.declared.entry.RecipeLine.{RecipeLine}
 use Rattle.kt_rules.specs.Slots.{IsKept}
-use Rattle.kt_rules.specs.Targets.{line_needs, names_at, text_in}
+use Rattle.kt_list.specs.Names.{name_at, names_at}
+use Rattle.kt_rules.specs.Targets.{line_needs, text_in}
 use Rattle.kt_rules.specs.inner.Dictionary.{IsListOf, IsNumberOf}
 
 -- the prerequisites with these numbers
@@ -24,7 +25,7 @@ needs_held dictionary numbers = record {
 abbrev pub rule_held : List Text × List (List ℕ) → List RecipeLine → Row → Rule
 rule_held dictionary lines row =
     rule_by row.kind (names_at dictionary.0 (get_or dictionary.1 row.numbers.targets []))
-    (option_map (λ number. get_or dictionary.0 number []) row.numbers.pattern) (needs_held dictionary row.numbers.needs)
+    (option_map (name_at dictionary.0) row.numbers.pattern) (needs_held dictionary row.numbers.needs)
     (if row.has_recipe then Some lines else None) row.place
 
 -- the rules of rows: each has its lines
@@ -76,7 +77,7 @@ pub record AreHeld (dictionary : List Text × List (List ℕ)) (recipes : List (
 -- the target of a rule whose name has this number
 abbrev pub numbered_target : BookRule → ℕ → Target
 numbered_target rule number =
-    target_of (text_in rule.pattern) (line_needs rule) (get_or rule.names.now number [])
+    target_of (text_in rule.pattern) (line_needs rule) (name_at rule.names.now number)
 
 -- what a book keeps follows from its rules, and no list is at a number without a name
 pub record HoldsAll (rules : List Text × List Rule) (targets recipes : List (List Spot))

@@ -17,7 +17,6 @@ use super::spot::Spot;
 use super::spots::Spots;
 use super::suffixes::Suffixes;
 use super::target_rule::is_made;
-use crate::dictionary::name_at;
 use kt_list::Names;
 use std::alloc::{AllocError, Global};
 
@@ -156,7 +155,7 @@ fn note_target(
 {
     // The contract of `as_slice` makes known that the names differ.
     let _names = rule.names.as_slice();
-    if !is_made(rule.kind(), name_at(rule.names, number)) {
+    if !is_made(rule.kind(), rule.names.name_at(number)) {
         return Ok(());
     }
     spots.note(number, spot, rule.recipe().is_some())

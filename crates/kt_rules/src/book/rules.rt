@@ -3,7 +3,7 @@
 //! Spares a look-up for each name.
 //! Fast: where reading ends, the book lets go of the last such text. Spares 50 bytes for each name of an `all` that
 //! names everything.
-ghost use Rattle.std.specs.Prelude.{◌≡◌, ◌++◌, ◌∷◌, [], ℕ, All, List, Some, false, flat_map, get_or, length, take};
+ghost use Rattle.std.specs.Prelude.{◌≡◌, ◌++◌, ◌∷◌, [], ℕ, All, List, Some, false, flat_map, length, take};
 ghost use Rattle.std.specs.Prelude.{None, option_map, slice_get, unwrap_or, if◌then◌else◌, IfOk, IfSome, IsTrue, OnErr, OnOk};
 ghost use Rattle.std.specs.List.{Contains};
 ghost use Rattle.kt_list.specs.Names.{AreBelow, place_of};
@@ -134,7 +134,7 @@ impl Rules {
         ensures orders_below { IfSome result (λ rule. AreBelow (length self.now.0) rule.order_only.now) }
     {
         let row = held_at(self.rows.as_slice(), place)?;
-        Some(rule_of(&self.dictionary, row_at(&self.lines, place), row))
+        Some(rule_of(&self.dictionary, self.lines.row_at(place), row))
     }
 
     /// Whether the rules at two places say the same of all their targets: they have the same lists of prerequisites,
@@ -251,16 +251,6 @@ fn have_same_needs(row: &Row, other: &Row) -> bool
         && row.numbers.needs.order_only == other.numbers.needs.order_only
         && row.numbers.pattern.is_none()
         && other.numbers.pattern.is_none()
-}
-
-// The row at a place, or none of its items.
-fn row_at<T>(rows: &Rows<T>, place: usize) -> &[T]
-    ensures { result.now ≡ get_or rows.now place [] }
-{
-    match rows.row(place) {
-        Some(row) => row,
-        None => &[],
-    }
 }
 
 // The numbers of the last prerequisites that several entries hold, where these have the same text.

@@ -1,6 +1,6 @@
 -- One more name gets its node, from the goals on to the last of all.
 use Rattle.std.proofs.Common.{rules, ◌≡◌, ℕ, suc, zero, Bool, ◌-◌, ◌<◌, ◌≤◌, if◌then◌else◌, List, [], ◌∷◌, ◌++◌, length, map, fold, take, drop, get_or, Option, Some, None, slice_get, unwrap_or, Contains, All, refl, sym, ap, subst, ◌∙◌, arith, ◌⊎◌, inl, inr, ⊎_elim}
-use Rattle.kt_graph.proofs.Common.{option_map, length-append, length_push, take-append-drop, All-nil, All-cons, All-weaker, All-contains_itself, none-some, slice_get_within, slice_get-get_or, get_or_from_slice_get, Text, Target, explicit_rules, Rule, with_name, GraphBuilder, Instance as Held, NodeKind, StoredPart, StoredNode, Candidate, needed_by, Node, Part, all_inputs, node_by, node_of, HasNumbers, IsMaking, IsNumbered, IsStoredAs, SaysNode, SaysPart, SayParts, StandFor, AreBelow, IsReached, AllSay, AreTold, BuildsNode, IsBegun, IsDone, IsOver, reached_text, instance_at, instance_view, name_at, names_at, part_view}
+use Rattle.kt_graph.proofs.Common.{option_map, length-append, length_push, take-append-drop, All-nil, All-cons, All-weaker, All-contains_itself, none-some, slice_get_within, slice_get-get_or, get_or_from_slice_get, Text, Target, explicit_rules, Rule, with_name, GraphBuilder, Instance as Held, NodeKind, StoredPart, StoredNode, Candidate, needed_by, Node, Part, all_inputs, node_by, node_of, HasNumbers, IsMaking, IsNumbered, IsStoredAs, SaysNode, SaysPart, SayParts, AreNumbersOf, named_at, names_read, numbers_below, AreBelow, IsReached, AllSay, AreTold, BuildsNode, IsBegun, IsDone, IsOver, reached_text, instance_at, instance_view, name_at, names_at, part_view}
 use Rattle.kt_rules.specs.declared.entry.RecipeLine.{RecipeLine}
 use Rattle.kt_graph.specs.declared.nodes.reached_name.ReachedName.{ReachedName}
 use Rattle.kt_graph.specs.nodes.Node.{Instance}
@@ -164,14 +164,6 @@ fewer_left names nodes more name node limit at small pushed = grind (arith, leng
 pub none_left : (found : Option ReachedName) (at : Option Text) → ((x : ReachedName) → found ≡ Some x → ⊥) → option_map reached_text found ≡ at → None ≡ at
 none_left found at h e = grind arith
 
-stand_below : (names expected : List Text) (numbers : List ℕ) → StandFor names expected numbers → AreBelow (length names) numbers
-stand_below names expected [] h = All-nil (λ number. number < length names)
-stand_below names [] (number ∷ numbers) h = cc
-stand_below names (name ∷ expected) (number ∷ numbers) h =
-    let first : slice_get names number ≡ Some name = cc in
-    let rest : StandFor names expected numbers = cc in
-    All-cons (λ n. n < length names) number numbers (slice_get_within names number name first) (stand_below names expected numbers rest)
-
 parts_numbered : (names : List Text) (name : Text) (expected : List Part) (parts : List StoredPart) → SayParts names name expected parts
     → All (λ part. IsNumbered (length names) part) parts
 parts_numbered names name [] [] h = All-nil (λ part. IsNumbered (length names) part)
@@ -180,26 +172,10 @@ parts_numbered names name (one ∷ expected) [] h = absurd h
 parts_numbered names name (one ∷ expected) (part ∷ parts) h =
     All-cons (λ p. IsNumbered (length names) p) part parts
     (record {
-      prerequisites = stand_below names one.needs.prerequisites part.prerequisites h.0.needs.prerequisites;
-      order_only = stand_below names one.needs.order_only part.order_only h.0.needs.order_only;
+      prerequisites = numbers_below names part.prerequisites one.needs.prerequisites h.0.needs.prerequisites;
+      order_only = numbers_below names part.order_only one.needs.order_only h.0.needs.order_only;
     })
     (parts_numbered names name expected parts h.1)
-
-name_read : (keys : List Text) (number : ℕ) (name : Text) → slice_get keys number ≡ Some name
-    → name_at keys number ≡ name
-name_read keys number name at = ap (λ (o : Option Text). unwrap_or o []) at
-
-names_read : (keys expected : List Text) (numbers : List ℕ) → StandFor keys expected numbers
-    → names_at keys numbers ≡ expected
-names_read keys [] [] h = refl
-names_read keys [] (number ∷ numbers) h = cc
-names_read keys (name ∷ expected) [] h = cc
-names_read keys (name ∷ expected) (number ∷ numbers) h =
-    let first : slice_get keys number ≡ Some name = cc in
-    let rest : StandFor keys expected numbers = cc in
-    let e = name_read keys number name first in
-    let es = names_read keys expected numbers rest in
-    cc
 
 abbrev part_from : Option (List RecipeLine) → Text → List Text → List Text → Part
 part_from recipe stem prerequisites order_only =
@@ -255,12 +231,6 @@ past : {A : Type 0} (xs : List A) (k : ℕ) → None ≡ slice_get xs k → leng
 past [] k e = omega arith
 past (x ∷ xs) zero e = cc
 past (x ∷ xs) (suc k) e = omega (arith, past xs k e)
-
-named_at : (keys : List Text) (number : ℕ) → number < length keys
-    → slice_get keys number ≡ Some (name_at keys number)
-named_at [] number h = absurd (omega arith)
-named_at (key ∷ keys) zero h = refl
-named_at (key ∷ keys) (suc number) h = named_at keys number (omega arith)
 
 -- nothing remains
 pub all_done : (rules : List Rule) (known goals names : List Text) (instances : List Held) (nodes : List StoredNode)

@@ -1,6 +1,6 @@
 -- The node of a target that needs what the one before does.
 use Rattle.std.proofs.Common.{rules, ◌≡◌, ℕ, zero, suc, Bool, true, false, ◌||◌, ◌-◌, List, [], ◌∷◌, ◌++◌, length, map, fold, take, Option, Some, slice_get, nat_eq, refl, sym, ap, subst, ◌∙◌, arith}
-use Rattle.kt_graph.proofs.Common.{list_any, pointwise, append-nil, fold-append, none-some, same_Some, bytes_eq-Decides, head_is, Needs, Target, explicit_rules, has_recipe, is_double, rule_needs, Rule, needs_for, is_among, with_name, all_needs, suffixes_of, Text, GraphBuilder, Explicit, AreTold, BuildsNode, IsLeafOf, IsLikeLast, LastNeeds, sole_node, part_with, IsMaking, SayParts, SaysNeeds, SaysNode, SaysPart, StandFor, HasOnePart, StoredNode, StoredPart, node_like, part_like, stored_at, Node, Part, group_of, joined_needs, needs_after, node_of, node_with, other_rules, own_part, part_of}
+use Rattle.kt_graph.proofs.Common.{list_any, pointwise, append-nil, fold-append, none-some, same_Some, bytes_eq-Decides, head_is, Needs, Target, explicit_rules, has_recipe, is_double, rule_needs, Rule, needs_for, is_among, with_name, all_needs, suffixes_of, Text, GraphBuilder, Explicit, AreTold, BuildsNode, IsLeafOf, IsLikeLast, LastNeeds, sole_node, part_with, IsMaking, SayParts, SaysNeeds, SaysNode, SaysPart, AreNumbersOf, HasOnePart, StoredNode, StoredPart, node_like, part_like, stored_at, Node, Part, group_of, joined_needs, needs_after, node_of, node_with, other_rules, own_part, part_of}
 use Rattle.std.proofs.Math.Bool.{or-true}
 use Rattle.kt_rules.specs.declared.entry.Kind.{Kind}
 use Rattle.kt_graph.specs.declared.nodes.part.Part.{Part as NewPart}
@@ -16,12 +16,12 @@ among [] number name at = absurd (none-some name at)
 among (first ∷ names) zero name at = ap (λ b. b || is_among names name) ((bytes_eq-Decides name first).1 (sym (same_Some first name at)))
 among (first ∷ names) (suc number) name at = ap (λ b. pointwise nat_eq name first || b) (among names number name at) ∙ or-true (pointwise nat_eq name first)
 
-stand_reached : (names expected : List Text) (numbers : List ℕ) → StandFor names expected numbers → fold with_name names expected ≡ names
+stand_reached : (names expected : List Text) (numbers : List ℕ) → AreNumbersOf names numbers expected → fold with_name names expected ≡ names
 stand_reached names [] numbers h = refl
 stand_reached names (name ∷ expected) [] h = cc
 stand_reached names (name ∷ expected) (number ∷ numbers) h =
     let first : slice_get names number ≡ Some name = cc in
-    let rest : StandFor names expected numbers = cc in
+    let rest : AreNumbersOf names numbers expected = cc in
     let same : with_name names name ≡ names = rw (among names number name first) refl in
     ap (λ (l : List Text). fold with_name l expected) same ∙ stand_reached names expected numbers rest
 

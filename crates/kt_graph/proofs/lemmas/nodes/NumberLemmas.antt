@@ -1,6 +1,6 @@
 -- Numbers for names: what holds of numbers stays when more names are reached.
 use Rattle.std.proofs.Common.{◌≡◌, ℕ, false, ◌+◌, ◌<◌, ◌≤◌, List, [], ◌∷◌, ◌++◌, length, map, fold, take, get_or, Some, slice_get, refl, sym, ap, subst, ◌∙◌, arith}
-use Rattle.kt_graph.proofs.Common.{flat_map, append-nil, append_assoc, map-append, take_more, flat_map-append, fold-append, Text, Needs, is_among, with_name, Part, StoredPart, AddsNumbers, StandFor, SaysNeeds, SaysPart, SayParts}
+use Rattle.kt_graph.proofs.Common.{flat_map, append-nil, append_assoc, map-append, take_more, flat_map-append, fold-append, Text, Needs, is_among, with_name, Part, StoredPart, AddsNumbers, AreNumbersOf, HasMore, numbers_push, numbers_stay, SaysNeeds, SaysPart, SayParts}
 use Rattle.kt_rules.proofs.FindLemmas.{names_grow}
 use Rattle.kt_list.proofs.OverLemmas.{slice_get-left}
 
@@ -11,31 +11,16 @@ none_among (first ∷ names) name h = absurd (omega arith)
 
 -- ---- names that grow
 
-stand_longer : (names more expected : List Text) (numbers : List ℕ) → StandFor names expected numbers → StandFor (names ++ more) expected numbers
-stand_longer names more [] [] h = refl
-stand_longer names more [] (number ∷ numbers) h = cc
-stand_longer names more (name ∷ expected) [] h = cc
-stand_longer names more (name ∷ expected) (number ∷ numbers) h =
-    let first : slice_get names number ≡ Some name = cc in
-    let rest : map (slice_get names) numbers ≡ map Some expected = cc in
-    let e = slice_get-left names more number name first in
-    let es = stand_longer names more expected numbers rest in
-    cc
-
 -- numbers keep their names when more are reached
-pub stand_kept : (names needed expected : List Text) (numbers : List ℕ) → StandFor names expected numbers
-    → StandFor (fold with_name names needed) expected numbers
-stand_kept names needed expected numbers h =
-    let grown = names_grow names needed in
-    subst (λ l. StandFor l expected numbers) (sym grown.1) (stand_longer names grown.0 expected numbers h)
+pub stand_kept : (names needed expected : List Text) (numbers : List ℕ) → AreNumbersOf names numbers expected
+    → AreNumbersOf (fold with_name names needed) numbers expected
+stand_kept names needed expected numbers h = numbers_stay names (fold with_name names needed) numbers expected (names_grow names needed) h
 
 -- one more number after others
 pub stand_more : (names new earlier : List Text) (name : Text) (numbers : List ℕ) (number : ℕ) → new ≡ with_name names name → slice_get new number ≡ Some name
-    → StandFor names earlier numbers → StandFor new (earlier ++ name ∷ []) (numbers ++ number ∷ [])
+    → AreNumbersOf names numbers earlier → AreNumbersOf new (numbers ++ number ∷ []) (earlier ++ name ∷ [])
 stand_more names new earlier name numbers number grown at h =
-    let kept : StandFor new earlier numbers = subst (λ l. StandFor l earlier numbers) (sym grown) (stand_kept names (name ∷ []) earlier numbers h) in
-    map-append (slice_get new) numbers (number ∷ []) ∙ ap (λ o. map (slice_get new) numbers ++ o ∷ []) at ∙ ap (λ l. l ++ Some name ∷ []) kept
-    ∙ sym (map-append Some earlier (name ∷ []))
+    numbers_push names new numbers earlier number name (subst (λ l. HasMore names l) (sym grown) (names_grow names (name ∷ []))) h at
 
 -- ---- parts
 
@@ -75,7 +60,7 @@ parts_more names new needed name expected parts one part grown h last = grind (a
 -- ---- steps
 
 pub adds_none : (names : List Text) (numbers : List ℕ) → AddsNumbers names numbers [] names numbers
-adds_none names numbers = record { reached = refl; say = λ earlier h. subst (λ l. StandFor names l numbers) (sym (append-nil earlier)) h }
+adds_none names numbers = record { reached = refl; say = λ earlier h. subst (λ l. AreNumbersOf names numbers l) (sym (append-nil earlier)) h }
 
 pub adds_after : (names middle new first second : List Text) (numbers some more : List ℕ) → AddsNumbers names numbers first middle some → AddsNumbers middle some second new more
     → AddsNumbers names numbers (first ++ second) new more
@@ -94,7 +79,7 @@ added_more names middle new all left rest name numbers some more number is grown
   adds_after names middle new h.0 (name ∷ []) numbers some more h.2 (record {
     reached = grown;
     say = λ earlier stand.
-        subst (λ l. StandFor new (earlier ++ name ∷ []) l) (sym pushed) (stand_more middle new earlier name some number grown put stand);
+        subst (λ l. AreNumbersOf new l (earlier ++ name ∷ [])) (sym pushed) (stand_more middle new earlier name some number grown put stand);
   }),
 )
 
@@ -116,7 +101,7 @@ taken_more {A} f g xs i x h at =
 pub both_said : (names middle new first second : List Text) (none also some numbers : List ℕ) → none ≡ [] → also ≡ [] → AddsNumbers names none first middle some
     → AddsNumbers middle also second new numbers → SaysNeeds new (record { prerequisites = first; order_only = second }) some numbers
 both_said names middle new first second none also some numbers empty empty_too one other = record {
-  prerequisites = subst (λ l. StandFor l first some) (sym other.reached) (stand_kept middle second first some (one.say [] (ap (map (slice_get names)) empty)));
+  prerequisites = subst (λ l. AreNumbersOf l some first) (sym other.reached) (stand_kept middle second first some (one.say [] (ap (map (slice_get names)) empty)));
   order_only = other.say [] (ap (map (slice_get middle)) empty_too);
 }
 

@@ -6,7 +6,7 @@ use Rattle.std.specs.Map.{lookup}
 use Rattle.kt_graph.specs.declared.faults.files.Files.{Files}
 use Rattle.kt_graph.specs.nodes.Groups.{made_nodes}
 use Rattle.kt_graph.specs.faults.Paths.{above_name, canon_of, is_idle}
-use Rattle.kt_graph.specs.nodes.Views.{name_at, names_at}
+use Rattle.kt_list.specs.Names.{name_at, names_at}
 
 -- the number of names that are names of a file
 abbrev pub count_of : List Text → Text → ℕ

@@ -4,7 +4,7 @@ use Rattle.kt_graph.specs.Prelude.{range_with_len, nat_cmp, ordering_then, slice
 use Rattle.std.specs.declared.cmp.Ordering.{Ordering}
 use Rattle.kt_text.specs.Sorted.{front_number}
 use Rattle.kt_graph.specs.declared.nodes.byte_order.Front.{Front}
-use Rattle.kt_graph.specs.nodes.Views.{name_at}
+use Rattle.kt_list.specs.Names.{name_at}
 
 -- the order by the first bytes, and of names that begin alike by all of them
 abbrev pub front_cmp : List Text → Front → Front → Ordering

@@ -10,7 +10,7 @@ use Rattle.kt_graph.specs.declared.nodes.graph_builder.GraphBuilder.{GraphBuilde
 use Rattle.kt_graph.specs.inner.nodes.Needed.{needed_by}
 use Rattle.kt_graph.specs.inner.nodes.Numbering.{IsStoredAs, SaysNeeds, SaysNode}
 use Rattle.kt_graph.specs.Reach.{IsReached}
-use Rattle.kt_graph.specs.nodes.Views.{name_at}
+use Rattle.kt_list.specs.Names.{name_at}
 use Rattle.kt_graph.specs.declared.nodes.building.Used.{Used}
 
 -- the rules before the last rule with a recipe, and those after it

@@ -4,7 +4,8 @@ use Rattle.kt_graph.specs.Prelude.{AllZip, AreBelow, Text, Needs, with_name, Ins
 use Rattle.kt_graph.specs.declared.nodes.node.Instance.{Instance as Held}
 use Rattle.kt_graph.specs.inner.nodes.Stems.{stem_in}
 use Rattle.kt_graph.specs.inner.nodes.Stored.{StoredNode, StoredPart, input_numbers, order_only_numbers}
-use Rattle.kt_graph.specs.nodes.Views.{instance_at, name_at, node_view}
+use Rattle.kt_graph.specs.nodes.Views.{instance_at, node_view}
+use Rattle.kt_list.specs.Names.{AreNumbersOf, name_at}
 
 -- the prerequisites of a part are numbers of names
 pub record IsNumbered (count : ℕ) (part : StoredPart) : Type 0 where
@@ -26,18 +27,14 @@ pub record IsStoredAs (names : List Text) (instances : List Held) (name : Text) 
 
 -- ---- the same with texts for names
 
--- the numbers are those of the names
-abbrev pub StandFor : List Text → List Text → List ℕ → Type 0
-StandFor names expected numbers = map (slice_get names) numbers ≡ map Some expected
-
 -- the numbers of more names were added, and the names are reached
 pub record AddsNumbers (names : List Text) (numbers : List ℕ) (added new : List Text) (more : List ℕ) : Type 0 where
   pub reached : new ≡ fold with_name names added
-  pub say : (earlier : List Text) → StandFor names earlier numbers → StandFor new (earlier ++ added) more
+  pub say : (earlier : List Text) → AreNumbersOf names numbers earlier → AreNumbersOf new more (earlier ++ added)
 
 pub record SaysNeeds (names : List Text) (expected : Needs) (needed others : List ℕ) : Type 0 where
-  pub prerequisites : StandFor names expected.prerequisites needed
-  pub order_only : StandFor names expected.order_only others
+  pub prerequisites : AreNumbersOf names needed expected.prerequisites
+  pub order_only : AreNumbersOf names others expected.order_only
 
 -- the stored part is the expected one in the node of a name
 pub record SaysPart (names : List Text) (name : Text) (expected : Part) (part : StoredPart) : Type 0 where

@@ -5,7 +5,7 @@ use Rattle.std.specs.Borrow.{Bor}
 use Rattle.kt_graph.specs.declared.nodes.reached.Reached.{Reached}
 use Rattle.kt_graph.specs.declared.nodes.reached_name.ReachedName.{ReachedName}
 use Rattle.kt_graph.specs.declared.nodes.reached_name.ReachedName.TheVariants.{InTables, Other}
-use Rattle.kt_graph.specs.nodes.Views.{names_at}
+use Rattle.kt_list.specs.Names.{names_at}
 
 -- the bytes of a name
 abbrev pub reached_text : ReachedName → Text

@@ -1,5 +1,5 @@
-use Rattle.std.proofs.Common.{arith, ◌≡◌, ◌∙◌, ◌&&◌, ◌++◌, ◌∷◌, if◌then◌else◌, ℕ, nat_eq, List, [], Some, Bool, true, not, is_some, slice_get, get_or, sym, ap}
-use Rattle.kt_rules.proofs.Common.{Bor, slice_get-get_or, on_err_weaker, on_ok_weaker, is_some-map, Text, Kind, RecipeLine, is_made, is_pattern, is_special, entry_view, numbered_target}
+use Rattle.std.proofs.Common.{arith, ◌≡◌, ◌∙◌, ◌&&◌, ◌++◌, ◌∷◌, if◌then◌else◌, ℕ, nat_eq, List, [], Some, Bool, true, not, is_some, slice_get, sym, ap}
+use Rattle.kt_rules.proofs.Common.{Bor, named_at, name_at, on_err_weaker, on_ok_weaker, is_some-map, Text, Kind, RecipeLine, is_made, is_pattern, is_special, entry_view, numbered_target}
 use Rattle.kt_rules.specs.inner.Lists.{list_at}
 use Rattle.kt_rules.proofs.NoteLemmas.{grew_at_names, target_noted}
 use Rattle.kt_rules.proofs.book.noting.note_target.Goals as goal
@@ -9,7 +9,7 @@ returns-clause-targets_noted c =
     let names = c.args.rule.names.now in
     let rule = entry_view c.args.rule in
     let target = numbered_target c.args.rule c.args.number in
-    let there : slice_get names c.args.number ≡ Some (get_or names c.args.number []) = slice_get-get_or names c.args.number [] c.requires in
+    let there : slice_get names c.args.number ≡ Some (name_at names c.args.number) = named_at names c.args.number c.requires in
     let made : is_made rule target ≡ true
     = sym (c.is_made.ensures
     ∙ ap (λ (kind : Kind). not (is_pattern kind) && not (is_special c.name_at.result.now)) c.kind.ensures
@@ -24,7 +24,7 @@ returns-clause-recipes_noted c =
     let names = c.args.rule.names.now in
     let rule = entry_view c.args.rule in
     let target = numbered_target c.args.rule c.args.number in
-    let there : slice_get names c.args.number ≡ Some (get_or names c.args.number []) = slice_get-get_or names c.args.number [] c.requires in
+    let there : slice_get names c.args.number ≡ Some (name_at names c.args.number) = named_at names c.args.number c.requires in
     let made : is_made rule target ≡ true
     = sym (c.is_made.ensures
     ∙ ap (λ (kind : Kind). not (is_pattern kind) && not (is_special c.name_at.result.now)) c.kind.ensures

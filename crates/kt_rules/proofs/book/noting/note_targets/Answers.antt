@@ -1,5 +1,5 @@
 use Rattle.std.proofs.Common.{◌≡◌, ◌∷◌, ◌+◌, ◌<◌, ℕ, zero, suc, List, [], true, is_some, length, drop, get_or, refl, arith, subst}
-use Rattle.kt_rules.proofs.Common.{Spot, target_of, GrewIn, entry_view, line_needs, numbered_target, on_err}
+use Rattle.kt_rules.proofs.Common.{Spot, target_of, GrewIn, name_at, entry_view, line_needs, numbered_target, on_err}
 use Rattle.kt_rules.specs.Targets.{text_in}
 use Rattle.kt_rules.proofs.NoteLemmas.{grew_both, grew_none, grew_target, noted_end, noted_start, noted_step, target_end, target_left}
 use Rattle.kt_rules.proofs.book.noting.note_targets.Goals as goal
@@ -56,7 +56,7 @@ loop-position-preserved c =
     let recipes_noted = rw c.in_ok-spot.ensures.same at made.recipes_noted in
     let kept = c.loop-position.invariant in
     let first : drop i rule.targets ≡ target ∷ drop (i + 1) rule.targets
-    = target_left (target_of (text_in c.args.rule.pattern) (line_needs c.args.rule)) (λ (n : ℕ). get_or names n []) c.args.rule.targets.now i number
+    = target_left (target_of (text_in c.args.rule.pattern) (line_needs c.args.rule)) (name_at names) c.args.rule.targets.now i number
     c.loop-position-test.true (get_or_any c.args.rule.targets.now i 0 number c.loop-position-test.true) in
     record {
       targets = noted_step true rule c.args.place i (i + 1) target (drop i rule.targets) (drop (i + 1) rule.targets)
@@ -80,7 +80,7 @@ returns-clause-targets_noted c =
     let rule = entry_view c.args.rule in
     let names = c.args.rule.names.now in
     noted_end true rule c.args.place c.loop-position.position (drop c.loop-position.position rule.targets) (names, c.args.spots.now.targets) (names, c.loop-position.spots.targets)
-    (target_end (target_of (text_in c.args.rule.pattern) (line_needs c.args.rule)) (λ (n : ℕ). get_or names n []) c.args.rule.targets.now c.loop-position.position c.loop-position-test.false)
+    (target_end (target_of (text_in c.args.rule.pattern) (line_needs c.args.rule)) (name_at names) c.args.rule.targets.now c.loop-position.position c.loop-position-test.false)
     c.loop-position.invariant.targets
 
 pub returns-clause-recipes_noted : goal.returns-clause-recipes_noted
@@ -88,5 +88,5 @@ returns-clause-recipes_noted c =
     let rule = entry_view c.args.rule in
     let names = c.args.rule.names.now in
     noted_end (is_some rule.recipe) rule c.args.place c.loop-position.position (drop c.loop-position.position rule.targets) (names, c.args.spots.now.recipes) (names, c.loop-position.spots.recipes)
-    (target_end (target_of (text_in c.args.rule.pattern) (line_needs c.args.rule)) (λ (n : ℕ). get_or names n []) c.args.rule.targets.now c.loop-position.position c.loop-position-test.false)
+    (target_end (target_of (text_in c.args.rule.pattern) (line_needs c.args.rule)) (name_at names) c.args.rule.targets.now c.loop-position.position c.loop-position-test.false)
     c.loop-position.invariant.recipes

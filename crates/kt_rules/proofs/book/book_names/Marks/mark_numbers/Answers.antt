@@ -1,5 +1,5 @@
-use Rattle.std.proofs.Common.{◌≡◌, ◌∙◌, ◌∷◌, ◌+◌, ◌<◌, [], Some, true, length, drop, set, get_or, refl, sym, ap, subst, arith}
-use Rattle.kt_rules.proofs.Common.{with_item, drop_more, slice_get-get_or, place_of, Marks, names_at}
+use Rattle.std.proofs.Common.{◌≡◌, ◌∙◌, ◌∷◌, ◌+◌, ◌<◌, Some, true, length, drop, set, get_or, refl, sym, ap, subst, arith}
+use Rattle.kt_rules.proofs.Common.{with_item, drop_more, named_at, place_of, Marks, name_at, names_at}
 use Rattle.std.proofs.Math.ListN.{length-set}
 use Rattle.kt_rules.proofs.MarkLemmas.{marked_one, number_marked}
 use Rattle.kt_rules.proofs.NoteLemmas.{place_at}
@@ -14,12 +14,12 @@ loop-number-preserved c =
     let numbers = c.args.numbers.now in
     let i = c.loop-number.number-index in
     let number = get_or numbers i 0 in
-    let one = get_or names number [] in
+    let one = name_at names number in
     let now = c.loop-number.self in
     let new : Marks = record { alloc = now.alloc; numbers = with_item now.numbers number true; others = now.others } in
     let below : number < length names = c.requires.below i 0 c.loop-number-test.true in
     let within : number < length now.numbers.items = subst (λ n. number < n) (sym (c.loop-number.invariant.many ∙ c.requires.count)) below in
-    let at : place_of names one ≡ Some number = place_at names one number c.as_slice-names.ensures.differ (slice_get-get_or names number [] below) in
+    let at : place_of names one ≡ Some number = place_at names one number c.as_slice-names.ensures.differ (named_at names number below) in
     let first : names_at names (drop i numbers) ≡ one ∷ names_at names (drop (i + 1) numbers) = ap (names_at names) (drop_more numbers i 0 c.loop-number-test.true) in
     let same : length (set now.numbers.items number true) ≡ length now.numbers.items = simp length-set in
     record {
