@@ -9,7 +9,7 @@ PLACED = re.compile(r"`(?:\w+::)?(\w+)`, (?:(k\w+) )?`([\w/]+\.rt)`")
 DEFINED = re.compile(r"`(\w+)` in (?:(k\w+) )?`(?:specs/)?([A-Z]\w*)`")
 REVIEWED = re.compile(r"^- \*\*(k\w+)\*\*:(.*?)(?=^- \*\*|^[^\s-])", re.MULTILINE | re.DOTALL)
 SEEN = re.compile(r"^impl\b[^{]*? Model for (\w+)[^{]*\{(.*?)^\}", re.MULTILINE | re.DOTALL)
-VALUE = re.compile(r"ghost Value = \{ (?:(?:List|Option) )?([A-Z]\w+) \}")
+VALUE = re.compile(r"ghost Value = \{ ([A-Z]\w+) \}")
 NOT_OWN = {"Text", "Unit"}
 NAMES = re.compile(r"^\| (k\w+) \| ((?:`\w+`: `\w+`(?:, )?)+) \|$", re.MULTILINE)
 ITEM = r"\b(?:fn|struct|enum|trait|type|const) {}\b"
@@ -59,7 +59,7 @@ def unreviewed(root, text):
 
 
 def names_seen(root):
-    """The types of the crates that contracts see as a record, or a list of it, of another name: crate, type, record."""
+    """The types of the crates that contracts see as a value of another name: crate, type, what it is seen as."""
     for path in root.glob("crates/k*/src/**/*.rt"):
         crate = path.relative_to(root / "crates").parts[0]
         for name, body in SEEN.findall(path.read_text(encoding="utf-8")):
@@ -81,4 +81,4 @@ def differing(root):
     yield from misplaced(root, " ".join(text.split()))
     yield from unreviewed(root, text)
     for crate, name, value in sorted(set(names_seen(root)) ^ set(names_told(text))):
-        yield f"{name} of {crate}, in definitions {value}"
+        yield f"{name} of {crate}, seen as {value}"

@@ -1,7 +1,7 @@
 -- The lines identify the names.
 use Rattle.std.proofs.Common.{eqb, ◌≡◌, ℕ, Bool, true, false, List, [], ◌∷◌, ◌++◌, refl, sym, ap, ◌∙◌, append_assoc}
 use Rattle.kati.proofs.Common.{list_any, eq-eqb, or_parts, true≢false, Text}
-use Rattle.kati.specs.Names.{LinesTellNames, has_newline, names_text}
+use Rattle.kati.specs.Names.{LinesTellNames, has_newline, name_lines}
 
 abbrev first_of : List ℕ → ℕ
 first_of [] = 0
@@ -33,7 +33,7 @@ cut_alike (a ∷ one) (b ∷ other) one_rest other_rest h k e =
     (rw (first, cut.0) refl, cut.1)
 
 -- no name is written as an empty text
-never_none : {A : Type 0} (name : Text) (names : List Text) → names_text (name ∷ names) ≡ [] → A
+never_none : {A : Type 0} (name : Text) (names : List Text) → name_lines (name ∷ names) ≡ [] → A
 never_none [] names e = absurd (true≢false (sym (ap is_empty e)))
 never_none (byte ∷ name) names e = absurd (true≢false (sym (ap is_empty e)))
 
@@ -44,8 +44,8 @@ lines_tell_names (n ∷ ns) [] h k e = never_none n ns e
 lines_tell_names (n ∷ ns) (m ∷ ms) h k e =
     let ours : (has_newline n ≡ false) × (list_any has_newline ns ≡ false) = or_parts (has_newline n) (list_any has_newline ns) h in
     let theirs : (has_newline m ≡ false) × (list_any has_newline ms ≡ false) = or_parts (has_newline m) (list_any has_newline ms) k in
-    let cut : (n ≡ m) × (names_text ns ≡ names_text ms)
-    = cut_alike n m (names_text ns) (names_text ms) ours.0 theirs.0
-    (sym (append_assoc n (10 ∷ []) (names_text ns)) ∙ e ∙ append_assoc m (10 ∷ []) (names_text ms)) in
+    let cut : (n ≡ m) × (name_lines ns ≡ name_lines ms)
+    = cut_alike n m (name_lines ns) (name_lines ms) ours.0 theirs.0
+    (sym (append_assoc n (10 ∷ []) (name_lines ns)) ∙ e ∙ append_assoc m (10 ∷ []) (name_lines ms)) in
     let more : ns ≡ ms = lines_tell_names ns ms ours.1 theirs.1 cut.1 in
     rw (cut.0, more) refl

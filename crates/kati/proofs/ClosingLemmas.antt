@@ -1,6 +1,6 @@
 -- Lists that are closed under steps, and what can be decided of their members.
 use Rattle.std.proofs.Common.{◌≡◌, ◌⊎◌, ◌≤◌, ℕ, zero, suc, Bool, true, false, List, [], ◌∷◌, ◌++◌, length, refl, sym, ap, ◌∙◌, subst, ⊎_elim, inl, inr, arith}
-use Rattle.kati.proofs.Common.{Contains, bytes_eq, true≢false, length-append, Contains-append_cases, Contains-append_left, Contains-append_right, bytes_eq-Decides, first_or_rest, in_first, in_rest, Text, Rule, HasInput, Contains-none}
+use Rattle.kati.proofs.Common.{Contains, bytes_eq, true≢false, length-append, Contains-append_cases, Contains-append_left, Contains-append_right, bytes_eq-Decides, first_or_rest, in_first, in_rest, Text, Entry, HasInput, Contains-none}
 
 -- whether something holds can be decided
 abbrev pub Decided : Type 0 → Type 0
@@ -162,6 +162,6 @@ module _ (next : Text → List Text) (starts universe : List Text) (Met : Text �
   })
 
 -- a list of names that has the goals and, with a name, its inputs
-pub record IsClosed (rules : List Rule) (known goals names : List Text) : Type 0 where
+pub record IsClosed (rules : List Entry) (known goals names : List Text) : Type 0 where
   pub begun : (name : Text) → Contains goals name → Contains names name
   pub closed : (name input : Text) → Contains names name → HasInput rules known name input → Contains names input

@@ -1,7 +1,7 @@
 -- The names that most proofs cite, passed on from one place. Declares nothing.
 pub use Rattle.kati.specs.Devices.{devices}
-pub use Rattle.kati.specs.Meaning.{Meaning, Means, MeansAfter, MeansGoals, Wanted, meaning_of, prepared, wanted_by}
-pub use Rattle.kati.specs.Planning.{always_build, always_built, command_for, first_output, has_implicit, has_phony, implicit_of, joined_inputs, joined_order_only, made_by, outs_of, plan_of, plan_unless, text_fault}
+pub use Rattle.kati.specs.Meaning.{Meaning, Means, MeansAfter, MeansGoals, WantedGoals, meaning_of, prepared, wanted_by}
+pub use Rattle.kati.specs.Planning.{always_build, always_built, command_for, first_output, has_implicit, has_phony, implicit_of, joined_inputs, joined_order_only, outs_of, plan_of, plan_unless, text_fault}
 unfoldable pub use Rattle.kati.specs.Planning.{plan_groups, planned, statement_of, unwritable_in, with_always_built, written}
 pub use Rattle.kt_eval.proofs.lemmas.GrowingLemmas.{front_next, front_same}
 pub use Rattle.kt_eval.proofs.lemmas.LastLemmas.{last_after}
@@ -18,19 +18,20 @@ pub use Rattle.kt_graph.proofs.lemmas.nodes.WholeLemmas.{Contains-from_filter_ma
 pub use Rattle.kt_graph.proofs.lemmas.search.UnknownLemmas.{from_without_repeats}
 pub use Rattle.kt_graph.specs.Reach.{AreOneMaking, HasEdge, HasInput, IsCyclic, IsFirst, IsGraph, IsInGroup, IsReached, IsSound, Leads, beside, circular, itself, no_rule, one_file, reserved_name, unmade_goal}
 pub use Rattle.kt_graph.specs.faults.Faults.{ReportsFirst}
-unfoldable pub use Rattle.kt_graph.specs.faults.Paths.{canon_of, parts_of}
+unfoldable pub use Rattle.kt_graph.specs.faults.Paths.{canon_of, components_of}
 pub use Rattle.kt_graph.specs.nodes.Groups.{AreGroups, are_together, is_leading, is_one_making, leader_name, made_nodes}
 unfoldable pub use Rattle.kt_graph.specs.nodes.Groups.{groups_among}
 pub use Rattle.kt_graph.specs.nodes.Node.{Instance, Part, all_inputs, bare_part, chosen_rule, double_node, is_leaf, needs_after, node_by, other_rules, own_part, searched, used_rule}
 unfoldable pub use Rattle.kt_graph.specs.nodes.Node.{inputs_of, joined_needs, node_of, order_only_of}
-pub use Rattle.kt_graph.specs.search.Candidates.{Candidate, are_short, candidate_by, candidate_with, directory_of, has_slash, left_out, matched_part, needed_name, nonempty, shorter, shortest, size_of, spelled_out, unless_long, without_any}
+pub use Rattle.kt_graph.specs.search.Candidates.{Candidate, are_short, candidate_by, candidate_with, directory_with_slash, has_slash, left_out, matched_part, needed_name, nonempty, shorter, shortest, size_of, spelled_out, unless_long, without_any}
 unfoldable pub use Rattle.kt_graph.specs.search.Candidates.{candidate_of, candidates_for, fit_of, matching_from, needed_names, stem_of}
 pub use Rattle.kt_list.proofs.general.Elements.{first_or_rest, from_flat_map, in_first, in_flat_map, in_rest}
 pub use Rattle.kt_list.specs.Prefixes.{IsPrefix}
 pub use Rattle.kt_ninja.proofs.Deciding.{texts_exactly, texts_unobstructed}
 pub use Rattle.kt_ninja.proofs.Growth.{front_after, front_of_more, takes_twice}
 pub use Rattle.kt_ninja.specs.Plan.{names_of}
-pub use Rattle.kt_ninja.specs.Writable.{HasWritableTexts, is_command_byte, is_empty, is_made, is_name, no_output, not_an_output, repeated, told_obstacle}
+pub use Rattle.kt_ninja.specs.View.{made_by}
+pub use Rattle.kt_ninja.specs.Writable.{HasWritableTexts, is_command_byte, is_empty, is_name, is_writable_making, no_output, not_an_output, repeated, told_obstacle}
 pub use Rattle.kt_ninja_reader.proofs.PrintThenRead.{printed_is_read}
 pub use Rattle.kt_recipe.proofs.CommandLemmas.{gave_both}
 pub use Rattle.kt_rules.specs.Entry.{needs_for}
@@ -58,4 +59,4 @@ pub use Rattle.std.specs.Ordering.{is_eq, is_lt, nat_cmp, ordering_reverse}
 pub use Rattle.std.specs.Str.{bytes_eq}
 pub use Rattle.std.specs.declared.cmp.Ordering.{Ordering}
 pub use Rattle.std.specs.declared.cmp.Ordering.TheVariants.{Equal, Greater, Less}
-pub use Rattle.kati.specs.Prelude.{AllPairs, Args, ComesFirst, Contains, Devices, Fault, FilesSeen, Gave, GrowsByFront, IsMade, IsSoundGraph, IsWritable, Node, Obstacle, Outcome, Plan, Reaches, Read, Rises, Rule, RunFault, ShareInputs, SinkSeen, Statement, Status, StepOver, Store, Table, Takes, Text, Trace, Trouble, always_name, bad_command, bad_name, fault_at, fault_number, fault_words, groups_of, is_reserved, known_names, leaving, left_of, list_any, look, obstacle_of_statements, outputs, predefined, read_of, slice_range, traced}
+pub use Rattle.kati.specs.Prelude.{AllPairs, Args, ComesFirst, Contains, Devices, Entry, Fault, FilesSeen, Gave, GrowsByFront, IsMade, IsSoundGraph, IsWritable, Macros, Makefile, Node, Obstacle, Plan, Reaches, Rises, RunFault, ShareInputs, SinkSeen, Statement, Status, StepEnd, StepOver, Store, Takes, Text, Trace, Trouble, always_name, bad_command, bad_name, fault_at, fault_number, fault_words, groups_of, is_reserved, known_names, leaving, left_of, list_any, look, obstacle_of_statements, outputs, predefined, read_of, slice_range, traced}

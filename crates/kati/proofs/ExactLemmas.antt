@@ -1,6 +1,6 @@
 -- Each plan that a run means is the graph of what its goals need.
 use Rattle.std.proofs.Common.{◌≡◌, ◌≢◌, ◌⊎◌, ℕ, zero, suc, Bool, true, false, not, cond, List, [], ◌∷◌, ◌++◌, map, Option, Ok, refl, sym, ap, ◌∙◌, subst, ⊎_elim, inl, inr, arith}
-use Rattle.kati.proofs.Common.{AllPairs, Contains, list_any, IsStrictlySortedBy, false≢true, flat_map-cons, Contains-append_cases, Contains-append_right, Text, Rule, Read, Trace, traced, Gave, IsSoundGraph, groups_of, leader_name, made_nodes, Node, is_leaf, node_of, IsGraph, IsMade, Contains-from_map, Contains-map, Contains-none, in_filter, kept_by_filter, outputs, IsWritable, Plan, Statement, Meaning, MeansGoals, Wanted, prepared, always_build, always_built, command_for, first_output, has_implicit, outs_of, plan_groups, plan_of, statement_of, with_always_built, gave_both, first_or_rest, from_flat_map, in_first, in_flat_map, in_rest}
+use Rattle.kati.proofs.Common.{AllPairs, Contains, list_any, IsStrictlySortedBy, false≢true, flat_map-cons, Contains-append_cases, Contains-append_right, Text, Entry, Makefile, Trace, traced, Gave, IsSoundGraph, groups_of, leader_name, made_nodes, Node, is_leaf, node_of, IsGraph, IsMade, Contains-from_map, Contains-map, Contains-none, in_filter, kept_by_filter, outputs, IsWritable, Plan, Statement, Meaning, MeansGoals, WantedGoals, prepared, always_build, always_built, command_for, first_output, has_implicit, outs_of, plan_groups, plan_of, statement_of, with_always_built, gave_both, first_or_rest, from_flat_map, in_first, in_flat_map, in_rest}
 use Rattle.kati.specs.Exact.{IsAlwaysBuilt, IsMadeOnce, IsOfGroup, PlansAreGraphs, StandInOrder, TellsGraph}
 use Rattle.kati.proofs.PlanLemmas.{law, name_in, name_reached, order, outs_in, outs_told, statements_in}
 use Rattle.kati.proofs.ReadBackLemmas.{has_plan, plan_given, read_back, went_on}
@@ -48,11 +48,11 @@ single_output (first ∷ statements) one other name differ has_one in_one has_ot
 
 -- ---- the statements of groups
 
-group_later : (read : Read) (limit : ℕ) (first : List Node) (groups : List (List Node)) (statement : Statement)
+group_later : (read : Makefile) (limit : ℕ) (first : List Node) (groups : List (List Node)) (statement : Statement)
     → IsOfGroup read limit groups statement → IsOfGroup read limit (first ∷ groups) statement
 group_later read limit first groups statement of = grind (arith, in_rest)
 
-groups_told : (read : Read) (limit : ℕ) (groups : List (List Node)) (before : List Statement) (said : List Text) (heard : List Text)
+groups_told : (read : Makefile) (limit : ℕ) (groups : List (List Node)) (before : List Statement) (said : List Text) (heard : List Text)
     (statements : List Statement) → plan_groups read.book read.table limit groups before said ≡ Gave heard statements
     → (statement : Statement) → Contains statements statement → Contains before statement ⊎ IsOfGroup read limit groups statement
 unfolding plan_groups
@@ -104,7 +104,7 @@ least_are statements groups outs =
 
 -- ---- the plan of a sound graph
 
-module _ (rules : List Rule) (known goals : List Text) (nodes : List Node) (graph : IsGraph rules known goals nodes) where
+module _ (rules : List Entry) (known goals : List Text) (nodes : List Node) (graph : IsGraph rules known goals nodes) where
   -- a name of a group is made
   pub of_group : (name : Text) (group : List Node) → Contains (groups_of nodes) group → Contains (outs_of group) name → IsMade rules known goals name
   of_group name group is_group has =
@@ -122,7 +122,7 @@ module _ (rules : List Rule) (known goals : List Text) (nodes : List Node) (grap
       not_made true e = absurd (false≢true e)
       not_made false e = refl
 
-module _ (read : Read) (limit : ℕ) (known goals : List Text) (nodes : List Node) (sound : IsSoundGraph read.book known goals nodes)
+module _ (read : Makefile) (limit : ℕ) (known goals : List Text) (nodes : List Node) (sound : IsSoundGraph read.book known goals nodes)
     (said heard : List Text) (statements : List Statement)
     (groups_are : plan_groups read.book read.table limit (groups_of nodes) [] said ≡ Gave heard statements)
     (fine : IsWritable (plan_of statements goals)) where
@@ -200,7 +200,7 @@ module _ (read : Read) (limit : ℕ) (known goals : List Text) (nodes : List Nod
 -- ---- the whole
 
 -- a run whose goals are chosen
-pub goals_told : (limit : ℕ) (want : Wanted) (trace : Trace) (m : Meaning) (plan : Plan) → m.result ≡ Ok plan → IsWritable plan
+pub goals_told : (limit : ℕ) (want : WantedGoals) (trace : Trace) (m : Meaning) (plan : Plan) → m.result ≡ Ok plan → IsWritable plan
     → MeansGoals limit want trace m → TellsGraph want.read limit want.known want.goals plan
 goals_told limit want trace m plan ok fine (inl p) =
     let of = plan_given limit want p.nodes trace plan (sym (ap (λ (n : Meaning). n.result) p.means) ∙ ok) in

@@ -1,6 +1,6 @@
 -- Each run has a meaning: the result of its goals can be decided, since the names that they may need are in a list.
 use Rattle.std.proofs.Common.{arith, ◌≡◌, ◌⊎◌, ℕ, Bool, true, false, List, [], ◌∷◌, ◌++◌, map, filter, find, flat_map, Option, Some, None, refl, sym, ap, subst, ⊎_elim, inl, inr}
-use Rattle.kati.proofs.Common.{Contains, list_any, IsStrictlySortedBy, nat_cmp, slice_cmp, Text, word_set, Rule, IsSoundGraph, fault_number, fault_words, is_one_making, Instance, Node, all_inputs, node_of, is_reserved, AreOneMaking, ComesFirst, HasEdge, HasInput, IsCyclic, IsFirst, IsGraph, IsInGroup, IsReached, Leads, Reaches, Trouble, beside, itself, circular, no_rule, one_file, reserved_name, unmade_goal, first_or_rest, from_flat_map, in_first, in_flat_map, in_rest, reached_on, node_name, comes_first, file_trouble, in_filter, kept_by_filter, is_reserved_there, none_below, group_cases, Trace, traced, Gave, Outcome, Stopped, fault_at, Meaning, MeansAfter, MeansGoals, Wanted, meaning_of, prepared, planned}
+use Rattle.kati.proofs.Common.{Contains, list_any, IsStrictlySortedBy, nat_cmp, slice_cmp, Text, word_set, Entry, IsSoundGraph, fault_number, fault_words, is_one_making, Instance, Node, all_inputs, node_of, is_reserved, AreOneMaking, ComesFirst, HasEdge, HasInput, IsCyclic, IsFirst, IsGraph, IsInGroup, IsReached, Leads, Reaches, Trouble, beside, itself, circular, no_rule, one_file, reserved_name, unmade_goal, first_or_rest, from_flat_map, in_first, in_flat_map, in_rest, reached_on, node_name, comes_first, file_trouble, in_filter, kept_by_filter, is_reserved_there, none_below, group_cases, Trace, traced, Gave, StepEnd, Stopped, fault_at, Meaning, MeansAfter, MeansGoals, WantedGoals, meaning_of, prepared, planned}
 use Rattle.kt_text.proofs.SortLemmas.{word_set-sorts}
 use Rattle.kt_graph.specs.inner.faults.Files.{is_repeated, made_names}
 use Rattle.kt_graph.proofs.lemmas.nodes.GroupLemmas.{one_itself}
@@ -12,7 +12,7 @@ use Rattle.kati.proofs.ClosingLemmas.{Closed, Decided, FirstOf, IsClosed, closin
 use Rattle.kt_graph.proofs.lemmas.nodes.GroupLaw.{making_told}
 
 -- the result of goals: the first thing that is wrong, or the graph
-abbrev pub ComesTo : List Rule → List Text → List Text → Type 0
+abbrev pub ComesTo : List Entry → List Text → List Text → Type 0
 ComesTo rules known goals =
     ((trouble : Trouble) × ComesFirst rules known goals (Some trouble)) ⊎ ((nodes : List Node) × IsSoundGraph rules known goals nodes)
 
@@ -25,7 +25,7 @@ along Edge names closed from (step ∷ steps) to has path = along Edge names clo
 one_making : (one other : Option Instance) (making : Instance) → one ≡ Some making → other ≡ Some making → is_one_making one other ≡ true
 one_making one other making first second = grind (arith, one_itself)
 
-module _ (rules : List Rule) (known goals names : List Text) (are : IsClosed rules known goals names) where
+module _ (rules : List Entry) (known goals names : List Text) (are : IsClosed rules known goals names) where
   reach : Closed (λ name. all_inputs (node_of rules known name)) goals (IsReached rules known goals)
   reach = closing (λ name. all_inputs (node_of rules known name)) goals names (IsReached rules known goals) are.begun are.closed
       (goal_reached rules known goals) (reached_on rules known goals)
@@ -168,10 +168,10 @@ module _ (rules : List Rule) (known goals names : List Text) (are : IsClosed rul
 
 -- ---- the whole
 
-goals_come_to : (rules : List Rule) (known goals : List Text) → ComesTo rules known goals
+goals_come_to : (rules : List Entry) (known goals : List Text) → ComesTo rules known goals
 goals_come_to rules known goals = comes_to_in rules known goals _ (closed_names rules known goals 4096 refl)
 
-goals_mean : (limit : ℕ) (want : Wanted) (trace : Trace) → ComesTo want.read.book want.known want.goals → (m : Meaning) × MeansGoals limit want trace m
+goals_mean : (limit : ℕ) (want : WantedGoals) (trace : Trace) → ComesTo want.read.book want.known want.goals → (m : Meaning) × MeansGoals limit want trace m
 goals_mean limit want trace (inl found) = (
   meaning_of (Stopped trace (fault_at None (fault_number found.0) (fault_words found.0))),
   inr (record { trouble = found.0; first = found.1; means = refl }),
@@ -181,7 +181,7 @@ goals_mean limit want trace (inr found) = (
   inl (record { nodes = found.0; graph = found.1; means = refl }),
 )
 
-after_means : (limit : ℕ) (outcome : Outcome Trace Wanted) → (m : Meaning) × MeansAfter limit outcome m
+after_means : (limit : ℕ) (outcome : StepEnd Trace WantedGoals) → (m : Meaning) × MeansAfter limit outcome m
 after_means limit (Gave trace want) = goals_mean limit want trace (goals_come_to want.read.book want.known want.goals)
 after_means limit (Stopped trace fault) = (meaning_of (Stopped trace fault), refl)
 

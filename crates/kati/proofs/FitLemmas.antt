@@ -1,6 +1,6 @@
 -- What pattern rules make of names: texts of bounded length, of the symbols that are there.
 use Rattle.std.proofs.Common.{◌≡◌, ◌⊎◌, ◌≤◌, ◌<◌, ◌+◌, ◌-◌, ◌==◌, ◌&&◌, ℕ, zero, suc, Bool, true, false, not, List, [], ◌∷◌, ◌++◌, length, map, flat_map, take, drop, Option, Some, None, refl, sym, ap, subst, ⊎_elim, arith, if◌then◌else◌, fold, nat_le, option_map, filter_map}
-use Rattle.kati.proofs.Common.{Contains, slice_range, option_and_then, option_to_list, leb-true, take-append-drop, Contains-append_cases, Contains-append_left, Contains-append_right, none-some, same_Some, Text, name_part, with_stem, Target, Rule, after_dots, without_dots, all_needs, Candidate, are_short, candidate_by, candidate_of, candidates_for, directory_of, fit_of, has_slash, left_out, matched_part, matching_from, needed_name, needed_names, nonempty, shorter, shortest, size_of, spelled_out, stem_of, unless_long, without_any, first_or_rest, from_flat_map, in_first, in_flat_map, in_rest, Contains-from_map, Contains-map, Contains-none, each_passes, Contains-from_filter_map}
+use Rattle.kati.proofs.Common.{Contains, slice_range, option_and_then, option_to_list, leb-true, take-append-drop, Contains-append_cases, Contains-append_left, Contains-append_right, none-some, same_Some, Text, name_part, with_stem, Target, Entry, after_dots, without_dots, all_needs, Candidate, are_short, candidate_by, candidate_of, candidates_for, directory_with_slash, fit_of, has_slash, left_out, matched_part, matching_from, needed_name, needed_names, nonempty, shorter, shortest, size_of, spelled_out, stem_of, unless_long, without_any, first_or_rest, from_flat_map, in_first, in_flat_map, in_rest, Contains-from_map, Contains-map, Contains-none, each_passes, Contains-from_filter_map}
 use Rattle.kt_text.specs.Match.{has_percent, pattern_back, pattern_front}
 use Rattle.kt_graph.proofs.lemmas.search.GrowthLemmas.{from_by_size}
 use Rattle.kt_graph.proofs.lemmas.nodes.MadeLemmas.{from_without_any, in_option}
@@ -165,7 +165,7 @@ module _ (most : ℕ) (enough : 48 ≤ most) where
       part_below true = below
       part_below false = λ symbol has. below symbol (from_drop _ name symbol has)
 
-      left_below : (b : Bool) → Below most (if b then [] else directory_of name)
+      left_below : (b : Bool) → Below most (if b then [] else directory_with_slash name)
       left_below true = λ symbol has. Contains-none symbol has
       left_below false = λ symbol has. below symbol (from_take _ name symbol has)
 
@@ -187,7 +187,7 @@ module _ (most : ℕ) (enough : 48 ≤ most) where
           )
 
   -- a candidate of a rule that is short
-  record IsOf (rule : Rule) (name : Text) (one : Candidate) : Type 0 where
+  record IsOf (rule : Entry) (name : Text) (one : Candidate) : Type 0 where
     fit : Text × Text
     pattern : Text
     is_fit : fit_of pattern name ≡ Some fit
@@ -196,7 +196,7 @@ module _ (most : ℕ) (enough : 48 ≤ most) where
     prerequisites : one.needs.prerequisites ≡ needed_names fit.0 fit.1 rule.needs.prerequisites
     order_only : one.needs.order_only ≡ needed_names fit.0 fit.1 rule.needs.order_only
 
-  by_is : (number : ℕ) (rule : Rule) (name : Text) (target : Target) (one : Candidate) → candidate_by number rule name target ≡ Some one → IsOf rule name one
+  by_is : (number : ℕ) (rule : Entry) (name : Text) (target : Target) (one : Candidate) → candidate_by number rule name target ≡ Some one → IsOf rule name one
   by_is number rule name target one e = grind (arith, none-some)
 
   shorter_of : (P : Candidate → Type 0) (best : Candidate) (others : List Candidate) → P best → ((one : Candidate) → Contains others one → P one) → P (fold shorter best others)
@@ -213,7 +213,7 @@ module _ (most : ℕ) (enough : 48 ≤ most) where
   shortest_of P (candidate ∷ candidates) one each e = subst P (same_Some (fold shorter candidate candidates) one e)
       (shorter_of P candidate candidates (each candidate (in_first candidate candidates)) (λ other has. each other (in_rest candidate other candidates has)))
 
-  candidate_is : (number : ℕ) (rule : Rule) (name : Text) (one : Candidate) → candidate_of number rule name ≡ Some one
+  candidate_is : (number : ℕ) (rule : Entry) (name : Text) (one : Candidate) → candidate_of number rule name ≡ Some one
       → IsOf rule name one × (are_short one.directory one.stem rule.needs ≡ true)
   unfolding candidate_of
   candidate_is number rule name one e = by (shortest (filter_map (candidate_by number rule name) rule.targets)) refl e
@@ -242,7 +242,7 @@ module _ (most : ℕ) (enough : 48 ≤ most) where
       subst (λ (t : Text). Below most t × (length t ≤ 4096)) found.2
       (needed_fits directory stem found.0 (each found.0 found.1).0 first second (each found.0 found.1).1)
 
-  candidate_fits : (rule : Rule) (name : Text) (one : Candidate) (input : Text) → Below most name → ((need : Text) → Contains (all_needs rule.needs) need → Below most need)
+  candidate_fits : (rule : Entry) (name : Text) (one : Candidate) (input : Text) → Below most name → ((need : Text) → Contains (all_needs rule.needs) need → Below most need)
       → IsOf rule name one → are_short one.directory one.stem rule.needs ≡ true → Contains (all_needs one.needs) input → Below most input × (length input ≤ 4096)
   candidate_fits rule name one input below needs of short has =
       let fits = fit_below of.pattern name of.fit below of.is_fit in
@@ -265,8 +265,8 @@ module _ (most : ℕ) (enough : 48 ≤ most) where
       short_one : (directory stem need : Text) → nat_le (length (spelled_out directory stem need)) 4096 ≡ true → length (spelled_out directory stem need) ≤ 4096
       short_one directory stem need e = leb-true (length (spelled_out directory stem need)) 4096 e
 
-  matching_is : (number : ℕ) (rules : List Rule) (name : Text) (one : Candidate) → Contains (matching_from number rules name) one
-      → (at : ℕ) × (rule : Rule) × Contains rules rule × (candidate_of at rule name ≡ Some one)
+  matching_is : (number : ℕ) (rules : List Entry) (name : Text) (one : Candidate) → Contains (matching_from number rules name) one
+      → (at : ℕ) × (rule : Entry) × Contains rules rule × (candidate_of at rule name ≡ Some one)
   unfolding matching_from
   matching_is number [] name one has = Contains-none one has
   matching_is number (rule ∷ rules) name one has = ⊎_elim
@@ -276,8 +276,8 @@ module _ (most : ℕ) (enough : 48 ≤ most) where
       (Contains-append_cases (option_to_list (candidate_of number rule name)) (matching_from (number + 1) rules name) one has)
 
   -- the prerequisites of a candidate of some rules fit
-  pub chosen_fits : (rules : List Rule) (in_chain : Bool) (name : Text) (one : Candidate) (input : Text) → Below most name
-      → ((rule : Rule) (need : Text) → Contains rules rule → Contains (all_needs rule.needs) need → Below most need)
+  pub chosen_fits : (rules : List Entry) (in_chain : Bool) (name : Text) (one : Candidate) (input : Text) → Below most name
+      → ((rule : Entry) (need : Text) → Contains rules rule → Contains (all_needs rule.needs) need → Below most need)
       → Contains (candidates_for rules in_chain name) one → Contains (all_needs one.needs) input → Below most input × (length input ≤ 4096)
   unfolding candidates_for
   chosen_fits rules in_chain name one input below needs has needed =

@@ -1,11 +1,11 @@
 -- Statements and names of a plan that is read from the graph, by their places.
 use Rattle.std.proofs.Common.{◌≡◌, ℕ, ◌+◌, Bool, true, false, List, length, Option, Some, None, refl, sym, ap, ◌∙◌, arith, suc, min, slice_get}
 use Rattle.kati.proofs.Common.{Node}
-use Rattle.kati.specs.inner.Drawn.{Drawn, always_drawn, statement_drawn, statements_drawn}
+use Rattle.kati.specs.inner.Drawn.{GroupSketch, always_drawn, statement_drawn, statements_drawn}
 use Rattle.kati.proofs.DrawnLemmas.{drawn_found, told_at, told_size}
 
-module _ (groups : List (List Node)) (sketch : List Drawn) (i : ℕ) where
-  pub group_there : (group : List Node) (one : Drawn) → Some group ≡ slice_get groups i → Some one ≡ slice_get sketch i
+module _ (groups : List (List Node)) (sketch : List GroupSketch) (i : ℕ) where
+  pub group_there : (group : List Node) (one : GroupSketch) → Some group ≡ slice_get groups i → Some one ≡ slice_get sketch i
       → Some (statement_drawn group one) ≡ slice_get (statements_drawn groups sketch) i
   group_there group one is also = grind (arith, drawn_found, told_at)
 
@@ -24,7 +24,7 @@ module _ (groups : List (List Node)) (sketch : List Drawn) (i : ℕ) where
 one_more : (n m : ℕ) → n ≡ m → n + 1 ≡ suc m
 one_more n m same = omega (arith, same)
 
-module _ (groups : List (List Node)) (sketch : List Drawn) (always : Bool) where
+module _ (groups : List (List Node)) (sketch : List GroupSketch) (always : Bool) where
   pub size_with_always : always ≡ true
       → min (length groups) (length sketch) + 1 ≡ length (always_drawn always (statements_drawn groups sketch))
   size_with_always is = grind (arith, one_more, min, length, told_size)

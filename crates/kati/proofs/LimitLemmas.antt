@@ -1,6 +1,6 @@
 -- A result that isn't too deep with a limit is the same with a larger one.
 use Rattle.std.proofs.Common.{rules, ℕ, zero, suc, ◌+◌, ◌-◌, List, [], ◌∷◌, ◌++◌, refl, subst, inl, inr, arith, codes}
-use Rattle.kati.proofs.Common.{Text, Rule, Store, Read, Trace, traced, Outcome, Gave, Stopped, leaving, Table, Node, Plan, Statement, Args, Meaning, Means, MeansAfter, MeansGoals, Wanted, meaning_of, prepared, wanted_by, command_for, plan_groups, planned, statement_of}
+use Rattle.kati.proofs.Common.{Text, Entry, Store, Makefile, Trace, traced, StepEnd, Gave, Stopped, leaving, Macros, Node, Plan, Statement, Args, Meaning, Means, MeansAfter, MeansGoals, WantedGoals, meaning_of, prepared, wanted_by, command_for, plan_groups, planned, statement_of}
 use Rattle.kt_eval.specs.Growing as growing
 use Rattle.kt_eval.proofs.lemmas.GrowingReads.{expanding_stays, reading_stays}
 use Rattle.kt_recipe.proofs.DeeperLemmas.{Stays, command_stays, leaving_stays, then_stays}
@@ -16,12 +16,12 @@ makefile_deeper : (args : Args) (store : Store) (limit : ℕ) (trace : Trace)
     → Stays (makefile_read (with_limit limit args) store trace) (makefile_read (with_limit (suc limit) args) store trace)
 makefile_deeper args store limit trace = grind (arith, leaving_stays, then_stays, reading_stays)
 
-goals_deeper : (limit : ℕ) (read : Read) (words said : List Text) → Stays (chosen_goals limit read words said) (chosen_goals (suc limit) read words said)
+goals_deeper : (limit : ℕ) (read : Makefile) (words said : List Text) → Stays (chosen_goals limit read words said) (chosen_goals (suc limit) read words said)
 unfolding default_goal_text
 goals_deeper limit read (word ∷ words) said = λ deep. refl
 goals_deeper limit read [] said = grind (arith, then_stays, leaving_stays, codes, expanding_stays)
 
-telling_stays : {A : Type 0} (trace : Trace) (before after : Outcome (List Text) A) → Stays before after
+telling_stays : {A : Type 0} (trace : Trace) (before after : StepEnd (List Text) A) → Stays before after
     → Stays (leaving (λ said. traced said trace.asked) before) (leaving (λ said. traced said trace.asked) after)
 telling_stays trace before after is = leaving_stays (λ said. traced said trace.asked) before after is
 
@@ -37,12 +37,12 @@ prepared_deeper args store limit trace =
 
 -- ---- the statements
 
-command_deeper : (table : Table) (limit : ℕ) (group : List Node) (said : List Text)
+command_deeper : (table : Macros) (limit : ℕ) (group : List Node) (said : List Text)
     → Stays (command_for table limit group said) (command_for table (suc limit) group said)
 command_deeper table limit [] said = λ deep. refl
 command_deeper table limit (least ∷ others) said = command_stays table least limit said
 
-groups_deeper : (rules : List Rule) (table : Table) (limit : ℕ) (groups : List (List Node)) (before : List Statement) (said : List Text)
+groups_deeper : (rules : List Entry) (table : Macros) (limit : ℕ) (groups : List (List Node)) (before : List Statement) (said : List Text)
     → Stays (plan_groups rules table limit groups before said) (plan_groups rules table (suc limit) groups before said)
 unfolding plan_groups
 groups_deeper rules table limit [] before said = λ deep. refl
@@ -50,7 +50,7 @@ groups_deeper rules table limit (group ∷ groups) before said =
     then_stays (command_for table limit group said) (command_for table (suc limit) group said) _ _ (command_deeper table limit group said)
     (λ command heard. groups_deeper rules table limit groups (before ++ statement_of rules group command ∷ []) heard)
 
-plan_deeper : (rules : List Rule) (table : Table) (limit : ℕ) (goals : List Text) (nodes : List Node) (said : List Text)
+plan_deeper : (rules : List Entry) (table : Macros) (limit : ℕ) (goals : List Text) (nodes : List Node) (said : List Text)
     → Stays (planned rules table limit goals nodes said) (planned rules table (suc limit) goals nodes said)
 unfolding planned
 plan_deeper rules table limit goals nodes said = grind (arith, then_stays, groups_deeper)
@@ -58,16 +58,16 @@ plan_deeper rules table limit goals nodes said = grind (arith, then_stays, group
 -- ---- the whole
 
 -- an outcome that is too deep means a fault that is
-deep_means : (o : Outcome Trace Plan) → growing.IsTooDeep o → IsRunTooDeep (meaning_of o).result
+deep_means : (o : StepEnd Trace Plan) → growing.IsTooDeep o → IsRunTooDeep (meaning_of o).result
 deep_means (Gave trace plan) deep = deep
 deep_means (Stopped trace fault) deep = deep
 
-goals_mean : (limit : ℕ) (want : Wanted) (trace : Trace) (m : Meaning) → (IsRunTooDeep m.result → ⊥) → MeansGoals limit want trace m
+goals_mean : (limit : ℕ) (want : WantedGoals) (trace : Trace) (m : Meaning) → (IsRunTooDeep m.result → ⊥) → MeansGoals limit want trace m
     → MeansGoals (suc limit) want trace m
 goals_mean limit want trace m fine (inl plan) = grind (arith, telling_stays, plan_deeper, deep_means)
 goals_mean limit want trace m fine (inr trouble) = inr trouble
 
-after_mean : (limit : ℕ) (before after : Outcome Trace Wanted) (m : Meaning) → (IsRunTooDeep m.result → ⊥) → Stays before after
+after_mean : (limit : ℕ) (before after : StepEnd Trace WantedGoals) (m : Meaning) → (IsRunTooDeep m.result → ⊥) → Stays before after
     → MeansAfter limit before m → MeansAfter (suc limit) after m
 after_mean limit (Gave trace want) after m fine is h = grind (arith, goals_mean)
 after_mean limit (Stopped trace fault) after m fine is h = grind arith

@@ -1,6 +1,6 @@
 -- A run has one meaning.
 use Rattle.std.proofs.Common.{arith, ◌≡◌, List, [], ◌∷◌, map, Some, refl, sym, ap, ◌∙◌, ⊎_elim, inl, inr}
-use Rattle.kati.proofs.Common.{Contains, IsStrictlySortedBy, ordering_reverse, Ordering, Less, Equal, Greater, All-contains, sorted_tail, All-after_first, none-some, same_Some, first_or_rest, in_first, in_rest, Text, Rule, Trace, traced, Outcome, Gave, Stopped, Node, node_of, ComesFirst, IsFirst, IsGraph, IsSound, Trouble, no_rule, circular, reserved_name, one_file, Contains-none, Meaning, MeansAfter, MeansGoals, Wanted, meaning_of, prepared, planned}
+use Rattle.kati.proofs.Common.{Contains, IsStrictlySortedBy, ordering_reverse, Ordering, Less, Equal, Greater, All-contains, sorted_tail, All-after_first, none-some, same_Some, first_or_rest, in_first, in_rest, Text, Entry, Trace, traced, StepEnd, Gave, Stopped, Node, node_of, ComesFirst, IsFirst, IsGraph, IsSound, Trouble, no_rule, circular, reserved_name, one_file, Contains-none, Meaning, MeansAfter, MeansGoals, WantedGoals, meaning_of, prepared, planned}
 use Rattle.std.proofs.lemmas.Cmp.{nat_list_cmp_total}
 use Rattle.std.proofs.lemmas.Map.Lookups.{exact_bytes}
 use Rattle.kati.specs.Once.{HasOneMeaning}
@@ -57,7 +57,7 @@ same_names (name ∷ names) (other ∷ others) rises rise there back =
 
 -- ---- the graph and what is wrong with it
 
-module _ (rules : List Rule) (known goals : List Text) where
+module _ (rules : List Entry) (known goals : List Text) where
   graph_once : (nodes others : List Node) → IsGraph rules known goals nodes → IsGraph rules known goals others → nodes ≡ others
   graph_once nodes others one other = one.stored ∙ ap (map (node_of rules known)) same ∙ sym other.stored
     where
@@ -91,7 +91,7 @@ module _ (rules : List Rule) (known goals : List Text) where
 
 -- ---- the whole
 
-goals_once : (limit : _) (want : Wanted) (trace : Trace) (m n : Meaning) → MeansGoals limit want trace m → MeansGoals limit want trace n → m ≡ n
+goals_once : (limit : _) (want : WantedGoals) (trace : Trace) (m n : Meaning) → MeansGoals limit want trace m → MeansGoals limit want trace n → m ≡ n
 goals_once limit want trace m n (inl p) (inl q) =
     p.means
     ∙ ap (λ (nodes : List Node). meaning_of (telling (planned want.read.book want.read.table limit want.goals nodes) trace))
@@ -101,7 +101,7 @@ goals_once limit want trace m n (inl p) (inr u) = absurd (sound_or_not want.read
 goals_once limit want trace m n (inr t) (inl q) = absurd (sound_or_not want.read.book want.known want.goals t.trouble q.graph.0 t.first)
 goals_once limit want trace m n (inr t) (inr u) = grind (arith, trouble_once)
 
-after_once : (limit : _) (outcome : Outcome Trace Wanted) (m n : Meaning) → MeansAfter limit outcome m → MeansAfter limit outcome n → m ≡ n
+after_once : (limit : _) (outcome : StepEnd Trace WantedGoals) (m n : Meaning) → MeansAfter limit outcome m → MeansAfter limit outcome n → m ≡ n
 after_once limit (Gave trace want) m n h k = goals_once limit want trace m n h k
 after_once limit (Stopped trace fault) m n h k = h ∙ sym k
 

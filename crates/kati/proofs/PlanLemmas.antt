@@ -1,11 +1,11 @@
 -- The plan of what goals need can be written, if its names and commands can.
 use Rattle.std.proofs.Common.{rules, ◌≡◌, ◌≢◌, ℕ, ◌+◌, Bool, true, false, not, ◌&&◌, if◌then◌else◌, cond, List, [], ◌∷◌, ◌++◌, map, filter, find, flat_map, Option, Some, None, refl, sym, ap, ◌∙◌, subst, ⊎_elim, append-nil, arith, IfOk, MatchOption, Result, Ok, Err, slice_get}
-use Rattle.kati.proofs.Common.{option_and_then, option_map_or, All, AllPairs, Contains, list_all, list_any, IsStrictlySortedBy, is_eq, nat_cmp, Ordering, Less, slice_cmp, false≢true, true≢false, append_assoc, map-append, flat_map-cons, All-contains, All-cons, All-nil, Contains-append_cases, flat_map-map, sorted_tail, All-after_first, bytes_eq-Decides, Text, from_flat_map, in_first, in_flat_map, in_rest, Rule, Fault, Stop, Outcome, Gave, Stopped, Table, IsSoundGraph, AreGroups, are_together, groups_among, groups_of, is_leading, leader_name, made_nodes, Node, is_leaf, node_of, canon_of, is_reserved, parts_of, IsGraph, IsReached, unmade_goal, Contains-from_map, Contains-map, Contains-none, in_filter, found_nowhere, kept_by_filter, Plan, Statement, outputs, IsWritable, HasWritableTexts, Obstacle, bad_name, bad_command, is_empty, is_made, is_name, obstacle_of_statements, always_build, always_built, command_for, first_output, has_implicit, outs_of, plan_groups, plan_of, statement_of, text_fault, unwritable_in, with_always_built, gave_both, none-some, same_Some}
+use Rattle.kati.proofs.Common.{option_and_then, option_map_or, All, AllPairs, Contains, list_all, list_any, IsStrictlySortedBy, is_eq, nat_cmp, Ordering, Less, slice_cmp, false≢true, true≢false, append_assoc, map-append, flat_map-cons, All-contains, All-cons, All-nil, Contains-append_cases, flat_map-map, sorted_tail, All-after_first, bytes_eq-Decides, Text, from_flat_map, in_first, in_flat_map, in_rest, Entry, Fault, Stop, StepEnd, Gave, Stopped, Macros, IsSoundGraph, AreGroups, are_together, groups_among, groups_of, is_leading, leader_name, made_nodes, Node, is_leaf, node_of, canon_of, is_reserved, components_of, IsGraph, IsReached, unmade_goal, Contains-from_map, Contains-map, Contains-none, in_filter, found_nowhere, kept_by_filter, Plan, Statement, outputs, IsWritable, HasWritableTexts, Obstacle, bad_name, bad_command, is_empty, is_writable_making, is_name, obstacle_of_statements, always_build, always_built, command_for, first_output, has_implicit, outs_of, plan_groups, plan_of, statement_of, text_fault, unwritable_in, with_always_built, gave_both, none-some, same_Some}
 use Rattle.std.proofs.lemmas.List.Kept.{AllPairs-cons}
 use Rattle.std.proofs.lemmas.Map.Text.{is_eq-slice_cmp}
 use Rattle.kt_graph.proofs.lemmas.nodes.GroupLaw.{are_groups, in_graph, itself_together}
 use Rattle.kt_ninja.specs.Plan as plans
-use Rattle.kt_ninja.specs.View.{names_at}
+use Rattle.kt_ninja.specs.View.{statement_names}
 use Rattle.kati.specs.inner.Stops.{IsFaultOf}
 use Rattle.kati.specs.inner.Views.{is_text_trouble}
 use Rattle.kt_graph.proofs.lemmas.faults.TroubleLemmas.{of_node}
@@ -59,7 +59,7 @@ unfolding groups_among
 leader_among nodes group is_group =
     Contains-from_map (λ (leader : Node). filter (are_together leader) nodes) (filter (is_leading nodes) nodes) group is_group
 
-module _ (rules : List Rule) (known goals : List Text) (nodes : List Node) (graph : IsGraph rules known goals nodes) where
+module _ (rules : List Entry) (known goals : List Text) (nodes : List Node) (graph : IsGraph rules known goals nodes) where
   pub law : AreGroups rules known goals nodes (groups_of nodes)
   law = are_groups rules known goals nodes graph
 
@@ -135,11 +135,11 @@ module _ (rules : List Rule) (known goals : List Text) (nodes : List Node) (grap
 
 -- ---- the statements of groups
 
-abbrev pub statements_in : Outcome (List Text) (List Statement) → List Statement
+abbrev pub statements_in : StepEnd (List Text) (List Statement) → List Statement
 statements_in (Gave said statements) = statements
 statements_in (Stopped said fault) = []
 
-pub outs_told : (rules : List Rule) (table : Table) (limit : ℕ) (groups : List (List Node)) (before : List Statement) (said : List Text)
+pub outs_told : (rules : List Entry) (table : Macros) (limit : ℕ) (groups : List (List Node)) (before : List Statement) (said : List Text)
     (heard : List Text) (statements : List Statement) → plan_groups rules table limit groups before said ≡ Gave heard statements
     → map outs_in statements ≡ map outs_in before ++ map outs_of groups
 unfolding plan_groups statement_of
@@ -161,10 +161,10 @@ all_begun (s ∷ statements) each =
     ∙ all_begun statements (λ outs has. each outs (in_rest s.outs outs (map outs_in statements) has))
 
 pub always_reserved : is_reserved always_build ≡ true
-unfolding canon_of parts_of
+unfolding canon_of components_of
 always_reserved = refl
 
-module _ (rules : List Rule) (known goals : List Text) (nodes : List Node) (sound : IsSoundGraph rules known goals nodes)
+module _ (rules : List Entry) (known goals : List Text) (nodes : List Node) (sound : IsSoundGraph rules known goals nodes)
     (statements : List Statement) (outs : map outs_in statements ≡ map outs_of (groups_of nodes)) where
   names_are : outputs statements ≡ flat_map outs_of (groups_of nodes)
   names_are =
@@ -210,7 +210,7 @@ module _ (rules : List Rule) (known goals : List Text) (nodes : List Node) (soun
       }
 
 -- the plan of a sound graph can be written, if its texts can
-pub plan_writable : {A : Type 0} (see : A → Plan) (rules : List Rule) (table : Table) (limit : ℕ) (known goals : List Text) (nodes : List Node) (said heard : List Text) (statements : List Statement)
+pub plan_writable : {A : Type 0} (see : A → Plan) (rules : List Entry) (table : Macros) (limit : ℕ) (known goals : List Text) (nodes : List Node) (said heard : List Text) (statements : List Statement)
     → IsSoundGraph rules known goals nodes → plan_groups rules table limit (groups_of nodes) [] said ≡ Gave heard statements
     → (plan : Plan) → plan ≡ plan_of statements goals
     → (result : Result A Stop) → IfOk result (λ p. see p ≡ plan) → IfOk result (λ p. HasWritableTexts (see p)) → IfOk result (λ p. IsWritable (see p))
@@ -230,7 +230,7 @@ pub text_troubles : (number : ℕ) (statements : List Statement) (trouble : Obst
     → is_text_trouble trouble ≡ true
 text_troubles number [] trouble e = absurd (none-some trouble (sym e))
 text_troubles number (s ∷ statements) trouble e =
-    by (λ f. text_troubles (number + 1) statements trouble f) (find (λ (n : Text). not (is_name n)) (plans.names_of s)) (is_made s.made) e
+    by (λ f. text_troubles (number + 1) statements trouble f) (find (λ (n : Text). not (is_name n)) (plans.names_of s)) (is_writable_making s.made) e
   where
     rest : Option Obstacle
     rest = obstacle_of_statements (number + 1) statements
@@ -252,12 +252,12 @@ text_settled plan trouble None is h = absurd (false≢true (sym h.1 ∙ text_tro
 text_settled plan trouble (Some stop) is h = (h.0, ap (option_and_then (text_fault plan.statements)) (sym is) ∙ h.1, h.2)
 
 -- the least output of a statement at a place
-pub least_here : (found : Option Statement) (name : Text) → slice_get (names_at (λ s. s.outs) found) 0 ≡ Some name
+pub least_here : (found : Option Statement) (name : Text) → slice_get (statement_names (λ s. s.outs) found) 0 ≡ Some name
     → name ≡ option_map_or (λ statement. first_output statement.outs) found []
 least_here None name is = absurd (cc is)
 least_here (Some s) name is = grind arith
 
-pub least_none : (found : Option Statement) → None ≡ slice_get (names_at (λ s. s.outs) found) 0
+pub least_none : (found : Option Statement) → None ≡ slice_get (statement_names (λ s. s.outs) found) 0
     → [] ≡ option_map_or (λ statement. first_output statement.outs) found []
 least_none None is = refl
 least_none (Some s) is = grind arith

@@ -1,6 +1,6 @@
 -- Each plan that a run means can be written, and is read back.
 use Rattle.std.proofs.Common.{arith, ◌≡◌, ℕ, Bool, true, false, List, [], Option, Some, None, Result, Ok, Err, refl, sym, ap, ◌∙◌, subst, inl, inr}
-use Rattle.kati.proofs.Common.{option_and_then, false≢true, Text, Fault, Store, Trace, traced, Outcome, Gave, Stopped, leaving, groups_of, Node, Plan, Statement, IsWritable, Obstacle, no_output, bad_name, bad_command, repeated, not_an_output, obstacle_of_statements, texts_exactly, printed_is_read, Args, Meaning, Means, MeansAfter, MeansGoals, Wanted, meaning_of, prepared, plan_groups, plan_of, plan_unless, planned, text_fault, unwritable_in, written, gave_both}
+use Rattle.kati.proofs.Common.{option_and_then, false≢true, Text, Fault, Store, Trace, traced, StepEnd, Gave, Stopped, leaving, groups_of, Node, Plan, Statement, IsWritable, Obstacle, no_output, bad_name, bad_command, repeated, not_an_output, obstacle_of_statements, texts_exactly, printed_is_read, Args, Meaning, Means, MeansAfter, MeansGoals, WantedGoals, meaning_of, prepared, plan_groups, plan_of, plan_unless, planned, text_fault, unwritable_in, written, gave_both}
 use Rattle.kati.specs.Once.{PlansReadBack}
 use Rattle.kati.specs.Steps.{telling}
 use Rattle.kati.specs.inner.Views.{is_text_trouble}
@@ -10,7 +10,7 @@ abbrev pub plan_in : Result Plan Fault → Plan → Plan
 plan_in (Ok plan) other = plan
 plan_in (Err fault) other = other
 
-abbrev pub plan_in_outcome : Outcome (List Text) Plan → Plan → Plan
+abbrev pub plan_in_outcome : StepEnd (List Text) Plan → Plan → Plan
 plan_in_outcome (Gave said plan) other = plan
 plan_in_outcome (Stopped said fault) other = other
 
@@ -19,13 +19,13 @@ has_plan (Ok plan) = true
 has_plan (Err fault) = false
 
 -- a run with a plan had its goals chosen
-pub record WentOn (limit : ℕ) (outcome : Outcome Trace Wanted) (m : Meaning) : Type 0 where
+pub record WentOn (limit : ℕ) (outcome : StepEnd Trace WantedGoals) (m : Meaning) : Type 0 where
   pub trace : Trace
-  pub want : Wanted
+  pub want : WantedGoals
   pub is : outcome ≡ Gave trace want
   pub next : MeansGoals limit want trace m
 
-pub went_on : (limit : ℕ) (outcome : Outcome Trace Wanted) (m : Meaning) (plan : Plan) → m.result ≡ Ok plan → MeansAfter limit outcome m
+pub went_on : (limit : ℕ) (outcome : StepEnd Trace WantedGoals) (m : Meaning) (plan : Plan) → m.result ≡ Ok plan → MeansAfter limit outcome m
     → WentOn limit outcome m
 went_on limit (Gave trace want) m plan ok h = record { trace = trace; want = want; is = refl; next = h }
 went_on limit (Stopped trace fault) m plan ok h = absurd (false≢true (sym (ap (λ (n : Meaning). has_plan n.result) h) ∙ ap has_plan ok))
@@ -49,7 +49,7 @@ untroubled statements e = by (obstacle_of_statements 0 statements) refl e
 -- ---- a plan that is given
 
 -- by its statements, of which no text is at fault
-pub record IsPlanOf (limit : ℕ) (want : Wanted) (nodes : List Node) (said : List Text) (plan : Plan) : Type 0 where
+pub record IsPlanOf (limit : ℕ) (want : WantedGoals) (nodes : List Node) (said : List Text) (plan : Plan) : Type 0 where
   pub heard : List Text
   pub statements : List Statement
   pub groups : plan_groups want.read.book want.read.table limit (groups_of nodes) [] said ≡ Gave heard statements
@@ -58,21 +58,21 @@ pub record IsPlanOf (limit : ℕ) (want : Wanted) (nodes : List Node) (said : Li
 
 plan_unless_is : (plan made : Plan) (trouble : Option Fault) (heard left : List Text) → plan_unless made trouble heard ≡ Gave left plan
     → (trouble ≡ None) × (plan ≡ made)
-plan_unless_is plan made None heard left e = (refl, sym (ap (λ (o : Outcome (List Text) Plan). plan_in_outcome o plan) e))
+plan_unless_is plan made None heard left e = (refl, sym (ap (λ (o : StepEnd (List Text) Plan). plan_in_outcome o plan) e))
 plan_unless_is plan made (Some fault) heard left e = absurd (cc e)
 
-told_plan : (o : Outcome (List Text) Plan) (trace : Trace) (plan : Plan) → (meaning_of (leaving (λ said. traced said trace.asked) o)).result ≡ Ok plan
+told_plan : (o : StepEnd (List Text) Plan) (trace : Trace) (plan : Plan) → (meaning_of (leaving (λ said. traced said trace.asked) o)).result ≡ Ok plan
     → (left : List Text) × (o ≡ Gave left plan)
 told_plan (Gave said made) trace plan e = (said, ap (λ (r : Result Plan Fault). Gave said (plan_in r plan)) e)
 told_plan (Stopped said fault) trace plan e = absurd (false≢true (ap has_plan e))
 
-pub plan_given : (limit : ℕ) (want : Wanted) (nodes : List Node) (trace : Trace) (plan : Plan)
+pub plan_given : (limit : ℕ) (want : WantedGoals) (nodes : List Node) (trace : Trace) (plan : Plan)
     → (meaning_of (telling (planned want.read.book want.read.table limit want.goals nodes) trace)).result ≡ Ok plan
     → IsPlanOf limit want nodes trace.said plan
 unfolding planned written
 plan_given limit want nodes trace plan e = grind (arith, told_plan, gave_both, plan_unless_is)
 
-pub goals_fine : (limit : ℕ) (want : Wanted) (trace : Trace) (m : Meaning) (plan : Plan) → m.result ≡ Ok plan
+pub goals_fine : (limit : ℕ) (want : WantedGoals) (trace : Trace) (m : Meaning) (plan : Plan) → m.result ≡ Ok plan
     → MeansGoals limit want trace m → IsWritable plan
 goals_fine limit want trace m plan ok (inl p) =
     let of = plan_given limit want p.nodes trace plan (sym (ap (λ (n : Meaning). n.result) p.means) ∙ ok) in

@@ -1,14 +1,14 @@
 -- A sketch as the code holds it.
 use Rattle.std.proofs.Common.{◌≡◌, ℕ, Bool, true, false, List, [], ◌∷◌, ◌++◌, length, take, Option, Some, None, Result, Ok, Err, OnOk, OnErr, refl, ap, ◌∙◌, arith, zero, suc, ◌||◌, option_map, get_or}
-use Rattle.kati.proofs.Common.{list_all, list_any, option_to_list, and_from, and_parts, Text, is_made, made_by}
+use Rattle.kati.proofs.Common.{list_all, list_any, option_to_list, and_from, and_parts, Text, is_writable_making, made_by}
 use Rattle.std.proofs.Math.Seq.{take-append_seam}
 use Rattle.std.specs.Result.{is_err}
 use Rattle.kt_list.specs.Rows.{with_item}
 use Rattle.kt_list.proofs.RowLemmas.{item_last}
 use Rattle.kt_recipe.specs.Views.{command_in}
-use Rattle.kati.specs.inner.Drawn.{BoxedJoined, Drawn, all_drawn, first_joined, is_written, joined_view, no_drawn}
+use Rattle.kati.specs.inner.Drawn.{BoxedJoined, GroupSketch, all_drawn, first_joined, is_written, joined_view, no_drawn}
 
-abbrev pub drawn_by : Text → List BoxedJoined → Bool → Drawn
+abbrev pub drawn_by : Text → List BoxedJoined → Bool → GroupSketch
 drawn_by command row one = record { always = one; joined = first_joined row; command = command_in command }
 
 pub first_of_one : (joined : Option BoxedJoined) → first_joined (option_to_list joined) ≡ option_map (λ b. joined_view b.value) joined
@@ -44,10 +44,10 @@ all_more [] joined (first ∷ always) command row one same also = absurd (omega 
 all_more (other ∷ commands) joined [] command row one same also = absurd (omega (arith, same))
 all_more (other ∷ commands) [] (first ∷ always) command row one same also = absurd (omega (arith, also))
 all_more (other ∷ commands) (before ∷ joined) (first ∷ always) command row one same also =
-    ap (λ (l : List Drawn). drawn_by other before first ∷ l) (all_more commands joined always command row one (omega (arith, same)) (omega (arith, also)))
+    ap (λ (l : List GroupSketch). drawn_by other before first ∷ l) (all_more commands joined always command row one (omega (arith, same)) (omega (arith, also)))
 
 pub pushed : (commands commands' : List Text) (joined joined' : List (List BoxedJoined)) (always always' : List Bool) (command : Text)
-    (row : Option BoxedJoined) (one : Bool) (all : List Drawn) → length commands ≡ length always → length joined ≡ length always
+    (row : Option BoxedJoined) (one : Bool) (all : List GroupSketch) → length commands ≡ length always → length joined ≡ length always
     → all_drawn commands joined always ≡ all → commands' ≡ commands ++ command ∷ [] → joined' ≡ joined ++ option_to_list row ∷ []
     → always' ≡ always ++ one ∷ [] → all_drawn commands' joined' always'
     ≡ all ++ record { always = one; joined = option_map (λ b. joined_view b.value) row; command = command_in command } ∷ []
@@ -86,15 +86,15 @@ one_at (command ∷ commands) (row ∷ joined) (one ∷ always) zero same also =
 one_at (command ∷ commands) (row ∷ joined) (one ∷ always) (suc i) same also =
     one_at commands joined always i (omega (arith, same)) (omega (arith, also))
 
-module _ (commands : List Text) (joined : List (List BoxedJoined)) (always : List Bool) (i : ℕ) (all : List Drawn)
+module _ (commands : List Text) (joined : List (List BoxedJoined)) (always : List Bool) (i : ℕ) (all : List GroupSketch)
     (same : length commands ≡ length always) (also : length joined ≡ length always) (is : all_drawn commands joined always ≡ all) where
   pub one_is : drawn_by (get_or commands i []) (get_or joined i []) (get_or always i false) ≡ get_or all i no_drawn
-  one_is = one_at commands joined always i same also ∙ ap (λ (l : List Drawn). get_or l i no_drawn) is
+  one_is = one_at commands joined always i same also ∙ ap (λ (l : List GroupSketch). get_or l i no_drawn) is
 
 -- ---- what can be written
 
 pub commands_made : (commands : List Text) (joined : List (List BoxedJoined)) (always : List Bool) → list_all is_written commands ≡ true
-    → list_all (λ (drawn : Drawn). is_made (made_by drawn.command)) (all_drawn commands joined always) ≡ true
+    → list_all (λ (drawn : GroupSketch). is_writable_making (made_by drawn.command)) (all_drawn commands joined always) ≡ true
 commands_made [] joined always all = refl
 commands_made (command ∷ commands) [] always all = refl
 commands_made (command ∷ commands) (row ∷ joined) [] all = refl

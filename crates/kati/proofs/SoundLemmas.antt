@@ -1,6 +1,6 @@
 -- No plan that a run means has a cycle, two outputs of one file or a reserved name.
 use Rattle.std.proofs.Common.{arith, ◌≡◌, ◌≢◌, ◌⊎◌, ℕ, Bool, true, false, not, List, [], ◌∷◌, ◌++◌, flat_map, Option, Result, Ok, Err, refl, sym, ap, ◌∙◌, subst, ⊎_elim, inl, inr, IfOk}
-use Rattle.kati.proofs.Common.{Contains, bytes_eq, true≢false, Contains-append_cases, Contains-append_left, Contains-append_right, bytes_eq-Decides, Text, Rule, is_among, without_repeats, Stop, Read, Trace, Ends, groups_of, Node, all_inputs, inputs_of, order_only_of, always_name, canon_of, is_reserved, HasEdge, IsInGroup, IsMade, IsReached, Leads, reached_on, Contains-from_map, Contains-map, Contains-none, kept_by_filter, from_without_repeats, outputs, Plan, Statement, IsWritable, Meaning, MeansGoals, Wanted, always_build, always_built, implicit_of, joined_inputs, joined_order_only, outs_of, statement_of, first_or_rest, from_flat_map, in_flat_map}
+use Rattle.kati.proofs.Common.{Contains, bytes_eq, true≢false, Contains-append_cases, Contains-append_left, Contains-append_right, bytes_eq-Decides, Text, Entry, is_among, without_repeats, Stop, Makefile, Trace, Ends, groups_of, Node, all_inputs, inputs_of, order_only_of, always_name, canon_of, is_reserved, HasEdge, IsInGroup, IsMade, IsReached, Leads, reached_on, Contains-from_map, Contains-map, Contains-none, kept_by_filter, from_without_repeats, outputs, Plan, Statement, IsWritable, Meaning, MeansGoals, WantedGoals, always_build, always_built, implicit_of, joined_inputs, joined_order_only, outs_of, statement_of, first_or_rest, from_flat_map, in_flat_map}
 use Rattle.kati.specs.Exact.{IsAlwaysBuilt, IsOfGroup, TellsGraph}
 use Rattle.kati.specs.Sound.{IsSoundPlan, IsUnreserved, NeedsInput, NeedsItself, PlansAreSound}
 use Rattle.kati.specs.inner.Views.{GoalsEnd}
@@ -33,7 +33,7 @@ implicit_is : (always : Bool) (input : Text) → Contains (implicit_of always) i
 implicit_is true input has = grind (arith, ⊎_elim, Contains-none, first_or_rest)
 implicit_is false input has = Contains-none input has
 
-group_needs : (rules : List Rule) (group : List Node) (command : Option Text) (input : Text)
+group_needs : (rules : List Entry) (group : List Node) (command : Option Text) (input : Text)
     → Contains ((statement_of rules group command).inputs ++ ((statement_of rules group command).implicit ++ (statement_of rules group command).order_only)) input
     → IsNeededBy group input ⊎ (input ≡ always_build)
 unfolding statement_of
@@ -45,12 +45,12 @@ group_needs rules group command input has = ⊎_elim
     (Contains-append_cases (statement_of rules group command).implicit (joined_order_only group) input others))
     (Contains-append_cases (joined_inputs group) ((statement_of rules group command).implicit ++ joined_order_only group) input has)
 
-group_makes : (rules : List Rule) (group : List Node) (command : Option Text) (name : Text)
+group_makes : (rules : List Entry) (group : List Node) (command : Option Text) (name : Text)
     → Contains (statement_of rules group command).outs name → Contains (outs_of group) name
 unfolding statement_of
 group_makes rules group command name has = has
 
-group_names : (rules : List Rule) (group : List Node) (command : Option Text) (name : Text)
+group_names : (rules : List Entry) (group : List Node) (command : Option Text) (name : Text)
     → Contains ((statement_of rules group command).outs ++ ((statement_of rules group command).inputs ++ (statement_of rules group command).order_only)) name
     → Contains (outs_of group) name ⊎ IsNeededBy group name
 unfolding statement_of
@@ -62,12 +62,12 @@ group_names rules group command name has = ⊎_elim
     (Contains-append_cases (joined_inputs group) (joined_order_only group) name needed))
     (Contains-append_cases (outs_of group) (joined_inputs group ++ joined_order_only group) name has)
 
-group_implicit : (rules : List Rule) (group : List Node) (command : Option Text) (name : Text)
+group_implicit : (rules : List Entry) (group : List Node) (command : Option Text) (name : Text)
     → Contains (statement_of rules group command).implicit name → name ≡ always_build
 unfolding statement_of
 group_implicit rules group command name has = implicit_is _ name has
 
-module _ (read : Read) (limit : ℕ) (known goals : List Text) (plan : Plan) (tells : TellsGraph read limit known goals plan) where
+module _ (read : Makefile) (limit : ℕ) (known goals : List Text) (plan : Plan) (tells : TellsGraph read limit known goals plan) where
   -- a made name isn't reserved
   free : (name : Text) → IsMade read.book known goals name → is_reserved name ≡ true → ⊥
   free name made reserved = tells.graph.0.free.free name (record { reached = made.reached; reserved = reserved })
@@ -216,7 +216,7 @@ module _ (read : Read) (limit : ℕ) (known goals : List Text) (plan : Plan) (te
   pub sound_plan : IsSoundPlan plan
   sound_plan = record { uncircled = uncircled; files_differ = differ; unreserved = unreserved }
 
-pub goals_sound : (limit : ℕ) (want : Wanted) (trace : Trace) (m : Meaning) (plan : Plan) → m.result ≡ Ok plan → IsWritable plan
+pub goals_sound : (limit : ℕ) (want : WantedGoals) (trace : Trace) (m : Meaning) (plan : Plan) → m.result ≡ Ok plan → IsWritable plan
     → MeansGoals limit want trace m → IsSoundPlan plan
 goals_sound limit want trace m plan ok fine means =
     sound_plan want.read limit want.known want.goals plan (goals_told limit want trace m plan ok fine means)
@@ -228,7 +228,7 @@ are_sound args store asked m plan means ok =
 
 -- ---- the plan that a call returns
 
-pub sound_if_ok : {A : Type 0} (see : A → Plan) (limit : ℕ) (want : Wanted) (trace left : Trace) (result : Result A Stop)
+pub sound_if_ok : {A : Type 0} (see : A → Plan) (limit : ℕ) (want : WantedGoals) (trace left : Trace) (result : Result A Stop)
     → Ends (GoalsEnd limit want) trace see result left → IfOk result (λ plan. IsWritable (see plan)) → IfOk result (λ plan. IsSoundPlan (see plan))
 sound_if_ok see limit want trace left (Ok plan) means fine =
     goals_sound limit want trace (meant left.said left.asked (Ok (see plan))) (see plan) refl fine means

@@ -1,8 +1,8 @@
 -- All texts of a plan can be written, if the names of its graph and its commands can.
 use Rattle.std.proofs.Common.{arith, ◌≡◌, ℕ, Bool, true, false, not, ◌&&◌, cond, List, [], ◌∷◌, ◌++◌, flat_map, Option, None, refl, sym, ap, subst, is_some}
-use Rattle.kati.proofs.Common.{Contains, list_all, option_and_then, and_from, and_parts, Contains-append_left, Contains-append_right, Text, Rule, is_among, without_repeats, Gave, Table, HasInput, IsGraph, IsReached, groups_of, Node, all_inputs, inputs_of, order_only_of, all_pass, each_passes, Contains-from_map, Contains-map, kept_by_filter, reached_on, from_without_repeats, Plan, Statement, names_of, HasWritableTexts, is_made, is_name, texts_unobstructed, command_for, has_phony, implicit_of, joined_inputs, joined_order_only, made_by, outs_of, plan_groups, plan_of, statement_of, text_fault, unwritable_in, with_always_built, gave_both, from_flat_map, in_first, in_rest}
+use Rattle.kati.proofs.Common.{Contains, list_all, option_and_then, and_from, and_parts, Contains-append_left, Contains-append_right, Text, Entry, is_among, without_repeats, Gave, Macros, HasInput, IsGraph, IsReached, groups_of, Node, all_inputs, inputs_of, order_only_of, all_pass, each_passes, Contains-from_map, Contains-map, kept_by_filter, reached_on, from_without_repeats, Plan, Statement, names_of, HasWritableTexts, is_writable_making, is_name, texts_unobstructed, command_for, has_phony, implicit_of, joined_inputs, joined_order_only, made_by, outs_of, plan_groups, plan_of, statement_of, text_fault, unwritable_in, with_always_built, gave_both, from_flat_map, in_first, in_rest}
 use Rattle.kt_ninja_reader.proofs.PrintedPieces.{all_both}
-use Rattle.kati.specs.inner.Drawn.{Drawn, statements_drawn}
+use Rattle.kati.specs.inner.Drawn.{GroupSketch, statements_drawn}
 use Rattle.kati.proofs.PlanLemmas.{law, name_in, statements_in}
 use Rattle.kt_graph.proofs.lemmas.faults.TroubleLemmas.{of_node}
 use Rattle.kt_graph.proofs.lemmas.nodes.GroupLaw.{in_graph}
@@ -12,7 +12,7 @@ implicit_pass true = refl
 implicit_pass false = refl
 
 -- the names of a group's statement are names of the graph
-module _ (rules : List Rule) (known goals : List Text) (nodes : List Node) (graph : IsGraph rules known goals nodes)
+module _ (rules : List Entry) (known goals : List Text) (nodes : List Node) (graph : IsGraph rules known goals nodes)
     (named : list_all (λ (node : Node). is_name node.name) nodes ≡ true) where
   own_passes : (node : Node) → Contains nodes node → is_name node.name ≡ true
   own_passes node has = each_passes (λ (one : Node). is_name one.name) nodes named node has
@@ -56,7 +56,7 @@ module _ (rules : List Rule) (known goals : List Text) (nodes : List Node) (grap
 -- ---- statements one after another
 
 -- what each statement of a group passes, all statements pass
-all_told : (p : Statement → Bool) (rules : List Rule) (table : Table) (limit : ℕ) (groups : List (List Node)) (before : List Statement) (said heard : List Text)
+all_told : (p : Statement → Bool) (rules : List Entry) (table : Macros) (limit : ℕ) (groups : List (List Node)) (before : List Statement) (said heard : List Text)
     (statements : List Statement) → plan_groups rules table limit groups before said ≡ Gave heard statements → list_all p before ≡ true
     → ((group : List Node) (command : Option Text) → Contains groups group → p (statement_of rules group command) ≡ true) → list_all p statements ≡ true
 unfolding plan_groups
@@ -70,27 +70,27 @@ all_told p rules table limit (group ∷ groups) before said heard statements e a
     (λ other command has. each other command (in_rest group other groups has))
 
 -- the commands that are stored for groups are those of their statements
-made_pass : (groups : List (List Node)) (drawn : List Drawn) → list_all (λ (one : Drawn). is_made (made_by one.command)) drawn ≡ true
-    → list_all (λ (s : Statement). is_made s.made) (statements_drawn groups drawn) ≡ true
+made_pass : (groups : List (List Node)) (drawn : List GroupSketch) → list_all (λ (one : GroupSketch). is_writable_making (made_by one.command)) drawn ≡ true
+    → list_all (λ (s : Statement). is_writable_making s.made) (statements_drawn groups drawn) ≡ true
 made_pass [] drawn all = refl
 made_pass (group ∷ groups) [] all = refl
 made_pass (group ∷ groups) (one ∷ drawn) all =
-    let parts = and_parts (is_made (made_by one.command)) (list_all (λ (d : Drawn). is_made (made_by d.command)) drawn) all in
-    and_from (is_made (made_by one.command)) _ parts.0 (made_pass groups drawn parts.1)
+    let parts = and_parts (is_writable_making (made_by one.command)) (list_all (λ (d : GroupSketch). is_writable_making (made_by d.command)) drawn) all in
+    and_from (is_writable_making (made_by one.command)) _ parts.0 (made_pass groups drawn parts.1)
 
 abbrev named : Statement → Bool
 named s = list_all is_name (names_of s)
 
 abbrev fine : Statement → Bool
-fine s = named s && is_made s.made
+fine s = named s && is_writable_making s.made
 
-both_pass : (statements : List Statement) → list_all named statements ≡ true → list_all (λ (s : Statement). is_made s.made) statements ≡ true
+both_pass : (statements : List Statement) → list_all named statements ≡ true → list_all (λ (s : Statement). is_writable_making s.made) statements ≡ true
     → list_all fine statements ≡ true
 both_pass [] names commands = refl
 both_pass (s ∷ statements) names commands =
     let first = and_parts (named s) (list_all named statements) names in
-    let second = and_parts (is_made s.made) (list_all (λ (one : Statement). is_made one.made) statements) commands in
-    and_from (fine s) (list_all fine statements) (and_from (named s) (is_made s.made) first.0 second.0) (both_pass statements first.1 second.1)
+    let second = and_parts (is_writable_making s.made) (list_all (λ (one : Statement). is_writable_making one.made) statements) commands in
+    and_from (fine s) (list_all fine statements) (and_from (named s) (is_writable_making s.made) first.0 second.0) (both_pass statements first.1 second.1)
 
 -- ---- the plan
 
@@ -99,10 +99,10 @@ unfolding with_always_built
 first_too statements goals all = grind (arith, cond)
 
 -- the texts of a plan can be written, if the names of the graph and the commands can
-pub plan_texts : (rules : List Rule) (table : Table) (limit : ℕ) (known goals : List Text) (nodes : List Node) (said heard : List Text)
-    (groups : List (List Node)) (drawn : List Drawn) → IsGraph rules known goals nodes
+pub plan_texts : (rules : List Entry) (table : Macros) (limit : ℕ) (known goals : List Text) (nodes : List Node) (said heard : List Text)
+    (groups : List (List Node)) (drawn : List GroupSketch) → IsGraph rules known goals nodes
     → plan_groups rules table limit (groups_of nodes) [] said ≡ Gave heard (statements_drawn groups drawn)
-    → list_all (λ (node : Node). is_name node.name) nodes ≡ true → list_all (λ (one : Drawn). is_made (made_by one.command)) drawn ≡ true
+    → list_all (λ (node : Node). is_name node.name) nodes ≡ true → list_all (λ (one : GroupSketch). is_writable_making (made_by one.command)) drawn ≡ true
     → HasWritableTexts (plan_of (statements_drawn groups drawn) goals)
 plan_texts rules table limit known goals nodes said heard groups drawn graph told names commands =
     first_too (statements_drawn groups drawn) goals

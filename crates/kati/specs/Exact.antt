@@ -1,23 +1,23 @@
 -- What the statements of a plan are: the graph of what the goals need, and nothing else (kati's own; Ninja manual,
 -- "Build statements").
 use Rattle.std.specs.Prelude.{◌≡◌, ◌≢◌, ◌⊎◌, ℕ, true, List, [], map, Option, Ok}
-use Rattle.kati.specs.Prelude.{AllPairs, Contains, list_any, Text, Store, Read, Trace, traced, Gave, Table}
+use Rattle.kati.specs.Prelude.{AllPairs, Contains, list_any, Text, Store, Makefile, Trace, traced, Gave, Macros}
 use Rattle.kati.specs.Prelude.{IsSoundGraph, groups_of, Node, IsMade, outputs, Plan, Statement, Args}
 use Rattle.std.specs.List.Sorted.{IsStrictlySortedBy}
 use Rattle.std.specs.Ordering.{nat_cmp}
 use Rattle.std.specs.Cmp.Lexicographic.{slice_cmp}
-use Rattle.kati.specs.Meaning.{Meaning, Means, Wanted, prepared}
+use Rattle.kati.specs.Meaning.{Meaning, Means, WantedGoals, prepared}
 use Rattle.kati.specs.Planning.{always_build, always_built, command_for, first_output, has_implicit, statement_of}
 use Rattle.kati.specs.Planning.{with_always_built}
 
 -- the command of a group's least member, whatever messages come before it
-pub record IsGroupCommand (table : Table) (limit : ℕ) (group : List Node) (command : Option Text) : Type 0 where
+pub record IsGroupCommand (table : Macros) (limit : ℕ) (group : List Node) (command : Option Text) : Type 0 where
   pub said : List Text
   pub heard : List Text
   pub expanded : command_for table limit group said ≡ Gave heard command
 
 -- a statement has the outputs, the inputs, the order-only inputs and the command of one of the groups
-pub record IsOfGroup (read : Read) (limit : ℕ) (groups : List (List Node)) (statement : Statement) : Type 0 where
+pub record IsOfGroup (read : Makefile) (limit : ℕ) (groups : List (List Node)) (statement : Statement) : Type 0 where
   pub group : List Node
   pub among : Contains groups group
   pub command : Option Text
@@ -41,7 +41,7 @@ pub record StandInOrder (statements : List Statement) : Type 0 where
   pub are : statements ≡ with_always_built groups
   pub rise : IsStrictlySortedBy (slice_cmp nat_cmp) (map (λ statement. first_output statement.outs) groups)
 
-pub record TellsGraph (read : Read) (limit : ℕ) (known goals : List Text) (plan : Plan) : Type 0 where
+pub record TellsGraph (read : Makefile) (limit : ℕ) (known goals : List Text) (plan : Plan) : Type 0 where
   pub nodes : List Node
   pub graph : IsSoundGraph read.book known goals nodes
   -- each target that a rule makes and the goals reach has its statement
@@ -60,7 +60,7 @@ pub record TellsGraph (read : Read) (limit : ℕ) (known goals : List Text) (pla
 
 -- the graph is that of the goals, from the list, the makefile and the arguments
 pub record IsGraphOf (args : Args) (store : Store) (asked : List Text) (plan : Plan) : Type 0 where
-  pub want : Wanted
+  pub want : WantedGoals
   pub trace : Trace
   pub is_prepared : prepared args store (traced [] asked) ≡ Gave trace want
   pub tells : TellsGraph want.read args.limit want.known want.goals plan

@@ -1,8 +1,8 @@
 -- What a run means: its messages, its plan or its first fault, and the names that it asks for (kati's own).
 use Rattle.std.specs.Prelude.{◌≡◌, ℕ, List, [], Some, None, ◌⊎◌, Result, Ok, Err}
-use Rattle.kati.specs.Prelude.{Text, Fault, Store, Read, Trace, traced, fault_at, known_names, Node, Trouble}
+use Rattle.kati.specs.Prelude.{Text, Fault, Store, Makefile, Trace, traced, fault_at, known_names, Node, Trouble}
 use Rattle.kati.specs.Prelude.{ComesFirst, IsSoundGraph, fault_number, fault_words, Plan, Args}
-use Rattle.kt_eval.specs.Outcome.{Outcome, Gave, Stopped, StepOver, ◌>>=◌, done, left_of}
+use Rattle.kt_eval.specs.Outcome.{StepEnd, Gave, Stopped, StepOver, ◌>>=◌, done, left_of}
 use Rattle.kati.specs.Steps.{telling}
 use Rattle.kati.specs.Listing.{listed}
 use Rattle.kati.specs.Makefile.{makefile_read}
@@ -15,24 +15,24 @@ pub record Meaning : Type 0 where
   pub result : Result Plan Fault
   pub asked : List Text
 
-abbrev pub meaning_of : Outcome Trace Plan → Meaning
+abbrev pub meaning_of : StepEnd Trace Plan → Meaning
 meaning_of (Gave trace plan) = record { messages = trace.said; result = Ok plan; asked = trace.asked }
 meaning_of (Stopped trace fault) = record { messages = trace.said; result = Err fault; asked = trace.asked }
 
 -- ---- first the files are listed, the makefile is read, and the goals are chosen
 
 -- the goals, with the makefile and the known names that make them
-pub record Wanted : Type 0 where
-  pub read : Read
+pub record WantedGoals : Type 0 where
+  pub read : Makefile
   pub known : List Text
   pub goals : List Text
 
-abbrev pub wanted_by : Args → Text → Read → StepOver (List Text) Wanted
+abbrev pub wanted_by : Args → Text → Makefile → StepOver (List Text) WantedGoals
 wanted_by args list read = do
   goals ← chosen_goals args.limit read args.goals
   done (record { read = read; known = known_names read.book list; goals = goals })
 
-abbrev pub prepared : Args → Store → StepOver Trace Wanted
+abbrev pub prepared : Args → Store → StepOver Trace WantedGoals
 prepared args store = do
   list ← listed store args.files
   read ← makefile_read args store
@@ -40,23 +40,23 @@ prepared args store = do
 
 -- ---- then the plan of the graph that the goals need, or the first thing that is wrong with it
 
-pub record MeansPlan (limit : ℕ) (want : Wanted) (trace : Trace) (m : Meaning) : Type 0 where
+pub record MeansPlan (limit : ℕ) (want : WantedGoals) (trace : Trace) (m : Meaning) : Type 0 where
   pub nodes : List Node
   pub graph : IsSoundGraph want.read.book want.known want.goals nodes
   pub means : m ≡ meaning_of (telling (planned want.read.book want.read.table limit want.goals nodes) trace)
 
-pub record MeansTrouble (want : Wanted) (trace : Trace) (m : Meaning) : Type 0 where
+pub record MeansTrouble (want : WantedGoals) (trace : Trace) (m : Meaning) : Type 0 where
   pub trouble : Trouble
   pub first : ComesFirst want.read.book want.known want.goals (Some trouble)
   pub means : m ≡ meaning_of (Stopped trace (fault_at None (fault_number trouble) (fault_words trouble)))
 
-abbrev pub MeansGoals : ℕ → Wanted → Trace → Meaning → Type 0
+abbrev pub MeansGoals : ℕ → WantedGoals → Trace → Meaning → Type 0
 MeansGoals limit want trace m = MeansPlan limit want trace m ⊎ MeansTrouble want trace m
 
 -- ---- the whole
 
 -- steps that came to what is wanted have its meaning, and those that stopped mean their fault
-abbrev pub MeansAfter : ℕ → Outcome Trace Wanted → Meaning → Type 0
+abbrev pub MeansAfter : ℕ → StepEnd Trace WantedGoals → Meaning → Type 0
 MeansAfter limit (Gave trace want) m = MeansGoals limit want trace m
 MeansAfter limit (Stopped trace fault) m = m ≡ meaning_of (Stopped trace fault)
 

@@ -8,12 +8,12 @@ use Rattle.kati.specs.AfterRun.{BlamesDevice, Exits, Leaves, LeavesOut}
 use Rattle.kati.specs.ErrorOutput.{ReportsEnd}
 
 -- each name on a line of its own
-abbrev pub names_text : List Text → Text
-names_text names = flat_map (λ name. name ++ codes "\n") names
+abbrev pub name_lines : List Text → Text
+name_lines names = flat_map (λ name. name ++ codes "\n") names
 
 -- what stands behind the output of a run: a NUL, which no makefile and so no Ninja text has, and the names
 abbrev pub behind_output : List Text → Text
-behind_output names = 0 ∷ names_text names
+behind_output names = 0 ∷ name_lines names
 
 -- the names after a run with this status: the output has all of them, or it failed and has a prefix of that text, or
 -- memory ran out and it has nothing more
@@ -62,4 +62,4 @@ has_newline name = list_any (λ byte. byte == 10) name
 -- no two lists of names without newlines are written as the same text
 abbrev pub LinesTellNames : Type 0
 LinesTellNames = (one other : List Text) → list_any has_newline one ≡ false → list_any has_newline other ≡ false
-    → names_text one ≡ names_text other → one ≡ other
+    → name_lines one ≡ name_lines other → one ≡ other

@@ -2,15 +2,14 @@
 -- which statements there are, their order and the name `always_build` are kati's own).
 use Rattle.std.specs.Prelude.{ℕ, Bool, not, ◌&&◌, List, [], ◌∷◌, ◌++◌, map, filter, flat_map, Option, Some, None}
 use Rattle.std.specs.Prelude.{is_some, slice_get, if◌then◌else◌}
-use Rattle.kati.specs.Prelude.{list_any, Text, Rule, Fault, CommandNotWritable, NameNotWritable, Table, Node, inputs_of}
+use Rattle.kati.specs.Prelude.{list_any, Text, Entry, Fault, CommandNotWritable, NameNotWritable, Macros, Node, inputs_of}
 use Rattle.kati.specs.Prelude.{order_only_of, groups_of, always_name, Statement, Plan, obstacle_of_statements}
 use Rattle.std.specs.Option.{option_and_then, option_map_or}
 use Rattle.kt_rules.specs.Names.{is_among, without_repeats}
 use Rattle.kt_rules.specs.Book.{is_phony}
 use Rattle.kt_eval.specs.Outcome.{StepOver, ◌>>=◌, done, stop_at}
 use Rattle.kt_recipe.specs.Shell.{shell_of}
-use Rattle.kt_ninja.specs.declared.plan.Made.{Made}
-use Rattle.kt_ninja.specs.declared.plan.Made.TheVariants.{Command, Phony}
+use Rattle.kt_ninja.specs.View.{made_by}
 use Rattle.kt_ninja.specs.Writable.{Obstacle, is_empty, no_output, bad_name, bad_command, repeated, not_an_output}
 use Rattle.kati.specs.Steps.{fault_nowhere}
 
@@ -32,18 +31,14 @@ abbrev pub joined_order_only : List Node → List Text
 joined_order_only group =
     filter (λ name. not (is_among (joined_inputs group) name)) (without_repeats (flat_map order_only_of group))
 
-abbrev pub made_by : Option Text → Made
-made_by (Some command) = Command command
-made_by None = Phony
-
-abbrev pub has_phony : List Rule → List Node → Bool
+abbrev pub has_phony : List Entry → List Node → Bool
 has_phony rules group = list_any (λ node. is_phony rules node.name) group
 
 abbrev pub implicit_of : Bool → List Text
 implicit_of always = if always then always_build ∷ [] else []
 
 -- a phony member with a command is always made [Phony Targets]
-unfoldable pub statement_of : List Rule → List Node → Option Text → Statement
+unfoldable pub statement_of : List Entry → List Node → Option Text → Statement
 statement_of rules group command = record {
   outs = outs_of group;
   made = made_by command;
@@ -55,12 +50,12 @@ statement_of rules group command = record {
 -- ---- statements one after another
 
 -- the command is that of the least member, which comes first
-abbrev pub command_for : Table → ℕ → List Node → StepOver (List Text) (Option Text)
+abbrev pub command_for : Macros → ℕ → List Node → StepOver (List Text) (Option Text)
 command_for table limit [] = done None
 command_for table limit (least ∷ others) = shell_of table limit least
 
 -- a statement for each group, after the given ones
-unfoldable pub plan_groups : List Rule → Table → ℕ → List (List Node) → List Statement
+unfoldable pub plan_groups : List Entry → Macros → ℕ → List (List Node) → List Statement
     → StepOver (List Text) (List Statement)
 plan_groups rules table limit [] before = done before
 plan_groups rules table limit (group ∷ groups) before = do
@@ -114,7 +109,7 @@ written plan = plan_unless plan (unwritable_in plan.statements)
 -- ---- the whole
 
 -- the plan of these nodes, which goals need
-unfoldable pub planned : List Rule → Table → ℕ → List Text → List Node → StepOver (List Text) Plan
+unfoldable pub planned : List Entry → Macros → ℕ → List Text → List Node → StepOver (List Text) Plan
 planned rules table limit goals nodes = do
   statements ← plan_groups rules table limit (groups_of nodes) []
   written (plan_of statements goals)

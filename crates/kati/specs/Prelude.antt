@@ -6,12 +6,12 @@ pub use Rattle.kati.specs.declared.status.Status.{Status}
 pub use Rattle.kati_args.specs.declared.args.Args.{Args}
 pub use Rattle.kati_args.specs.declared.fault.ArgFault.{ArgFault}
 pub use Rattle.kt_eval.specs.Faults.{fault_line}
-pub use Rattle.kt_eval.specs.Outcome.{Gave, Outcome, StepOver, leaving, left_of}
+pub use Rattle.kt_eval.specs.Outcome.{Gave, StepEnd, StepOver, leaving, left_of}
 pub use Rattle.kt_eval.specs.Step.{fault_at, fault_of}
 pub use Rattle.kt_eval.specs.declared.fault.Fault.{Fault}
 pub use Rattle.kt_eval.specs.files.Files.{AgreeWith, FilesSeen, Store, look}
-pub use Rattle.kt_eval.specs.macros.Macros.{Table, put}
-pub use Rattle.kt_eval.specs.reading.Machine.{Read, Trace, predefined, read_of, reading, traced}
+pub use Rattle.kt_eval.specs.macros.Macros.{Macros, put}
+pub use Rattle.kt_eval.specs.reading.Machine.{Makefile, Trace, predefined, read_of, reading, traced}
 pub use Rattle.kt_graph.specs.Known.{known_names}
 pub use Rattle.kt_graph.specs.Reach.{ComesFirst, IsMade, Reaches, Trouble}
 pub use Rattle.kt_graph.specs.faults.Faults.{IsSoundGraph, fault_number, fault_words}
@@ -26,7 +26,7 @@ pub use Rattle.kt_ninja.specs.Written.{GrowsByFront, SinkSeen, Takes}
 pub use Rattle.kt_ninja.specs.declared.plan.Plan.{Plan}
 pub use Rattle.kt_ninja.specs.declared.plan.Statement.{Statement}
 pub use Rattle.kt_ninja_reader.specs.NinjaRead.{ninja_read}
-pub use Rattle.kt_rules.specs.Entry.{Rule}
+pub use Rattle.kt_rules.specs.Entry.{Entry}
 pub use Rattle.kt_rules.specs.declared.fault_kind.FaultKind.TheVariants.{CommandNotWritable, FileTooLarge, NameNotWritable, NoFile, NoTargets, NulByte}
 pub use Rattle.kt_text.specs.Words.{Text, trimmed_start}
 pub use Rattle.std.specs.List.{AllPairs, AllZip, Contains, flat_map, list_any, slice_range}

@@ -2,15 +2,15 @@
 //! Fast: no plan is built to be written: its names are those of the graph's nodes, and all commands are one text.
 //! Spares the plan.
 ghost use Rattle.std.specs.Prelude.{◌≡◌, None, option_map, slice_get};
-ghost use Rattle.kt_ninja.specs.View.{made_at, made_by as made_seen, names_at, names_listed};
+ghost use Rattle.kt_ninja.specs.View.{made_at, made_by as made_seen, names_listed, statement_names};
 ghost use Rattle.kati.specs.inner.Drawn.{inputs_drawn, order_only_drawn, statements_drawn};
-ghost use Rattle.kati.specs.inner.Shown.{names_view, part_view, plan_view};
+ghost use Rattle.kati.specs.inner.Shown.{name_list_view, plan_part_view, plan_view};
 
 use crate::name_list::NameList;
 use crate::sketch::Sketch;
 use kt_graph::Node;
 use kt_list::Rows;
-use kt_ninja::{Listed, PlanView};
+use kt_ninja::{PlanNames, PlanView};
 use kt_rules::Name;
 
 /// The plan of a graph, without statements of its own: names are those of the graph's nodes, and all commands are in
@@ -40,7 +40,7 @@ impl<'g> GraphPlan<'g> {
     // The statement of a group.
     #[inline(always)]
     fn group(&self, place: usize) -> PlanPart<'_, 'g>
-        ensures { part_view result
+        ensures { plan_part_view result
             ≡ slice_get (statements_drawn self.now.groups self.now.sketch) place }
     {
         match self.groups.row(place) {
@@ -58,7 +58,7 @@ impl<'g> GraphPlan<'g> {
     // The statement at a place.
     #[inline(always)]
     fn part(&self, statement: usize) -> PlanPart<'_, 'g>
-        ensures { part_view result ≡ slice_get (plan_view self.now).statements statement }
+        ensures { plan_part_view result ≡ slice_get (plan_view self.now).statements statement }
     {
         if !self.always {
             return self.group(statement);
@@ -73,7 +73,7 @@ impl<'g> GraphPlan<'g> {
 impl<'a, 'g> PlanPart<'a, 'g> {
     #[inline(always)]
     fn outputs(&self) -> NameList<'a, 'g>
-        ensures { names_view result ≡ names_at (λ s. s.outs) (part_view self.now) }
+        ensures { name_list_view result ≡ statement_names (λ s. s.outs) (plan_part_view self.now) }
     {
         match self {
             PlanPart::Missing => NameList::Empty,
@@ -84,7 +84,7 @@ impl<'a, 'g> PlanPart<'a, 'g> {
 
     #[inline(always)]
     fn inputs(&self) -> NameList<'a, 'g>
-        ensures { names_view result ≡ names_at (λ s. s.inputs) (part_view self.now) }
+        ensures { name_list_view result ≡ statement_names (λ s. s.inputs) (plan_part_view self.now) }
     {
         match self {
             PlanPart::Missing | PlanPart::Always => NameList::Empty,
@@ -97,7 +97,7 @@ impl<'a, 'g> PlanPart<'a, 'g> {
 
     #[inline(always)]
     fn implicit(&self) -> NameList<'a, 'g>
-        ensures { names_view result ≡ names_at (λ s. s.implicit) (part_view self.now) }
+        ensures { name_list_view result ≡ statement_names (λ s. s.implicit) (plan_part_view self.now) }
     {
         match self {
             PlanPart::Missing | PlanPart::Always => NameList::Empty,
@@ -113,7 +113,7 @@ impl<'a, 'g> PlanPart<'a, 'g> {
 
     #[inline(always)]
     fn order_only(&self) -> NameList<'a, 'g>
-        ensures { names_view result ≡ names_at (λ s. s.order_only) (part_view self.now) }
+        ensures { name_list_view result ≡ statement_names (λ s. s.order_only) (plan_part_view self.now) }
     {
         match self {
             PlanPart::Missing | PlanPart::Always => NameList::Empty,
@@ -125,7 +125,7 @@ impl<'a, 'g> PlanPart<'a, 'g> {
     }
 
     fn command(&self) -> Option<&'a [u8]>
-        ensures { made_seen (option_map (λ text. text.now) result) ≡ made_at (part_view self.now) }
+        ensures { made_seen (option_map (λ text. text.now) result) ≡ made_at (plan_part_view self.now) }
     {
         match self {
             PlanPart::Missing | PlanPart::Always => None,
@@ -144,7 +144,7 @@ impl<'a, 'g> PlanPart<'a, 'g> {
 // The inputs of the first node.
 #[inline(always)]
 fn first_inputs<'a, 'g>(nodes: &'a [Node<'g>]) -> NameList<'a, 'g>
-    ensures { names_view result ≡ inputs_drawn nodes.now None }
+    ensures { name_list_view result ≡ inputs_drawn nodes.now None }
 {
     match nodes {
         [node, ..] => NameList::Needs(node.inputs()),
@@ -154,7 +154,7 @@ fn first_inputs<'a, 'g>(nodes: &'a [Node<'g>]) -> NameList<'a, 'g>
 
 #[inline(always)]
 fn first_order_only<'a, 'g>(nodes: &'a [Node<'g>]) -> NameList<'a, 'g>
-    ensures { names_view result ≡ order_only_drawn nodes.now None }
+    ensures { name_list_view result ≡ order_only_drawn nodes.now None }
 {
     match nodes {
         [node, ..] => NameList::Needs(node.order_only()),
@@ -181,13 +181,13 @@ impl<'a, 'g: 'a> PlanView<'a> for GraphPlan<'g> {
     }
 
     #[inline(always)]
-    fn names(&'a self, list: Listed) -> NameList<'a, 'g> {
+    fn names(&'a self, list: PlanNames) -> NameList<'a, 'g> {
         match list {
-            Listed::Outputs(statement) => self.part(statement).outputs(),
-            Listed::Inputs(statement) => self.part(statement).inputs(),
-            Listed::Implicit(statement) => self.part(statement).implicit(),
-            Listed::OrderOnly(statement) => self.part(statement).order_only(),
-            Listed::Defaults => NameList::Names(self.goals.as_slice()),
+            PlanNames::Outputs(statement) => self.part(statement).outputs(),
+            PlanNames::Inputs(statement) => self.part(statement).inputs(),
+            PlanNames::Implicit(statement) => self.part(statement).implicit(),
+            PlanNames::OrderOnly(statement) => self.part(statement).order_only(),
+            PlanNames::Defaults => NameList::Names(self.goals.as_slice()),
         }
     }
 }

@@ -2,15 +2,15 @@
 ghost use Rattle.std.specs.Prelude.{◌≡◌, ◌≤◌, ℕ, List, [], IfOk, None, OnOk};
 ghost use Rattle.kt_eval.specs.files.Files.{AgreeWith, AnswersGrow, Store};
 ghost use Rattle.kt_text.specs.Words.{Text};
-ghost use Rattle.kt_eval.specs.reading.Machine.{ComesBefore, Read, Trace, nothing_read, read_by, read_of, reading_by};
+ghost use Rattle.kt_eval.specs.reading.Machine.{ComesBefore, Makefile as MakefileSeen, Trace, new_machine, read_by, read_of, reading_by};
 ghost use Rattle.kt_eval.specs.reading.Machine.{traced, traced_by};
 ghost use Rattle.kt_list.specs.Prefixes.{IsPrefix};
-ghost use Rattle.kt_eval.specs.Outcome.{Gives, IfCut, Outcome, left_of};
+ghost use Rattle.kt_eval.specs.Outcome.{Gives, IfCut, StepEnd, left_of};
 ghost use Rattle.kt_eval.specs.Step.{Blames, BlamesBy};
 ghost use Rattle.kati.specs.Makefile.{command_line_table, makefile_names, makefile_read, with_macro};
 ghost use Rattle.kati.specs.inner.Views.{read_view};
 
-use kati_args::{Args, Macro as Definition, Word};
+use kati_args::{Args, MacroWord as Definition, Word};
 use kt_eval::{Files, Flavour, Machine, Macro, Macros, Makefile, Origin, Reading, Stop, Value};
 use kt_list::Sequence;
 use kt_rules::Book;
@@ -39,7 +39,7 @@ pub(crate) fn makefile_read<F: Files>(
 
 // A machine that has read only the command line.
 fn machine_of(alloc: Global, args: &Args) -> Result<Machine, AllocError>
-    ensures { IfOk result (λ machine. machine ≡ nothing_read args.now.limit (command_line_table args.now.macros)) }
+    ensures { IfOk result (λ machine. machine ≡ new_machine args.now.limit (command_line_table args.now.macros)) }
 {
     Machine::new(alloc, macros_of(alloc, args.macros.as_slice())?, args.limit)
 }
@@ -117,7 +117,7 @@ fn told_and_read(
     ended: Result<(), Stop>,
     reading: Reading,
 ) -> (Vec<Sequence<u8>>, Result<Makefile, Stop>)
-    ensures gives { (asked : List Text) (end : Outcome Trace Read)
+    ensures gives { (asked : List Text) (end : StepEnd Trace MakefileSeen)
         → Gives (λ _. read_of reading.macros reading.book) ended (traced reading.messages asked) end
         → Gives read_view result.1 (traced result.0.items asked) end }
     ensures blames { (old new : ℕ) (asked : List Text) → BlamesBy ended old new asked
@@ -132,7 +132,8 @@ fn told_and_read(
 }
 
 fn makefile_if(ended: Result<(), Stop>, macros: Macros, book: Book) -> Result<Makefile, Stop>
-    ensures gives { (trace : Trace) (end : Outcome Trace Read) → Gives (λ _. read_of macros book) ended trace end
+    ensures gives { (trace : Trace) (end : StepEnd Trace MakefileSeen)
+        → Gives (λ _. read_of macros book) ended trace end
         → Gives read_view result trace end }
     ensures blames { (old new : ℕ) (asked : List Text) → BlamesBy ended old new asked → BlamesBy result old new asked }
 {

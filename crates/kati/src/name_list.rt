@@ -1,7 +1,7 @@
 //! The names of a statement, wherever they are held.
 ghost use Rattle.std.specs.Prelude.{◌≡◌, ◌∷◌, [], length, option_map, slice_get};
 ghost use Rattle.kati.specs.Planning.{always_build, outs_of};
-ghost use Rattle.kati.specs.inner.Shown.{names_view};
+ghost use Rattle.kati.specs.inner.Shown.{name_list_view};
 
 use kt_graph::{ALWAYS_BUILD, Inputs, Node};
 use kt_ninja::NamesView;
@@ -24,7 +24,7 @@ impl<'a, 'g> NameList<'a, 'g> {
     /// The name at a place, if there is one.
     #[inline(always)]
     pub(crate) fn at(&self, place: usize) -> Option<&'a [u8]>
-        ensures { option_map (λ name. name.now) result ≡ slice_get (names_view self.now) place }
+        ensures { option_map (λ name. name.now) result ≡ slice_get (name_list_view self.now) place }
     {
         match self {
             NameList::Empty => None,
@@ -38,9 +38,9 @@ impl<'a, 'g> NameList<'a, 'g> {
 
 impl<'a, 'g: 'a> NamesView<'a> for NameList<'a, 'g> {
     ghost use Rattle.std.specs.Prelude.{◌≡◌, ◌<◌, Some, length, slice_get};
-    ghost use Rattle.kati.specs.inner.Shown.{names_view};
+    ghost use Rattle.kati.specs.inner.Shown.{name_list_view};
 
-    ghost names = { names_view };
+    ghost names = { name_list_view };
 
     #[inline(always)]
     fn len(&self) -> usize {

@@ -9,9 +9,10 @@ ghost use Rattle.kt_eval.specs.declared.fault.Fault.{Fault as FaultType};
 ghost use Rattle.kt_graph.specs.faults.Faults.{IsSoundGraph};
 ghost use Rattle.kt_graph.specs.nodes.Groups.{groups_of};
 ghost use Rattle.kt_recipe.specs.Views.{command_in};
-ghost use Rattle.kt_ninja.specs.Writable.{HasWritableTexts, IsWritable, is_made, is_name, told_obstacle};
+ghost use Rattle.kt_ninja.specs.View.{made_by};
+ghost use Rattle.kt_ninja.specs.Writable.{HasWritableTexts, IsWritable, is_name, is_writable_making, told_obstacle};
 ghost use Rattle.kt_eval.specs.Outcome.{AsksNothing, Gives, done, then_do};
-ghost use Rattle.kati.specs.Planning.{command_for, least_output, made_by, plan_groups, plan_of, planned, text_fault};
+ghost use Rattle.kati.specs.Planning.{command_for, least_output, plan_groups, plan_of, planned, text_fault};
 ghost use Rattle.kati.specs.Planning.{unwritable_in, written};
 ghost use Rattle.kati.specs.inner.Drawn.{AlwaysFirst, MayShare, drawn_of, statements_drawn};
 ghost use Rattle.kati.specs.inner.Shown.{plan_view};
@@ -25,7 +26,7 @@ use crate::words::stop_on;
 use kt_eval::{Makefile, Stop};
 use kt_graph::{Graph, Groups, Node};
 use kt_list::{Rows, Sequence};
-use kt_ninja::{Listed, PlanView, Unwritable, name_can_be_written, texts_can_be_written};
+use kt_ninja::{PlanNames, PlanView, Unwritable, name_can_be_written, texts_can_be_written};
 use kt_recipe::Commands;
 use kt_rules::{Book, FaultKind, Name};
 use std::alloc::{AllocError, Global};
@@ -174,7 +175,7 @@ fn next_group<'g>(
 // Whether each name of the graph and each command can be written. A name that many need is looked at once.
 fn has_writable_texts(graph: &Graph, sketch: &Sketch) -> bool
     ensures { result ≡ true → (list_all (λ node. is_name node.name) graph.now ≡ true)
-        × (list_all (λ drawn. is_made (made_by drawn.command)) sketch.now ≡ true) }
+        × (list_all (λ drawn. is_writable_making (made_by drawn.command)) sketch.now ≡ true) }
 {
     sketch.has_writable_commands() && has_writable_names(graph)
 }
@@ -260,7 +261,7 @@ fn stop_of(alloc: Global, plan: &GraphPlan, trouble: Unwritable) -> Option<Stop>
 fn least_output<'p>(plan: &'p GraphPlan, number: usize) -> &'p [u8]
     ensures { result.now ≡ least_output (plan_view plan.now).statements number }
 {
-    match plan.names(Listed::Outputs(number)).at(0) {
+    match plan.names(PlanNames::Outputs(number)).at(0) {
         Some(name) => name,
         None => b"",
     }

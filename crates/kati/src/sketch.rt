@@ -4,9 +4,9 @@
 ghost use Rattle.std.specs.Prelude.{◌≡◌, ◌++◌, ◌∷◌, [], OnOk, false, get_or, length, option_map, take, true};
 ghost use Rattle.std.specs.List.{list_all, list_any};
 ghost use Rattle.std.specs.Option.{option_to_list};
-ghost use Rattle.kt_ninja.specs.Writable.{is_made};
+ghost use Rattle.kt_ninja.specs.Writable.{is_writable_making};
 ghost use Rattle.kt_recipe.specs.Views.{command_in};
-ghost use Rattle.kati.specs.Planning.{made_by};
+ghost use Rattle.kt_ninja.specs.View.{made_by};
 ghost use Rattle.kati.specs.inner.Drawn.{first_joined, joined_view, no_drawn};
 
 use kt_list::{Names, Rows};
@@ -18,7 +18,7 @@ use std::marker::Model;
 
 /// The joined prerequisites of the members of a group.
 #[derive(Drop)]
-pub(crate) struct Joined {
+pub(crate) struct JoinedNeeds {
     pub inputs: Names,
     pub order_only: Vec<Name>,
 }
@@ -31,7 +31,7 @@ pub(crate) struct Sketch {
     // Each is empty if the group has none.
     commands: Rows<u8>,
     // A row of one for a group with several members, and else an empty one.
-    joined: Rows<Box<Joined>>,
+    joined: Rows<Box<JoinedNeeds>>,
     always: Vec<bool>,
     // Whether each command can be written.
     writable: bool,
@@ -39,9 +39,9 @@ pub(crate) struct Sketch {
 
 impl Model for Sketch {
     ghost use Rattle.std.specs.Prelude.{List};
-    ghost use Rattle.kati.specs.inner.Drawn.{AreOfGroups, Drawn, all_drawn};
+    ghost use Rattle.kati.specs.inner.Drawn.{AreOfGroups, GroupSketch, all_drawn};
 
-    ghost Value = { List Drawn };
+    ghost Value = { List GroupSketch };
 
     ghost view = { λ sketch. all_drawn sketch.commands sketch.joined sketch.always.items };
 
@@ -76,7 +76,7 @@ impl Sketch {
 
     /// Whether each command can be written. Nothing is promised where it isn't known that all can.
     pub(crate) fn has_writable_commands(&self) -> bool
-        ensures { result ≡ true → list_all (λ drawn. is_made (made_by drawn.command)) self.now ≡ true }
+        ensures { result ≡ true → list_all (λ drawn. is_writable_making (made_by drawn.command)) self.now ≡ true }
     {
         self.writable
     }
@@ -85,7 +85,7 @@ impl Sketch {
     pub(crate) fn push(
         &mut self,
         always: bool,
-        joined: Option<Box<Joined>>,
+        joined: Option<Box<JoinedNeeds>>,
         command: &[u8],
     ) -> Result<(), AllocError>
         ensures { OnOk result (self.new ≡ self.old ++ record {
@@ -117,7 +117,7 @@ impl Sketch {
 
     /// The joined prerequisites of the members of the group at a place, if there are several.
     #[inline(always)]
-    pub(crate) fn joined(&self, place: usize) -> Option<&Joined>
+    pub(crate) fn joined(&self, place: usize) -> Option<&JoinedNeeds>
         ensures { option_map (λ b. joined_view b.now) result ≡ (get_or self.now place no_drawn).joined }
     {
         first_of(self.joined.row_at(place))
@@ -145,7 +145,10 @@ fn flag_at(flags: &[bool], place: usize) -> bool
 }
 
 // Adds a row of one or none. If memory runs out, the row may be there.
-fn push_joined(rows: &mut Rows<Box<Joined>>, joined: Option<Box<Joined>>) -> Result<(), AllocError>
+fn push_joined(
+    rows: &mut Rows<Box<JoinedNeeds>>,
+    joined: Option<Box<JoinedNeeds>>,
+) -> Result<(), AllocError>
     ensures added { OnOk result (rows.new ≡ rows.old ++ option_to_list joined ∷ []) }
     ensures kept { take (length rows.old) rows.new ≡ rows.old }
 {
@@ -156,7 +159,7 @@ fn push_joined(rows: &mut Rows<Box<Joined>>, joined: Option<Box<Joined>>) -> Res
     }
 }
 
-fn first_of(joined: &[Box<Joined>]) -> Option<&Joined>
+fn first_of(joined: &[Box<JoinedNeeds>]) -> Option<&JoinedNeeds>
     ensures { option_map (λ b. joined_view b.now) result ≡ first_joined joined.now }
 {
     match joined {

@@ -9,7 +9,7 @@ ghost use Rattle.kt_recipe.specs.Views.{command_in};
 ghost use Rattle.kati.specs.Planning.{has_phony, joined_inputs, joined_order_only};
 ghost use Rattle.kati.specs.inner.Drawn.{MayShare, joined_of, joined_view};
 
-use crate::sketch::Joined;
+use crate::sketch::JoinedNeeds;
 use kt_graph::{Inputs, Node};
 use kt_list::Names;
 use kt_rules::{Book, Name};
@@ -31,7 +31,7 @@ pub(crate) fn joined_if_several(
     alloc: Global,
     group: &[Node],
     shares: bool,
-) -> Result<Option<Box<Joined>>, AllocError>
+) -> Result<Option<Box<JoinedNeeds>>, AllocError>
     requires { MayShare group.now shares }
     ensures { IfOk result (λ joined. option_map (λ b. joined_view b.value) joined ≡ joined_of group.now) }
 {
@@ -54,7 +54,7 @@ fn telling<'a, 'g>(group: &'a [Node<'g>], shares: bool) -> &'a [Node<'g>]
     group
 }
 
-fn joined(alloc: Global, group: &[Node]) -> Result<Box<Joined>, AllocError>
+fn joined(alloc: Global, group: &[Node]) -> Result<Box<JoinedNeeds>, AllocError>
     ensures { IfOk result (λ b. joined_view b.value ≡ record {
       inputs = joined_inputs group.now;
       order_only = joined_order_only group.now;
@@ -62,7 +62,7 @@ fn joined(alloc: Global, group: &[Node]) -> Result<Box<Joined>, AllocError>
 {
     let inputs = joined_inputs(alloc, group)?;
     let order_only = joined_order_only(alloc, group, &inputs)?;
-    Ok(Box::new(alloc, Joined { inputs, order_only })?)
+    Ok(Box::new(alloc, JoinedNeeds { inputs, order_only })?)
 }
 
 // Whether one of the group is phony.

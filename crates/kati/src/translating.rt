@@ -16,7 +16,7 @@ ghost use Rattle.kati.specs.Meaning.{names_asked, prepared, wanted_by};
 ghost use Rattle.kati.specs.Sound.{IsSoundPlan};
 ghost use Rattle.kati.specs.inner.Shown.{plan_view};
 ghost use Rattle.kati.specs.inner.Stops.{IsFirstStop, IsStopOf};
-ghost use Rattle.kati.specs.inner.Views.{EndMeans, GoalsEnd, found_view, read_view};
+ghost use Rattle.kati.specs.inner.Views.{EndMeans, GoalsEnd, goals_view, read_view};
 
 use crate::faults::RunFault;
 use crate::goals::chosen_goals;
@@ -87,7 +87,7 @@ pub(crate) fn planned<'p, F: Files>(
 
 /// What was read: the makefile, and the list of files.
 #[derive(Drop)]
-pub(crate) struct Found {
+pub(crate) struct ReadSources {
     pub makefile: Makefile,
     pub list: Vec<u8>,
 }
@@ -98,10 +98,10 @@ fn prepared<'p, F: Files>(
     args: &Args,
     files: &mut F,
     messages: &mut Vec<Sequence<u8>>,
-) -> Result<(&'p Found, Vec<Name>), Stop>
+) -> Result<(&'p ReadSources, Vec<Name>), Stop>
     requires { messages.old.items ≡ [] }
     ensures gives { (store : Store) → AgreeWith store (F.seen files.new).answers → Gives
-        (λ found. found_view found.0.now found.1.items) result (traced messages.new.items (F.seen files.new).names)
+        (λ found. goals_view found.0.now found.1.items) result (traced messages.new.items (F.seen files.new).names)
         (prepared args.now store (traced [] (F.seen files.old).names)) }
     ensures asked { (store : Store) → AgreeWith store (F.seen files.new).answers
         → IsPrefix (F.seen files.new).names (names_asked args.now store (F.seen files.old).names) }
@@ -113,17 +113,17 @@ fn prepared<'p, F: Files>(
     let (told, read) = makefile_read(alloc, args, files);
     *messages = told;
     let makefile = read?;
-    chosen(alloc, args, Found { makefile, list }, messages)
+    chosen(alloc, args, ReadSources { makefile, list }, messages)
 }
 
 // The goals, with what they are made from.
 fn chosen<'p>(
     alloc: Global,
     args: &Args,
-    found: Found,
+    found: ReadSources,
     messages: &mut Vec<Sequence<u8>>,
-) -> Result<(&'p Found, Vec<Name>), Stop>
-    ensures gives { Gives (λ found. found_view found.0.now found.1.items) result messages.new.items
+) -> Result<(&'p ReadSources, Vec<Name>), Stop>
+    ensures gives { Gives (λ found. goals_view found.0.now found.1.items) result messages.new.items
         (wanted_by args.now found.list.items (read_view found.makefile) messages.old.items) }
     ensures asks_nothing { AsksNothing result }
 {
@@ -144,11 +144,11 @@ fn lasting<'p, T: Drop + 'p>(alloc: Global, value: T) -> Result<&'p T, AllocErro
 fn planned_goals<'p>(
     alloc: Global,
     args: &Args,
-    found: &'p Found,
+    found: &'p ReadSources,
     goals: Vec<Name>,
     messages: &mut Vec<Sequence<u8>>,
 ) -> Result<GraphPlan<'p>, Stop>
-    ensures means { (asked : List Text) → Ends (GoalsEnd args.now.limit (found_view found.now goals.items))
+    ensures means { (asked : List Text) → Ends (GoalsEnd args.now.limit (goals_view found.now goals.items))
         (traced messages.old.items asked) plan_view result (traced messages.new.items asked) }
     ensures asks_nothing { AsksNothing result }
     ensures writable { IfOk result (λ plan. IsWritable (plan_view plan)) }
@@ -160,7 +160,11 @@ fn planned_goals<'p>(
 }
 
 // The graph of these goals, unless something is wrong with it.
-fn sound_graph<'p>(alloc: Global, found: &'p Found, goals: &[Name]) -> Result<&'p Graph<'p>, Stop>
+fn sound_graph<'p>(
+    alloc: Global,
+    found: &'p ReadSources,
+    goals: &[Name],
+) -> Result<&'p Graph<'p>, Stop>
     ensures graph { IfOk result (λ graph. IsSoundGraph found.now.makefile.book
         (known_names found.now.makefile.book found.now.list.items) goals.now graph.now) }
     ensures first { IfErr result (IsFirstStop found.now.makefile.book

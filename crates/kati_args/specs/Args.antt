@@ -7,7 +7,7 @@ use Rattle.std.specs.declared.alloc.Global.{Global}
 use Rattle.std.specs.List.{list_any, before_first, after_first}
 use Rattle.std.specs.Option.{option_map_or}
 use Rattle.std.specs.Str.Parse.{digits_value, without_leading_plus}
-use Rattle.kati_args.specs.Prelude.{Text, is_separator, is_equals, new_rule, takes, with_rule, Args, Macro, ArgFault}
+use Rattle.kati_args.specs.Prelude.{Text, is_separator, is_equals, new_rule, takes, with_rule, Args, MacroWord, ArgFault}
 use Rattle.clap.specs.Words.{App, IsAmong, Row, Rule, all_of, fault_of, first_of, kind_of, matches_of, new_app}
 use Rattle.clap.specs.declared.builder.action.ArgAction.TheVariants.{Append, Set, SetTrue}
 use Rattle.clap.specs.declared.builder.value_parser.ValueParser.TheVariants as parser
@@ -51,15 +51,15 @@ abbrev pub is_macro : Text → Bool
 is_macro word = list_any is_equals word
 
 -- what stands before the first equals sign
-abbrev pub name_in : Text → Text
-name_in word = before_first is_equals word
+abbrev pub name_before_equals : Text → Text
+name_before_equals word = before_first is_equals word
 
-abbrev pub macro_in : Text → Macro
-macro_in word = record { name = name_in word; value = after_first is_equals word }
+abbrev pub macro_of_word : Text → MacroWord
+macro_of_word word = record { name = name_before_equals word; value = after_first is_equals word }
 
-abbrev pub is_empty : Text → Bool
-is_empty [] = true
-is_empty (byte ∷ bytes) = false
+abbrev pub is_empty_word : Text → Bool
+is_empty_word [] = true
+is_empty_word (byte ∷ bytes) = false
 
 -- `:`, `?`, `+` or `!`, with which an equals sign makes another operator of makefiles
 abbrev pub is_operator : ℕ → Bool
@@ -70,17 +70,17 @@ abbrev pub ends_in_operator : Text → Bool
 ends_in_operator name = option_map_or is_operator (slice_get name (length name - 1)) false
 
 -- a name that no macro can have
-abbrev pub is_bad_name : Text → Bool
-is_bad_name name = is_empty name || (list_any is_separator name || ends_in_operator name)
+abbrev pub is_bad_macro_name : Text → Bool
+is_bad_macro_name name = is_empty_word name || (list_any is_separator name || ends_in_operator name)
 
 abbrev pub is_bad_macro : Text → Bool
-is_bad_macro word = is_macro word && is_bad_name (name_in word)
+is_bad_macro word = is_macro word && is_bad_macro_name (name_before_equals word)
 
 abbrev pub goals_in : List Text → List Text
 goals_in words = filter (λ word. not (is_macro word)) words
 
-abbrev pub macros_in : List Text → List Macro
-macros_in words = map macro_in (filter is_macro words)
+abbrev pub macros_in : List Text → List MacroWord
+macros_in words = map macro_of_word (filter is_macro words)
 
 -- ---- what they ask for
 
@@ -138,9 +138,9 @@ ReportsError error Memory = ⊤
 ReportsError error (BadMacro word) = ⊥
 
 -- what is told of a fault of this kind: the text that was made of it, and want of memory just where none could be made
-abbrev pub TellsText : {E : Type 0} → ErrorKind → Result (String Global) E → ArgFault → Type 0
-TellsText kind (Ok text) (Help told) = (kind ≡ DisplayHelp) × (told ≡ text)
-TellsText kind (Ok text) (Usage told) = (kind ≢ DisplayHelp) × (told ≡ text)
-TellsText kind (Ok text) Memory = ⊥
-TellsText kind (Ok text) (BadMacro word) = ⊥
-TellsText kind (Err fault) told = told ≡ Memory
+abbrev pub TellsFaultText : {E : Type 0} → ErrorKind → Result (String Global) E → ArgFault → Type 0
+TellsFaultText kind (Ok text) (Help told) = (kind ≡ DisplayHelp) × (told ≡ text)
+TellsFaultText kind (Ok text) (Usage told) = (kind ≢ DisplayHelp) × (told ≡ text)
+TellsFaultText kind (Ok text) Memory = ⊥
+TellsFaultText kind (Ok text) (BadMacro word) = ⊥
+TellsFaultText kind (Err fault) told = told ≡ Memory

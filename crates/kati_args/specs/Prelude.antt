@@ -2,6 +2,6 @@
 -- nothing.
 pub use Rattle.clap.specs.Words.{fault_of, matches_of, new_rule, takes, with_rule}
 pub use Rattle.kati_args.specs.declared.args.Args.{Args}
-pub use Rattle.kati_args.specs.declared.args.Macro.{Macro}
+pub use Rattle.kati_args.specs.declared.args.MacroWord.{MacroWord}
 pub use Rattle.kati_args.specs.declared.fault.ArgFault.{ArgFault}
 pub use Rattle.kt_text.specs.Words.{Text, is_equals, is_separator}

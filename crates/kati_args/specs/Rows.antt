@@ -1,26 +1,27 @@
 -- Worked command lines, as facts that compute. The forms of options are those of clap.
 use Rattle.std.specs.Prelude.{◌≡◌, ⊤, List, [], ◌∷◌, Option, Some, None, Result, Ok, Err, if◌then◌else◌, codes}
-use Rattle.kati_args.specs.Prelude.{Text, fault_of, matches_of, takes, Args, Macro, ArgFault}
+use Rattle.kati_args.specs.Prelude.{Text, fault_of, matches_of, takes, Args, MacroWord, ArgFault}
 use Rattle.clap.specs.declared.error.kind.ErrorKind.TheVariants.{ArgumentConflict, DisplayHelp, InvalidValue}
 use Rattle.clap.specs.declared.error.kind.ErrorKind.TheVariants.{TooManyValues, UnknownArgument, ValueValidation}
 use Rattle.kati_args.specs.declared.fault.ArgFault.TheVariants.{Memory, Usage}
 use Rattle.kati_args.specs.Args.{AnswersWords, answer_to, kati_app}
 
 -- the words of a command line, after the program's name
-abbrev pub line : List Text → List Text
-line words = codes "kati" ∷ words
+abbrev pub program_words : List Text → List Text
+program_words words = codes "kati" ∷ words
 
 -- what is returned for words that clap takes
 abbrev pub asked : List Text → Option (Result Args Text)
-asked words = if takes kati_app (line words) then Some (answer_to (matches_of kati_app (line words))) else None
+asked words =
+    if takes kati_app (program_words words) then Some (answer_to (matches_of kati_app (program_words words))) else None
 
 abbrev pub plain : Args
 plain = record { makefile = None; files = None; check = None; limit = 100; goals = []; macros = [] }
 
-abbrev pub macro : Text → Text → Macro
+abbrev pub macro : Text → Text → MacroWord
 macro name value = record { name = name; value = value }
 
-pub record RowsOfLines : Type 0 where
+pub record RowsOfWords : Type 0 where
   pub nothing : asked [] ≡ Some (Ok plain)
   pub usual : asked (codes "-f" ∷ codes "lib.mk" ∷ codes "CC=clang" ∷ codes "all" ∷ [])
       ≡ Some (Ok (record plain {
@@ -45,13 +46,14 @@ pub record RowsOfLines : Type 0 where
 
 -- words that clap doesn't take, and why
 pub record RowsOfFaults : Type 0 where
-  pub help : fault_of kati_app (line (codes "t" ∷ codes "--help" ∷ [])) ≡ DisplayHelp ∷ []
-  pub short_help : fault_of kati_app (line (codes "-h" ∷ codes "--nothing" ∷ [])) ≡ DisplayHelp ∷ []
-  pub unknown : fault_of kati_app (line (codes "--nothing" ∷ codes "--help" ∷ [])) ≡ UnknownArgument ∷ []
-  pub no_value : fault_of kati_app (line (codes "-f" ∷ codes "--ninja" ∷ [])) ≡ InvalidValue ∷ []
-  pub again : fault_of kati_app (line (codes "-f" ∷ codes "m" ∷ codes "-f" ∷ codes "m" ∷ [])) ≡ ArgumentConflict ∷ []
-  pub value : fault_of kati_app (line (codes "--ninja=x" ∷ [])) ≡ TooManyValues ∷ []
-  pub too_deep : fault_of kati_app (line (codes "A:=x" ∷ codes "--depth=401" ∷ [])) ≡ ValueValidation ∷ []
+  pub help : fault_of kati_app (program_words (codes "t" ∷ codes "--help" ∷ [])) ≡ DisplayHelp ∷ []
+  pub short_help : fault_of kati_app (program_words (codes "-h" ∷ codes "--nothing" ∷ [])) ≡ DisplayHelp ∷ []
+  pub unknown : fault_of kati_app (program_words (codes "--nothing" ∷ codes "--help" ∷ [])) ≡ UnknownArgument ∷ []
+  pub no_value : fault_of kati_app (program_words (codes "-f" ∷ codes "--ninja" ∷ [])) ≡ InvalidValue ∷ []
+  pub again : fault_of kati_app (program_words (codes "-f" ∷ codes "m" ∷ codes "-f" ∷ codes "m" ∷ []))
+      ≡ ArgumentConflict ∷ []
+  pub value : fault_of kati_app (program_words (codes "--ninja=x" ∷ [])) ≡ TooManyValues ∷ []
+  pub too_deep : fault_of kati_app (program_words (codes "A:=x" ∷ codes "--depth=401" ∷ [])) ≡ ValueValidation ∷ []
 
 -- usage, or that there isn't memory enough
 abbrev pub IsUsage : Result Args ArgFault → Type 0
@@ -61,7 +63,7 @@ IsUsage result = ⊥
 
 -- nothing else may be returned for the words
 abbrev pub AsksUsage : List Text → Type 0
-AsksUsage words = (result : Result Args ArgFault) → AnswersWords (line words) result → IsUsage result
+AsksUsage words = (result : Result Args ArgFault) → AnswersWords (program_words words) result → IsUsage result
 
 pub record RowsOfUsage : Type 0 where
   pub unknown : AsksUsage (codes "--nothing" ∷ [])

@@ -3,13 +3,13 @@ use crate::word::Word;
 use kt_list::{Sequence, Text};
 
 /// The bytes of a name.
-pub type Name = Text;
+pub type GivenName = Text;
 
 /// A macro of the command line.
 #[derive(Debug, Drop)]
-pub struct Macro {
+pub struct MacroWord {
     /// What stands before the first equals sign.
-    pub name: Name,
+    pub name: GivenName,
     /// All that stands after it.
     pub value: Text,
 }
@@ -26,7 +26,7 @@ pub struct Args {
     /// How many levels of macros and includes are followed: 100, or what `--depth` says.
     pub limit: u64,
     /// The targets to be made, in their order.
-    pub goals: Sequence<Name>,
+    pub goals: Sequence<GivenName>,
     /// The macros, in their order. Of two of one name the later counts.
-    pub macros: Sequence<Macro>,
+    pub macros: Sequence<MacroWord>,
 }

@@ -1,7 +1,7 @@
 //! From the words to what they ask for.
 ghost use Rattle.std.specs.Prelude.{◌≡◌, ◌≤◌, IfOk, IfSome, codes, map, option_map, string_bytes, unwrap_or};
 ghost use Rattle.clap.specs.Words.{HasKind, IsUnsignedIn, fault_of, first_value, found_of, rows_of};
-ghost use Rattle.kati_args.specs.Args.{AnswersWords, AnswersFound, ReportsError, TellsText, number_in, words_in};
+ghost use Rattle.kati_args.specs.Args.{AnswersWords, AnswersFound, ReportsError, TellsFaultText, number_in, words_in};
 
 use crate::args::Args;
 use crate::fault::ArgFault;
@@ -79,7 +79,7 @@ fn fault_of(alloc: Global, error: &Error) -> ArgFault
 
 // The fault of a kind, with the text that was made of it. Where none could be made, memory ran out.
 fn told(kind: ErrorKind, text: Result<String, AllocError>) -> ArgFault
-    ensures { TellsText kind text result }
+    ensures { TellsFaultText kind text result }
 {
     match text {
         Ok(text) if kind == ErrorKind::DisplayHelp => ArgFault::Help(text),

@@ -1,9 +1,9 @@
 //! Laws of the definitions. These functions do nothing: their contracts are what counts.
-ghost use Rattle.kati_args.specs.Rows.{RowsOfFaults, RowsOfLines, RowsOfUsage};
+ghost use Rattle.kati_args.specs.Rows.{RowsOfFaults, RowsOfUsage, RowsOfWords};
 
 /// Worked command lines.
 pub fn rows_of_lines()
-    ensures { RowsOfLines }
+    ensures { RowsOfWords }
 {}
 
 /// Worked command lines that ask for nothing.

@@ -10,7 +10,7 @@ mod matching;
 mod word;
 mod words;
 
-pub use args::{Args, Macro, Name};
+pub use args::{Args, GivenName, MacroWord};
 pub use asking::args_of;
 pub use fault::ArgFault;
 pub use word::Word;

@@ -2,17 +2,17 @@
 ghost use Rattle.std.specs.Prelude.{◌≡◌, IfOk, MatchOption, false, find, map, option_map, true};
 ghost use Rattle.std.specs.List.{after_first, list_any};
 ghost use Rattle.kt_text.specs.Words.{is_equals, is_separator};
-ghost use Rattle.kati_args.specs.Args.{ends_in_operator, goals_in, is_bad_macro, is_bad_name, is_macro};
-ghost use Rattle.kati_args.specs.Args.{is_operator, macros_in, name_in};
+ghost use Rattle.kati_args.specs.Args.{ends_in_operator, goals_in, is_bad_macro, is_bad_macro_name, is_macro};
+ghost use Rattle.kati_args.specs.Args.{is_operator, macros_in, name_before_equals};
 
-use crate::args::{Macro, Name};
+use crate::args::{GivenName, MacroWord};
 use kt_list::Sequence;
 use std::alloc::{AllocError, Global};
 
 /// What stands before the first equals sign of a word, and what stands after it.
 fn split(word: &str) -> Option<(&str, &str)>
     ensures { MatchOption result (is_macro word.now ≡ false)
-        (λ cut. (is_macro word.now ≡ true) × (cut.0.now ≡ name_in word.now)
+        (λ cut. (is_macro word.now ≡ true) × (cut.0.now ≡ name_before_equals word.now)
         × (cut.1.now ≡ after_first is_equals word.now)) }
 {
     word.split_once('=')
@@ -43,7 +43,7 @@ fn ends_in_operator(name: &[u8]) -> bool
 
 /// Whether no macro can have the name.
 fn is_bad(name: &[u8]) -> bool
-    ensures { result ≡ is_bad_name name.now }
+    ensures { result ≡ is_bad_macro_name name.now }
 {
     name.is_empty() || has_separator(name) || ends_in_operator(name)
 }
@@ -69,14 +69,14 @@ pub(crate) fn first_bad<'w>(words: &[&'w str]) -> Option<&'w str>
     None
 }
 
-fn name_of(alloc: Global, text: &str) -> Result<Name, AllocError>
+fn name_of(alloc: Global, text: &str) -> Result<GivenName, AllocError>
     ensures { IfOk result (λ name. name ≡ text.now) }
 {
-    Name::copied(alloc, text.as_bytes())
+    GivenName::copied(alloc, text.as_bytes())
 }
 
 /// The words without an equals sign, which are targets.
-pub(crate) fn goals_in(alloc: Global, words: &[&str]) -> Result<Vec<Name>, AllocError>
+pub(crate) fn goals_in(alloc: Global, words: &[&str]) -> Result<Vec<GivenName>, AllocError>
     ensures { IfOk result (λ goals. goals.items ≡ goals_in (map (λ word. word.now) words.now)) }
 {
     let mut goals = Vec::new(alloc);
@@ -88,17 +88,17 @@ pub(crate) fn goals_in(alloc: Global, words: &[&str]) -> Result<Vec<Name>, Alloc
     Ok(goals)
 }
 
-fn macro_of(alloc: Global, name: &str, value: &str) -> Result<Macro, AllocError>
+fn macro_of(alloc: Global, name: &str, value: &str) -> Result<MacroWord, AllocError>
     ensures { IfOk result (λ made. (made.name ≡ name.now) × (made.value ≡ value.now)) }
 {
-    Ok(Macro {
+    Ok(MacroWord {
         name: name_of(alloc, name)?,
         value: name_of(alloc, value)?,
     })
 }
 
 /// The words with an equals sign, cut at the first.
-pub(crate) fn macros_in(alloc: Global, words: &[&str]) -> Result<Vec<Macro>, AllocError>
+pub(crate) fn macros_in(alloc: Global, words: &[&str]) -> Result<Vec<MacroWord>, AllocError>
     ensures { IfOk result (λ macros. macros.items ≡ macros_in (map (λ word. word.now) words.now)) }
 {
     let mut macros = Vec::new(alloc);

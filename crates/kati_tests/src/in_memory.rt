@@ -2,7 +2,7 @@
 //! store that agrees with the answers speak of theirs.
 ghost use Rattle.std.specs.Prelude.{IfOk};
 ghost use Rattle.kt_eval.specs.files.Memory.{seen_of};
-ghost use Rattle.kt_ninja.specs.Memory.{seen_of as sink_seen_of};
+ghost use Rattle.kt_ninja.specs.Memory.{sink_seen_of};
 ghost use Rattle.kati.specs.AfterRun.{Leaves, Translates};
 ghost use Rattle.kati.specs.Devices.{devices};
 

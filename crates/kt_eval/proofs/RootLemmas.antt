@@ -2,7 +2,7 @@
 use Rattle.std.proofs.Common.{◌≡◌, ℕ, zero, suc, List, [], ◌∷◌, None, drop, refl, sym}
 use Rattle.kt_eval.proofs.Common.{slice_get, none, levels_from, left_at}
 use Rattle.std.proofs.lemmas.Option.{none-some}
-use Rattle.kt_syntax.specs.declared.step.Step.{Step as Found}
+use Rattle.kt_syntax.specs.declared.step.BlockStep.{BlockStep as Found}
 
 nothing_left : (steps : List Found) (place : ℕ) → drop place steps ≡ [] → left_at steps place ≡ none
 unfolding left_at levels_from

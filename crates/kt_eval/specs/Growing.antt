@@ -1,6 +1,6 @@
 -- What expanding and reading never remove, and what a larger limit of levels changes.
 use Rattle.std.specs.Prelude.{◌≡◌, ℕ, suc}
-use Rattle.kt_eval.specs.Prelude.{IsPrefix, World, Outcome, Gave, Stopped, StepOver, left_of, Step}
+use Rattle.kt_eval.specs.Prelude.{IsPrefix, World, StepEnd, Gave, Stopped, StepOver, left_of, Step}
 
 -- messages and the names asked for are only added to
 abbrev pub Grows : World → World → Type 0
@@ -11,7 +11,7 @@ abbrev pub TakesNothingBack : {A : Type 0} → Step A → Type 0
 TakesNothingBack step = (w : World) → Grows w (left_of (step w))
 
 -- the fault of nesting that is too deep (E08)
-abbrev pub IsTooDeep : {L A : Type 0} → Outcome L A → Type 0
+abbrev pub IsTooDeep : {L A : Type 0} → StepEnd L A → Type 0
 IsTooDeep (Gave left x) = ⊥
 IsTooDeep (Stopped left fault) = fault.number ≡ 8
 

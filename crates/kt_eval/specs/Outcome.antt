@@ -6,21 +6,21 @@ use Rattle.kt_eval.specs.declared.stop.Stop.{Stop}
 use Rattle.kt_eval.specs.declared.stop.Stop.TheVariants as stops
 
 -- how a step ends that leaves an L and returns an A
-pub data Outcome (L A : Type 0) : Type 0 where
-  Gave : (left : L) (value : A) → Outcome L A
-  Stopped : (left : L) (fault : Fault) → Outcome L A
+pub data StepEnd (L A : Type 0) : Type 0 where
+  Gave : (left : L) (value : A) → StepEnd L A
+  Stopped : (left : L) (fault : Fault) → StepEnd L A
 
 -- what it leaves
-abbrev pub left_of : {L A : Type 0} → Outcome L A → L
+abbrev pub left_of : {L A : Type 0} → StepEnd L A → L
 left_of (Gave left x) = left
 left_of (Stopped left fault) = left
 
 -- a step, given what was left before it
 abbrev pub StepOver : Type 0 → Type 0 → Type 0
-StepOver L A = L → Outcome L A
+StepOver L A = L → StepEnd L A
 
 -- one step after another; a fault ends them all
-abbrev pub then_do : {L A B : Type 0} → Outcome L A → (A → StepOver L B) → Outcome L B
+abbrev pub then_do : {L A B : Type 0} → StepEnd L A → (A → StepOver L B) → StepEnd L B
 then_do (Gave left x) next = next x left
 then_do (Stopped left fault) next = Stopped left fault
 
@@ -41,28 +41,28 @@ abbrev pub stop_at : {L A : Type 0} → Fault → StepOver L A
 stop_at fault left = Stopped left fault
 
 -- the same outcome, with what a caller sees of what is left
-abbrev pub leaving : {L M A : Type 0} → (L → M) → Outcome L A → Outcome M A
+abbrev pub leaving : {L M A : Type 0} → (L → M) → StepEnd L A → StepEnd M A
 leaving see (Gave left x) = Gave (see left) x
 leaving see (Stopped left fault) = Stopped (see left) fault
 
 -- ---- what a call returned
 
 -- `R` allows for `x` that a call was stopped and left this; if memory ran out or a device failed, this says nothing
-abbrev pub Stops : {X L A : Type 0} → (X → Outcome L A → Type 0) → X → Stop → L → Type 0
+abbrev pub Stops : {X L A : Type 0} → (X → StepEnd L A → Type 0) → X → Stop → L → Type 0
 Stops R x (stops.Fault fault) left = R x (Stopped left fault)
 Stops R x (stops.Device name) left = Unit {0}
 Stops R x stops.Memory left = Unit {0}
 
 -- the same for any call, with a value seen by `see`
-abbrev pub Ends : {X L A B : Type 0} → (X → Outcome L B → Type 0) → X → (A → B) → Result A Stop → L → Type 0
+abbrev pub Ends : {X L A B : Type 0} → (X → StepEnd L B → Type 0) → X → (A → B) → Result A Stop → L → Type 0
 Ends R x see (Ok value) left = R x (Gave left (see value))
 Ends R x see (Err stop) left = Stops R x stop left
 
 -- what it returned and left is this outcome
-abbrev pub Fails : {L A : Type 0} → Stop → L → Outcome L A → Type 0
+abbrev pub Fails : {L A : Type 0} → Stop → L → StepEnd L A → Type 0
 Fails stop left outcome = Stops ◌≡◌ outcome stop left
 
-abbrev pub Gives : {L A B : Type 0} → (A → B) → Result A Stop → L → Outcome L B → Type 0
+abbrev pub Gives : {L A B : Type 0} → (A → B) → Result A Stop → L → StepEnd L B → Type 0
 Gives see result left outcome = Ends ◌≡◌ outcome see result left
 
 -- this holds if memory ran out or a device failed

@@ -1,20 +1,20 @@
 -- Worked values of expansion, as facts that compute. The texts are of the GNU make manual's sections on variables and
 -- functions, and of kati's own rules where it has some.
 use Rattle.std.specs.Prelude.{◌≡◌, ℕ, List, [], ◌∷◌, Option, Some, None, codes}
-use Rattle.kt_eval.specs.Prelude.{Text, Place, Fault, Deferred, Immediate, Macro, Table, assigning, keeps, defers}
-use Rattle.kt_eval.specs.Prelude.{expands, set_by_makefile, Outcome, Gave, Stopped, fault_at, Store}
+use Rattle.kt_eval.specs.Prelude.{Text, Place, Fault, Deferred, Immediate, Macro, Macros, assigning, keeps, defers}
+use Rattle.kt_eval.specs.Prelude.{expands, set_by_makefile, StepEnd, Gave, Stopped, fault_at, Store}
 use Rattle.kt_syntax.specs.declared.form.Operator.TheVariants as operator
 use Rattle.kt_eval.specs.declared.macros.Origin.TheVariants.{CommandLine}
 use Rattle.kt_eval.specs.reading.Conditions.{compared_of}
 use Rattle.kt_eval.specs.expanding.Pure.{expanded_pure}
-use Rattle.kt_eval.specs.reading.Machine.{Trace, traced, Read, read_of, reading}
+use Rattle.kt_eval.specs.reading.Machine.{Trace, traced, Makefile, read_of, reading}
 
 -- a text expanded as in a recipe, with a given number of levels
-abbrev pub comes_to : Table → ℕ → Text → Outcome (List Text) Text
+abbrev pub comes_to : Macros → ℕ → Text → StepEnd (List Text) Text
 comes_to table limit text = expanded_pure table [] None limit text []
 
 -- the same with an automatic macro `@` whose value is `t`
-abbrev pub comes_to_at : Table → ℕ → Text → Outcome (List Text) Text
+abbrev pub comes_to_at : Macros → ℕ → Text → StepEnd (List Text) Text
 comes_to_at table limit text = expanded_pure table ((codes "@", codes "t") ∷ []) None limit text []
 
 abbrev pub deferred : Text → Text → Text × Macro
@@ -75,7 +75,7 @@ pub record RowsOfAssignments : Type 0 where
   pub unclosed : compared_of (codes "($(a,b)") ≡ None
 
 -- what is seen of a reading: its messages, the names asked for, and the fault, if there is one
-abbrev pub heard_of : Outcome Trace Read → List Text × (List Text × Option Fault)
+abbrev pub heard_of : StepEnd Trace Makefile → List Text × (List Text × Option Fault)
 heard_of (Gave trace read) = (trace.said, (trace.asked, None))
 heard_of (Stopped trace fault) = (trace.said, (trace.asked, Some fault))
 

@@ -4,7 +4,7 @@ use Rattle.kt_list.specs.Counters.{Rises}
 use Rattle.kt_text.specs.Words.{Text}
 use Rattle.kt_rules.specs.declared.fault_kind.FaultKind.{FaultKind}
 use Rattle.kt_rules.specs.declared.place.Place.{Place}
-use Rattle.kt_rules.specs.FaultKinds.{number_of, words_with}
+use Rattle.kt_rules.specs.FaultKinds.{fault_kind_number, words_with}
 use Rattle.kt_eval.specs.declared.fault.Fault.{Fault}
 use Rattle.kt_eval.specs.declared.stop.Stop.{Stop}
 use Rattle.kt_eval.specs.declared.stop.Stop.TheVariants as stops
@@ -15,14 +15,14 @@ use Rattle.kt_eval.specs.State.{World}
 
 -- what is seen of an evaluation: its world, what each read of a file answered, how often a read failed, and the
 -- reference by which it holds the files
-pub record Seen : Type 0 where
+pub record Evaluation : Type 0 where
   pub world : World
   pub answers : List Answer
   pub failed : ℕ
   pub lender : ℕ
 
 -- what is seen of its files
-abbrev pub files_of : Seen → FilesSeen
+abbrev pub files_of : Evaluation → FilesSeen
 files_of e = record { answers = e.answers; names = e.world.asked; failed = e.failed }
 
 -- the lists that reading and expanding only add to: the messages, and the names asked for
@@ -44,7 +44,7 @@ GoesOn old new =
     × ((of : Trail) (count : ℕ) → count ≤ length (trail of old) → take count (trail of new) ≡ take count (trail of old))
 
 -- the files are the same; answers, failures, messages and names asked for are only added to
-abbrev pub Keeps : Seen → Seen → Type 0
+abbrev pub Keeps : Evaluation → Evaluation → Type 0
 Keeps old new =
     AnswersGrow old.answers new.answers × (new.lender ≡ old.lender) × (old.failed ≤ new.failed)
     × GoesOn old.world new.world
@@ -57,7 +57,7 @@ fault_at place number words = record { place = place; number = number; words = w
 
 -- a fault of this kind about this name, or about none if it is empty
 abbrev pub fault_of : Option Place → FaultKind → Text → Fault
-fault_of place kind name = fault_at place (number_of kind) (words_with kind name)
+fault_of place kind name = fault_at place (fault_kind_number kind) (words_with kind name)
 
 -- such a fault at the world's current place
 abbrev pub stop : {A : Type 0} → FaultKind → Text → Step A

@@ -1,7 +1,7 @@
 //! An evaluation in progress: what it knows, and the small steps that change it.
 ghost use Rattle.std.specs.Prelude.{◌≡◌, ◌++◌, ◌≤◌, IfOk, OnErr, OnOk, None, drop, option_map, true};
 ghost use Rattle.kt_syntax.specs.Terms.{token_of};
-ghost use Rattle.kt_eval.specs.State.{innermost, lookup};
+ghost use Rattle.kt_eval.specs.State.{innermost_value, lookup};
 ghost use Rattle.kt_eval.specs.inner.Plain.{left_by, put_by, put_of, still_deferred};
 
 use crate::expanding::calls::names_plainly;
@@ -9,11 +9,11 @@ use crate::expanding::frames::innermost;
 use crate::fault::{Fault, append_place};
 use crate::files::{FileFault, Files};
 use crate::macros::assigning::{Assigning, assignment_of};
-use crate::macros::scope::Scope;
+use crate::macros::scope::MacroScope;
 use crate::macros::{Flavour, Macro};
 use crate::reading::page::{Page, RawLine, Source};
 use crate::reading::recipe_texts::RecipeTexts;
-use crate::state::{Found, Frame, Left};
+use crate::state::{FoundValue, Frame, TermRest};
 use crate::stop::Stop;
 use crate::value::Value;
 use kt_list::{Sequence, Shared};
@@ -26,7 +26,7 @@ use std::marker::Model;
 
 /// The state of an evaluation.
 #[derive(Drop)]
-pub(crate) struct Evaluation<'a, M: Scope, F: Files> {
+pub(crate) struct Evaluation<'a, M: MacroScope, F: Files> {
     pub(crate) alloc: Global,
     pub(crate) macros: M,
     pub(crate) frames: Vec<Frame>,
@@ -38,11 +38,11 @@ pub(crate) struct Evaluation<'a, M: Scope, F: Files> {
     pub(crate) files: &'a mut F,
 }
 
-impl<'a, M: Scope, F: Files> Model for Evaluation<'a, M, F> {
+impl<'a, M: MacroScope, F: Files> Model for Evaluation<'a, M, F> {
     ghost use Rattle.kt_eval.specs.State.{World};
-    ghost use Rattle.kt_eval.specs.Step.{Seen};
+    ghost use Rattle.kt_eval.specs.Step.{Evaluation};
 
-    ghost Value = { Seen };
+    ghost Value = { Evaluation };
 
     ghost view = { λ s. record {
       world = record {
@@ -61,7 +61,7 @@ impl<'a, M: Scope, F: Files> Model for Evaluation<'a, M, F> {
     } };
 }
 
-impl<'a, M: Scope, F: Files> Evaluation<'a, M, F> {
+impl<'a, M: MacroScope, F: Files> Evaluation<'a, M, F> {
     ghost use Rattle.std.specs.Prelude.{codes, Option, List, ℕ};
     ghost use Rattle.kt_text.specs.Words.{Text};
     ghost use Rattle.kt_text.specs.Functions.{Answers};
@@ -73,11 +73,11 @@ impl<'a, M: Scope, F: Files> Evaluation<'a, M, F> {
 
     // The flavour and value of a name.
     #[tactic(auto, unfolding(crate::specs::State::lookup))]
-    pub(crate) fn lookup(&self, name: &[u8]) -> Result<Option<Found>, AllocError>
+    pub(crate) fn lookup(&self, name: &[u8]) -> Result<Option<FoundValue>, AllocError>
         ensures { IfOk result (λ found. found ≡ lookup name.now self.now.world) }
     {
         match innermost(&self.frames, name) {
-            Some(value) => Ok(Some(Found {
+            Some(value) => Ok(Some(FoundValue {
                 flavour: Flavour::Immediate,
                 value: Value::copied(self.alloc, value)?,
             })),
@@ -110,7 +110,7 @@ impl<'a, M: Scope, F: Files> Evaluation<'a, M, F> {
         below: u64,
         term: Result<Term<'_>, Unterminated>,
         out: &mut Vec<u8>,
-    ) -> Result<Left, AllocError>
+    ) -> Result<TermRest, AllocError>
         ensures put { OnOk result (out.new.items
             ≡ out.old.items ++ put_by below (token_of term.entry) self.now.world) }
         ensures left { IfOk result (λ left. left ≡ left_by below (token_of term.entry) self.now.world) }
@@ -118,22 +118,22 @@ impl<'a, M: Scope, F: Files> Evaluation<'a, M, F> {
         match term {
             Ok(Term::Lit(bytes)) => {
                 out.extend_from_slice(bytes)?;
-                Ok(Left::Nothing)
+                Ok(TermRest::Nothing)
             }
             Ok(Term::Dollar) => {
                 out.extend_from_slice(b"$")?;
-                Ok(Left::Nothing)
+                Ok(TermRest::Nothing)
             }
             Ok(Term::Ref(mark, body)) => {
                 if !names_plainly(mark, body) {
-                    return Ok(Left::Whole);
+                    return Ok(TermRest::Whole);
                 }
                 match self.put_value(below, body, out)? {
-                    Some(value) => Ok(Left::Value(value)),
-                    None => Ok(Left::Nothing),
+                    Some(value) => Ok(TermRest::Value(value)),
+                    None => Ok(TermRest::Nothing),
                 }
             }
-            Err(Unterminated) => Ok(Left::Whole),
+            Err(Unterminated) => Ok(TermRest::Whole),
         }
     }
 
@@ -224,7 +224,7 @@ impl<'a, M: Scope, F: Files> Evaluation<'a, M, F> {
     }
 }
 
-impl<'a, M: Scope, F: Files> Evaluation<'a, M, F> {
+impl<'a, M: MacroScope, F: Files> Evaluation<'a, M, F> {
     ghost use Rattle.kt_eval.specs.reading.Reading.{at_line, at_number, line_at, read_bytes};
     ghost use Rattle.kt_syntax.specs.Recipes.{recipe_of};
     ghost use Rattle.kt_eval.specs.reading.Rules.{close_rule, enter_rule, open_rule, recipe_line, rule_place};

@@ -12,6 +12,6 @@ mod pure;
 mod sole;
 mod text_functions;
 
-pub use calls::{Asked, names_plainly};
+pub use calls::{Request, names_plainly};
 pub use function::Function;
 pub use text_functions::text_result;

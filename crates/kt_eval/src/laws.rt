@@ -13,7 +13,7 @@ ghost use Rattle.kt_eval.specs.files.Agreement.{MemoryAgrees, SteadyAgree};
 ghost use Rattle.kt_eval.specs.files.Files.{Store};
 ghost use Rattle.kt_eval.specs.Growing.{StaysOneDeeper, TakesNothingBack};
 ghost use Rattle.kt_eval.specs.expanding.Levels.{evaluator};
-ghost use Rattle.kt_eval.specs.reading.Reading.{Sheet, read_first, read_items, read_text};
+ghost use Rattle.kt_eval.specs.reading.Reading.{Page, read_first, read_items, read_text};
 ghost use Rattle.kt_eval.specs.Rows.{RowsOfAssignments, RowsOfCalls, RowsOfReading, RowsOfReferences};
 
 /// Worked values of references.
@@ -45,7 +45,7 @@ pub fn nothing_is_taken_back()
         → TakesNothingBack (apply (evaluator reads store levels) function arguments) }
     ensures reading { (reads : Bool) (store : Store) (levels : ℕ) (names : List Text)
         → TakesNothingBack (read_first store (evaluator reads store levels) names) }
-    ensures tree { (reads : Bool) (store : Store) (levels : ℕ) (sheet : Sheet) (items : Items)
+    ensures tree { (reads : Bool) (store : Store) (levels : ℕ) (sheet : Page) (items : Items)
         → TakesNothingBack (read_items (evaluator reads store levels) sheet items) }
     ensures text { (reads : Bool) (store : Store) (levels : ℕ) (source : Source) (text : Text)
         → TakesNothingBack (read_text (evaluator reads store levels) source text) }
@@ -60,7 +60,7 @@ pub fn one_deeper()
         → StaysOneDeeper (λ levels. apply (evaluator reads store levels) function arguments) }
     ensures reading { (reads : Bool) (store : Store) (names : List Text)
         → StaysOneDeeper (λ levels. read_first store (evaluator reads store levels) names) }
-    ensures tree { (reads : Bool) (store : Store) (sheet : Sheet) (items : Items)
+    ensures tree { (reads : Bool) (store : Store) (sheet : Page) (items : Items)
         → StaysOneDeeper (λ levels. read_items (evaluator reads store levels) sheet items) }
     ensures text { (reads : Bool) (store : Store) (source : Source) (text : Text)
         → StaysOneDeeper (λ levels. read_text (evaluator reads store levels) source text) }

@@ -12,7 +12,7 @@ mod state;
 mod stop;
 mod value;
 
-pub use expanding::{Asked, Function, names_plainly, text_result};
+pub use expanding::{Function, Request, names_plainly, text_result};
 pub use fault::Fault;
 pub use files::{FileFault, Files, LARGEST_FILE, MemFiles};
 pub use kt_text::functions::TextFunction;

@@ -12,7 +12,7 @@ mod assignments;
 pub(crate) mod automatic;
 pub(crate) mod scope;
 
-use crate::state::Found;
+use crate::state::FoundValue;
 use crate::value::Value;
 pub use automatic::{Automatic, NoAutomatic};
 use indexmap::IndexMap;
@@ -90,10 +90,10 @@ impl Macro {
     }
 
     // The flavour and value of the macro; the value is shared, not copied.
-    pub(crate) fn found(&self) -> Result<Found, AllocError>
+    pub(crate) fn found(&self) -> Result<FoundValue, AllocError>
         ensures { IfOk result (λ found. found ≡ found_of self.now) }
     {
-        Ok(Found {
+        Ok(FoundValue {
             flavour: self.flavour,
             value: self.value.share()?,
         })
@@ -124,9 +124,9 @@ pub struct Macros {
 }
 
 impl Model for Macros {
-    ghost use Rattle.kt_eval.specs.macros.Macros.{Table};
+    ghost use Rattle.kt_eval.specs.macros.Macros.{Macros};
 
-    ghost Value = { Table };
+    ghost Value = { Macros };
 
     ghost view = { λ s. s.entries.entries };
 }
@@ -153,7 +153,7 @@ impl Macros {
     }
 
     // The flavour and value of a name; the value is shared, not copied.
-    pub(crate) fn found(&self, name: &[u8]) -> Result<Option<Found>, AllocError>
+    pub(crate) fn found(&self, name: &[u8]) -> Result<Option<FoundValue>, AllocError>
         ensures { IfOk result (λ found. found ≡ option_map found_of (find name.now self.now)) }
     {
         match self.get(name) {

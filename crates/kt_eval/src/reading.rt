@@ -4,10 +4,10 @@
 //! includes a file, or chooses a branch. Returns macros, rules and messages, or the first fault.
 ghost use Rattle.std.specs.Prelude.{◌≡◌, ◌<◌, ◌≤◌, ◌+◌, length, option_map, IfErr, IfOk, Some, false, true};
 ghost use Rattle.std.specs.List.{slice_get, slice_range};
-ghost use Rattle.kt_syntax.specs.Kinds.{kind_of, kind_view, line_kind};
+ghost use Rattle.kt_syntax.specs.Kinds.{form_of, line_form, line_form_view};
 ghost use Rattle.kt_syntax.specs.Blocks.{tree_of};
 ghost use Rattle.kt_syntax.specs.Reading.{IsAhead, IsConditional, ReadsOn, left_at};
-ghost use Rattle.kt_syntax.specs.declared.step.Step.TheVariants as step;
+ghost use Rattle.kt_syntax.specs.declared.step.BlockStep.TheVariants as step;
 ghost use Rattle.kt_eval.specs.expanding.Levels.{evaluator};
 ghost use Rattle.kt_eval.specs.reading.Reading.{branch_holds, line_at, read_bare_tab, read_define, read_end, read_held};
 ghost use Rattle.kt_eval.specs.reading.Reading.{read_include, read_items, read_kind, read_line, read_sheet, read_stray};
@@ -30,19 +30,19 @@ pub(crate) mod recipe_texts;
 use crate::evaluation::Evaluation;
 use crate::fault::Fault;
 use crate::files::Files;
-use crate::macros::scope::Scope;
+use crate::macros::scope::MacroScope;
 use crate::reading::page::{Page, RawLine, Source};
 use crate::stop::Stop;
 use kt_rules::FaultKind;
 use kt_syntax::{
-    Directive, Form, LineText, Missing, Operator, Step, Stray, TargetSpecific, classify,
+    BlockStep, Directive, Form, LineText, Missing, Operator, Stray, TargetSpecific, classify,
     classify_text, plain, rule_parts,
 };
 use kt_text::{LineFault, line_marks};
 pub use machine::{Machine, Reading};
 use std::alloc::AllocError;
 
-impl<'a, M: Scope, F: Files> Evaluation<'a, M, F> {
+impl<'a, M: MacroScope, F: Files> Evaluation<'a, M, F> {
     // Fails if the end of a block is missing.
     #[tactic(auto, using(crate::proofs::Steps::read_end_goes), unfolding(crate::specs::reading::Reading::read_end))]
     fn read_end(&mut self, source: &Source, missing: Option<Missing>) -> Result<(), Stop>
@@ -143,7 +143,7 @@ impl<'a, M: Scope, F: Files> Evaluation<'a, M, F> {
         below: u64,
         page: &Page<'_>,
         place: usize,
-        step: Step,
+        step: BlockStep,
     ) -> Result<usize, Stop>
         requires writable { M.writable ≡ true }
         requires step { slice_get page.now.blocks.steps place ≡ Some step }
@@ -174,7 +174,7 @@ impl<'a, M: Scope, F: Files> Evaluation<'a, M, F> {
         below: u64,
         page: &Page<'_>,
         place: usize,
-        step: Step,
+        step: BlockStep,
     ) -> Result<usize, Stop>
         requires writable { M.writable ≡ true }
         requires step { slice_get page.now.blocks.steps place ≡ Some step }
@@ -194,23 +194,23 @@ impl<'a, M: Scope, F: Files> Evaluation<'a, M, F> {
         ensures blames { Blames result (files_of self.old) (files_of self.new) }
     {
         match step {
-            Step::Line => {
+            BlockStep::Line => {
                 let line = self.at_line(page, place)?;
                 self.read_line(below, line)?;
                 Ok(page.past(place))
             }
-            Step::Body | Step::Endef | Step::Endif => Ok(page.past(place)),
-            Step::Define { end } => {
+            BlockStep::Body | BlockStep::Endef | BlockStep::Endif => Ok(page.past(place)),
+            BlockStep::Define { end } => {
                 let line = self.at_line(page, place)?;
                 let body = page.body(self.alloc, page.past(place), end)?;
                 self.read_define(below, line.text, &body)?;
                 Ok(end)
             }
-            Step::Conditional { next, after } => {
+            BlockStep::Conditional { next, after } => {
                 self.read_conditional(below, page, place, next, after)
             }
-            Step::Branch { after, .. } => Ok(after),
-            Step::Stray(kind) => {
+            BlockStep::Branch { after, .. } => Ok(after),
+            BlockStep::Stray(kind) => {
                 let _line = self.at_line(page, place)?;
                 Err(Stop::Fault(self.stray(kind)?))
             }
@@ -306,7 +306,7 @@ impl<'a, M: Scope, F: Files> Evaluation<'a, M, F> {
     pub(crate) fn read_bare_tab(&mut self, below: u64, line: &[u8]) -> Result<(), Stop>
         requires { M.writable ≡ true }
         ensures { Does (λ u. u) M.writable below
-            (λ e. read_bare_tab e (line_kind line.now true)) result self.old self.new }
+            (λ e. read_bare_tab e (line_form line.now true)) result self.old self.new }
     {
         let line = LineText::new(self.alloc, line)?;
         self.read_bare_form(below, classify(&line, true))
@@ -317,7 +317,7 @@ impl<'a, M: Scope, F: Files> Evaluation<'a, M, F> {
     pub(crate) fn read_bare_form(&mut self, below: u64, form: Form<'_>) -> Result<(), Stop>
         requires { M.writable ≡ true }
         ensures { Does (λ u. u) M.writable below
-            (λ e. read_bare_tab e (kind_view form.entry)) result self.old self.new }
+            (λ e. read_bare_tab e (line_form_view form.entry)) result self.old self.new }
     {
         match form {
             Form::Blank => Ok(()),
@@ -357,7 +357,7 @@ impl<'a, M: Scope, F: Files> Evaluation<'a, M, F> {
     ) -> Result<(), Stop>
         requires { M.writable ≡ true }
         ensures { Does (λ u. u) M.writable below
-            (λ e. read_kind e line.now (kind_view form.entry)) result self.old self.new }
+            (λ e. read_kind e line.now (line_form_view form.entry)) result self.old self.new }
     {
         match form {
             Form::Blank => Ok(()),
@@ -400,7 +400,7 @@ impl<'a, M: Scope, F: Files> Evaluation<'a, M, F> {
     pub(crate) fn read_define(&mut self, below: u64, line: &[u8], body: &[u8]) -> Result<(), Stop>
         requires { M.writable ≡ true }
         ensures { Does (λ u. u) M.writable below
-            (λ e. read_define e (line_kind line.now false) body.now) result self.old self.new }
+            (λ e. read_define e (line_form line.now false) body.now) result self.old self.new }
     {
         let line = LineText::new(self.alloc, line)?;
         self.read_define_form(below, classify(&line, false), body)
@@ -416,7 +416,7 @@ impl<'a, M: Scope, F: Files> Evaluation<'a, M, F> {
     ) -> Result<(), Stop>
         requires { M.writable ≡ true }
         ensures { Does (λ u. u) M.writable below
-            (λ e. read_define e (kind_view form.entry) body.now) result self.old self.new }
+            (λ e. read_define e (line_form_view form.entry) body.now) result self.old self.new }
     {
         match form {
             Form::Directive(Directive::Define, rest) => {

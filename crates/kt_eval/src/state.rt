@@ -7,14 +7,14 @@ use kt_list::Sequence;
 
 /// The flavour and value of a name while it is used.
 #[derive(Debug, Drop)]
-pub struct Found {
+pub struct FoundValue {
     pub flavour: Flavour,
     pub value: Value,
 }
 
 /// What remains of a term after all that needs no further level was appended.
 #[derive(Debug, Drop)]
-pub(crate) enum Left {
+pub(crate) enum TermRest {
     Nothing,
     /// A value that has to be expanded.
     Value(Value),

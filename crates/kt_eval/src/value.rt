@@ -15,22 +15,22 @@ use std::marker::Model;
 /// A contract sees it as just its bytes.
 #[derive(Debug, Drop)]
 pub struct Value {
-    form: Form,
+    form: ValueStorage,
 }
 
 #[derive(Debug, Drop)]
-enum Form {
+enum ValueStorage {
     Short(ShortText),
     Long(Shared<u8>),
 }
 
 impl Model for Value {
     ghost use Rattle.std.specs.Prelude.{ℕ, List};
-    ghost use Rattle.kt_eval.specs.Values.{value_of};
+    ghost use Rattle.kt_eval.specs.Values.{stored_value};
 
     ghost Value = { List ℕ };
 
-    ghost view = { λ value. value_of value.form };
+    ghost view = { λ value. stored_value value.form };
 }
 
 impl Value {
@@ -40,7 +40,7 @@ impl Value {
     {
         match ShortText::of(bytes) {
             Some(short) => Ok(Value {
-                form: Form::Short(short),
+                form: ValueStorage::Short(short),
             }),
             None => Value::long(Vec::from_slice(alloc, bytes)?),
         }
@@ -52,7 +52,7 @@ impl Value {
     {
         match ShortText::of(bytes.as_slice()) {
             Some(short) => Ok(Value {
-                form: Form::Short(short),
+                form: ValueStorage::Short(short),
             }),
             None => Value::long(bytes),
         }
@@ -73,8 +73,8 @@ impl Value {
         ensures { result.now ≡ self.now }
     {
         match &self.form {
-            Form::Short(short) => short.as_slice(),
-            Form::Long(text) => text.as_slice(),
+            ValueStorage::Short(short) => short.as_slice(),
+            ValueStorage::Long(text) => text.as_slice(),
         }
     }
 
@@ -83,11 +83,11 @@ impl Value {
         ensures { IfOk result (λ value. value ≡ self.now) }
     {
         match &self.form {
-            Form::Short(short) => Ok(Value {
-                form: Form::Short(short.again()),
+            ValueStorage::Short(short) => Ok(Value {
+                form: ValueStorage::Short(short.again()),
             }),
-            Form::Long(text) => Ok(Value {
-                form: Form::Long(text.share()?),
+            ValueStorage::Long(text) => Ok(Value {
+                form: ValueStorage::Long(text.share()?),
             }),
         }
     }
@@ -97,7 +97,7 @@ impl Value {
         ensures done { OnOk result (self.new ≡ self.old ++ more.now) }
         ensures refused { OnErr result (self.new ≡ self.old) }
     {
-        if let Form::Long(text) = &mut self.form {
+        if let ValueStorage::Long(text) = &mut self.form {
             return text.extend_from_slice(more);
         }
         *self = joined(alloc, self.as_slice(), more)?;
@@ -108,7 +108,7 @@ impl Value {
         ensures { IfOk result (λ value. value ≡ bytes.items) }
     {
         Ok(Value {
-            form: Form::Long(Shared::from_vec(bytes)?),
+            form: ValueStorage::Long(Shared::from_vec(bytes)?),
         })
     }
 }

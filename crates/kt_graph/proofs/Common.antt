@@ -7,33 +7,33 @@ pub use Rattle.kt_graph.specs.Reach.{AreOneMaking, ComesFirst, HasEdge, HasInput
 pub use Rattle.kt_graph.specs.declared.faults.edges.Edges.{Edges}
 pub use Rattle.kt_graph.specs.declared.nodes.byte_order.Front.{Front}
 pub use Rattle.kt_graph.specs.declared.nodes.graph_builder.GraphBuilder.{GraphBuilder}
-pub use Rattle.kt_graph.specs.declared.nodes.inferring.Inferred.{Inferred}
+pub use Rattle.kt_graph.specs.declared.nodes.inferring.InferredParts.{InferredParts}
 pub use Rattle.kt_graph.specs.declared.nodes.needing.Sort.TheVariants.{OrderOnly, Prerequisite}
 pub use Rattle.kt_graph.specs.declared.nodes.node.Instance.{Instance}
 pub use Rattle.kt_graph.specs.declared.nodes.node.NodeKind.TheVariants.{DoubleColon, Phony}
 pub use Rattle.kt_graph.specs.declared.nodes.part.NumberedPart.{NumberedPart}
 pub use Rattle.kt_graph.specs.declared.nodes.stored.HeldPart.{HeldPart}
-pub use Rattle.kt_graph.specs.declared.search.ends.Ends.{Ends}
-pub use Rattle.kt_graph.specs.declared.search.tried.Tried.{Tried}
+pub use Rattle.kt_graph.specs.declared.search.ends.TargetEnds.{TargetEnds}
+pub use Rattle.kt_graph.specs.declared.search.tried.TriedQuestions.{TriedQuestions}
 pub use Rattle.kt_graph.specs.faults.Paths.{above_name, ends_in_name, is_idle, is_reserved, is_rooted, step_up, with_part}
-unfoldable pub use Rattle.kt_graph.specs.faults.Paths.{canon_of, parts_of}
+unfoldable pub use Rattle.kt_graph.specs.faults.Paths.{canon_of, components_of}
 pub use Rattle.kt_graph.specs.inner.faults.Arrivals.{AreCounted, IsLeftIn, LeavesCircular, arrivals_at, is_left, next_of_all, next_of_left, with_arrival, without_arrival}
-pub use Rattle.kt_graph.specs.inner.faults.Edges.{AreEdgesOf, AreMadeBelow, AreNeededBelow, AreReversed, HasNext, HaveEdges, HoldsCircular, IsDoneWith, IsEdge, IsFirstBack, IsRepeated, LeadToVertices, LeadsBack, LeadsOn, LeadsTo, Searches, Visits, bare_rows, count_held, count_of, edges_from, edges_to, holds_in, making_edges, makings_edges, needed_numbers, next_of, numbers_after, one_at, row_by, row_of, rows_held, rows_of, with_edge, with_edges, work_with}
+pub use Rattle.kt_graph.specs.inner.faults.Edges.{AreEdgesOf, AreMadeBelow, AreNeededBelow, AreReversed, HasNext, HaveEdges, HoldsCircular, IsDoneWith, IsEdge, IsFirstBack, IsRepeated, LeadToVertices, LeadsBack, LeadsOn, LeadsTo, Searches, Visits, bare_rows, count_held, edge_row, edge_rows, edges_from, edges_to, holds_in, listed_number, making_edges, makings_edges, needed_numbers, next_of, numbers_after, row_by, rows_held, vertex_count, with_edge, with_edges, work_with}
 pub use Rattle.kt_graph.specs.inner.faults.Files.{AreDistinct, HasFiles, IsByteOrder, held_for, is_repeated, made_names, several_in}
-pub use Rattle.kt_graph.specs.inner.nodes.GraphBuilder.{AllSay, AreOf, AreTold, BuildsNode, IsBegun, IsCut, IsDone, IsLeafOf, IsLikeLast, IsOver, LastNeeds, ReachesMore, leaf_stored, sole_node}
-pub use Rattle.kt_graph.specs.inner.nodes.Inputs.{HasOwnInputs, inputs_held, numbers_without, others_held, with_number}
+pub use Rattle.kt_graph.specs.inner.nodes.GraphBuilder.{AllSay, AreOf, AreTold, BuildsNode, HasLastNeeds, IsBegun, IsCut, IsDone, IsLeafOf, IsLikeLast, IsOver, ReachesMore, leaf_stored, sole_node}
+pub use Rattle.kt_graph.specs.inner.nodes.Inputs.{HasOwnInputs, inputs_held, numbers_without, others_held, with_input_number}
 unfoldable pub use Rattle.kt_graph.specs.inner.nodes.Inputs.{differ, rise, rise_after}
 pub use Rattle.kt_graph.specs.inner.nodes.Needed.{first_needs, joined_after, needed_as, needed_by, needed_by_parts, needing_as, needing_view, part_with, rules_needs, single_node}
 pub use Rattle.kt_graph.specs.inner.nodes.Numbering.{AddsNumbers, HasNumbers, IsMaking, IsNumbered, IsStoredAs, SayParts, SaysNeeds, SaysNode, SaysPart}
 pub use Rattle.kt_graph.specs.inner.nodes.Reached.{HasSame, IsPlaced, IsPushed, IsReachedAt, ReachesNumber, StaysPlaced, listed_in, place_held, place_marked, reached_text}
-pub use Rattle.kt_graph.specs.inner.nodes.Stored.{AreAlike, AreRowsOf, AreStored, Grew, HasOnePart, IsHeadOf, IsHeadWithin, IsLike, IsPartWithin, IsSpanWithin, PutsParts, StoredNode, StoredPart, cut, input_numbers, node_like, node_stored, nodes_stored, order_only_numbers, part_held, part_like, part_stored, parts_held, parts_stored, some_if, stored_at, stored_with}
+pub use Rattle.kt_graph.specs.inner.nodes.Stored.{AreRowsOf, AreStored, Grew, HasOnePart, HaveOneMaking, IsHeadOf, IsHeadWithin, IsLike, IsPartWithin, IsSpanWithin, PutsParts, StoredNode, StoredPart, cut, input_numbers, node_like, node_stored, nodes_stored, order_only_numbers, part_held, part_like, part_stored, parts_held, parts_stored, some_if, stored_at, stored_with}
 pub use Rattle.kt_graph.specs.inner.search.Ends.{AreAllNoted, AreNoted, HasAll, IsFixedEnd, IsNoted, KeepsNoted, NotesAll, NotesEnd, candidate_numbered, candidates_numbered, numbers_at}
 pub use Rattle.kt_graph.specs.nodes.Node.{bare_part, chosen_rule, double_node, explicit_node, implicit_node, kind_without, needs_after, node_by, node_with, other_rules, part_of, plain_node, searched, used_rule}
 unfoldable pub use Rattle.kt_graph.specs.nodes.Node.{inputs_of, joined_needs, node_of, order_only_of, suffix_stem}
 pub use Rattle.kt_graph.specs.nodes.Views.{NodeTable, instance_at, instance_view, node_at, node_numbered, node_view, nodes_view, part_view}
 pub use Rattle.kt_graph.specs.search.Candidates.{are_short, by_size, candidate_by, candidate_with, drops_any, has_slash, left_out, matched_part, needed_name, nonempty, shorter, shortest, size_of, spelled_out, unless_long, without_any}
 unfoldable pub use Rattle.kt_graph.specs.search.Candidates.{candidate_of, candidates_for, fit_of, matching_from, needed_names, stem_of}
-pub use Rattle.kt_graph.specs.search.Search.{Asking, Choosing, IsFoundByTrees, Searching, asked_among, asked_by, asked_eq, asked_for, asked_inside, chain_limit, chosen_of, is_begun, is_inferred, is_met, is_used, open_candidates, unknown_needs}
+pub use Rattle.kt_graph.specs.search.Search.{Asking, Choosing, IsFoundByTrees, Search, chain_limit, chosen_of, is_begun, is_inferred, is_met, is_used, open_candidates, question_eq, questions_among, questions_by, questions_for, questions_inside, unknown_needs}
 unfoldable pub use Rattle.kt_graph.specs.search.Search.{HasTree, asking, fitting, with_rule}
 pub use Rattle.kt_graph.specs.search.Views.{AreWithin, IsFitWithin, candidate_at, candidate_view, candidates_view, choice_view, found_view, held_by_size, held_without_any, question_view, stays}
 pub use Rattle.kt_list.specs.Names.{AreNumbersOf, name_at, names_at}
@@ -46,8 +46,8 @@ pub use Rattle.kt_rules.proofs.NoteLemmas.{no_two, place_at, same_place}
 pub use Rattle.kt_rules.specs.Book.{is_explicit, is_made, rule_needs, target_rules}
 unfoldable pub use Rattle.kt_rules.specs.Book.{explicit_rules, first_goal_by, is_phony, patterns_of, recipes_of, refusal_of, rules_of}
 pub use Rattle.kt_rules.specs.Entry.{no_needs}
-unfoldable pub use Rattle.kt_rules.specs.Entry.{read_line, rule_of, stemmed_names, stemmed_of}
-unfoldable pub use Rattle.kt_rules.specs.Names.{after_dots, cut_place, is_member, is_refused_name, is_refused_target, is_special, is_wildcard, is_without_effect, name_of, pieces_of, unquoted, without_dots, without_outer_separators, without_repeats, written_words}
+unfoldable pub use Rattle.kt_rules.specs.Entry.{head_names, rule_of, stemmed_names, stemmed_of}
+unfoldable pub use Rattle.kt_rules.specs.Names.{after_dots, cut_pieces, cut_place, is_member, is_refused_name, is_refused_target, is_special, is_wildcard, is_without_effect, name_of, unquoted, without_dots, without_outer_separators, without_repeats, written_words}
 pub use Rattle.kt_rules.specs.Patterns.{is_terminal}
 pub use Rattle.kt_rules.specs.Suffixes.{is_suffix_rule}
 unfoldable pub use Rattle.kt_rules.specs.Suffixes.{start_suffixes}
@@ -85,4 +85,4 @@ pub use Rattle.std.specs.Ordering.{MatchOrdering, is_eq, is_lt, ordering_reverse
 pub use Rattle.std.specs.Str.{bytes_eq}
 pub use Rattle.std.specs.declared.cmp.Ordering.{Ordering}
 pub use Rattle.std.specs.declared.cmp.Ordering.TheVariants.{Equal, Greater, Less}
-pub use Rattle.kt_graph.specs.Prelude.{AreBelow, Candidate, Contains, Explicit, HasMore, Implicit, IsPrefix, Leaf, List, Needs, Node, NodeKind, Part, Question, Rule, Sought, Target, Text, after_last, all_inputs, all_needs, before_last, choice_of, count_by, group_of, has_recipe, is_among, is_double, is_leaf, is_nonempty, join_with_byte, list_all, list_any, map, nat_cmp, needs_for, needs_with, of_group, of_pattern, option_and_then, option_map_or, option_to_list, ordering_then, own_part, place_of, range_with_len, rule_view, slice_cmp, slice_range, slice_split, suffixes_of, with_name, with_question}
+pub use Rattle.kt_graph.specs.Prelude.{AreBelow, Candidate, Contains, Entry, Explicit, HasMore, HeldQuestion, Implicit, IsPrefix, Leaf, List, Needs, Node, NodeKind, Part, Question, Target, Text, after_last, all_inputs, all_needs, before_last, choice_of, count_by, group_of, has_recipe, is_among, is_double, is_leaf, is_nonempty, join_with_byte, list_all, list_any, map, nat_cmp, needs_for, needs_with, of_group, of_pattern, option_and_then, option_map_or, option_to_list, ordering_then, own_part, place_of, range_with_len, rule_view, slice_cmp, slice_range, slice_split, suffixes_of, with_name, with_question}

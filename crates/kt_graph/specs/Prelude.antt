@@ -3,14 +3,14 @@
 pub use Rattle.kt_graph.specs.declared.nodes.node.NodeKind.{NodeKind}
 pub use Rattle.kt_graph.specs.declared.nodes.node.NodeKind.TheVariants.{Explicit, Implicit, Leaf}
 pub use Rattle.kt_graph.specs.declared.search.choice.Chosen.{Chosen}
-pub use Rattle.kt_graph.specs.declared.search.question.Question.{Question}
+pub use Rattle.kt_graph.specs.declared.search.question.Question.{Question as HeldQuestion}
 pub use Rattle.kt_graph.specs.nodes.Node.{Instance, Node, Part, all_inputs, group_of, inputs_of, is_leaf, node_of, of_group, of_pattern, order_only_of, own_part, suffix_stem}
 pub use Rattle.kt_graph.specs.search.Candidates.{Candidate, needs_with}
-pub use Rattle.kt_graph.specs.search.Search.{Sought, asked_after, choice_of, with_question}
+pub use Rattle.kt_graph.specs.search.Search.{Question, choice_of, questions_after, with_question}
 pub use Rattle.kt_list.specs.Names.{AreBelow, place_of, with_name}
 pub use Rattle.kt_list.specs.Prefixes.{HasMore, IsPrefix}
 pub use Rattle.kt_rules.specs.Book.{AreMadeAlike, first_goal_of, has_recipe, is_double, patterns_of}
-pub use Rattle.kt_rules.specs.Entry.{Rule, needs_for}
+pub use Rattle.kt_rules.specs.Entry.{Entry, needs_for}
 pub use Rattle.kt_rules.specs.Names.{is_among, without_dots, without_repeats}
 pub use Rattle.kt_rules.specs.Slots.{rule_view}
 pub use Rattle.kt_rules.specs.Suffixes.{all_needs, suffixes_of}

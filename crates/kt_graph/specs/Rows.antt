@@ -1,7 +1,7 @@
 -- Worked names, choices, nodes and goals, as facts that compute. The rules are those of the GNU make manual's
 -- sections on implicit rules, and kati's own where it has some.
 use Rattle.std.specs.Prelude.{◌≡◌, ℕ, true, List, [], ◌∷◌, ◌++◌, Option, Some, None, option_map, codes}
-use Rattle.kt_graph.specs.Prelude.{Text, Rule, all_needs, asked_after, choice_of, node_of, inputs_of, order_only_of}
+use Rattle.kt_graph.specs.Prelude.{Text, Entry, all_needs, questions_after, choice_of, node_of, inputs_of, order_only_of}
 use Rattle.kt_rules.specs.declared.entry.Kind.TheVariants.{SingleColon, TerminalPattern}
 use Rattle.kt_rules.specs.BookRows.{rule, made, needing, pattern}
 use Rattle.kt_graph.specs.declared.nodes.node.NodeKind.TheVariants as kinds
@@ -27,15 +27,15 @@ pub record RowsOfKnown : Type 0 where
   pub phony : known_names (needing (codes ".PHONY") (codes "b") 1 ∷ []) [] ≡ codes "b" ∷ []
 
 -- `%.o: %.c`, `%.c: %.y`
-abbrev pub objects : List Rule
+abbrev pub objects : List Entry
 objects = pattern (codes "%.o") (codes "%.c") 1 ∷ pattern (codes "%.c") (codes "%.y") 2 ∷ []
 
 -- `%.a: %.b`, `%.b: %.a`
-abbrev pub circle : List Rule
+abbrev pub circle : List Entry
 circle = pattern (codes "%.a") (codes "%.b") 1 ∷ pattern (codes "%.b") (codes "%.a") 2 ∷ []
 
 -- the rule that is chosen, by its number, with the directory, the stem and all prerequisites
-abbrev pub chosen_as : List Rule → List Text → Text → Option (ℕ × Text × Text × List Text)
+abbrev pub chosen_as : List Entry → List Text → Text → Option (ℕ × Text × Text × List Text)
 chosen_as rules known name =
     option_map (λ candidate. (candidate.rule, candidate.directory, candidate.stem, all_needs candidate.needs))
     (choice_of rules known name)
@@ -59,8 +59,8 @@ pub record RowsOfChoices : Type 0 where
 
 -- questions
 pub record RowsOfQuestions : Type 0 where
-  pub met : asked_after objects (codes "x.c" ∷ []) [] (codes "x.o") ≡ (codes "x.o", []) ∷ []
-  pub inner : asked_after objects [] [] (codes "x.o")
+  pub met : questions_after objects (codes "x.c" ∷ []) [] (codes "x.o") ≡ (codes "x.o", []) ∷ []
+  pub inner : questions_after objects [] [] (codes "x.o")
       ≡ (codes "x.o", []) ∷ (codes "x.c", 0 ∷ []) ∷ (codes "x.y", 0 ∷ 1 ∷ []) ∷ []
 
 -- nodes

@@ -1,7 +1,7 @@
 //! Laws of the definitions. These functions do nothing: only their contracts matter.
 ghost use Rattle.std.specs.Prelude.{List};
 ghost use Rattle.kt_text.specs.Words.{Text};
-ghost use Rattle.kt_rules.specs.Entry.{Rule};
+ghost use Rattle.kt_rules.specs.Entry.{Entry};
 ghost use Rattle.kt_graph.specs.faults.Faults.{ReportsFirst};
 ghost use Rattle.kt_graph.specs.nodes.Groups.{AreGroups, groups_of};
 ghost use Rattle.kt_graph.specs.nodes.Node.{Node};
@@ -43,12 +43,12 @@ pub fn rows_of_paths()
 
 /// Running out of memory is always allowed, whatever is wrong.
 pub fn memory_is_excused()
-    ensures { (rules : List Rule) (known goals : List Text) → ReportsFirst rules known goals Memory }
+    ensures { (rules : List Entry) (known goals : List Text) → ReportsFirst rules known goals Memory }
 {}
 
 /// The groups of a graph are the names that one making makes: each made node is in exactly one group.
 pub fn groups_are_makings()
-    ensures { (rules : List Rule) (known goals : List Text) (nodes : List Node)
+    ensures { (rules : List Entry) (known goals : List Text) (nodes : List Node)
         → IsGraph rules known goals nodes → AreGroups rules known goals nodes (groups_of nodes) }
 {}
 

@@ -5,7 +5,7 @@
 ghost use Rattle.std.specs.Prelude.{◌≡◌, [], map, option_map, IfOk, OnErr, OnOk};
 ghost use Rattle.std.specs.List.{IsDistinct};
 ghost use Rattle.kt_rules.specs.Book.{patterns_of};
-ghost use Rattle.kt_graph.specs.search.Search.{IsFoundByTrees, asked_after, asked_eq, choice_of};
+ghost use Rattle.kt_graph.specs.search.Search.{IsFoundByTrees, choice_of, question_eq, questions_after};
 ghost use Rattle.kt_graph.specs.search.Views.{question_view, choice_view};
 
 mod candidate;
@@ -23,7 +23,7 @@ mod tried;
 use crate::known::Known;
 use crate::search::chains::Chains;
 use crate::search::patterns::Patterns;
-use crate::search::tried::Tried;
+use crate::search::tried::TriedQuestions;
 pub use choice::{Choice, Chosen};
 use kt_rules::Book;
 pub use question::{Question, Used};
@@ -38,13 +38,13 @@ use std::marker::Model;
 pub struct Search<'a> {
     chains: Chains<'a>,
     // The questions so far, with their answers.
-    tried: Tried,
+    tried: TriedQuestions,
 }
 
 impl<'a> Model for Search<'a> {
-    ghost use Rattle.kt_graph.specs.search.Search.{Searching};
+    ghost use Rattle.kt_graph.specs.search.Search.{Search};
 
-    ghost Value = { Searching };
+    ghost Value = { Search };
 
     ghost use Rattle.std.specs.Prelude.{map};
     ghost use Rattle.kt_graph.specs.inner.search.Chains.{IsRight};
@@ -61,7 +61,7 @@ impl<'a> Model for Search<'a> {
 }
 
 impl<'a> Search<'a> {
-    ghost use Rattle.kt_graph.specs.search.Search.{Searching};
+    ghost use Rattle.kt_graph.specs.search.Search.{Search as SearchSeen};
 
     /// A search without questions so far.
     pub fn new(
@@ -78,7 +78,7 @@ impl<'a> Search<'a> {
         let patterns = Patterns::of(alloc, book.patterns()?)?;
         Ok(Search {
             chains: Chains::new(alloc, patterns, known),
-            tried: Tried::new(alloc),
+            tried: TriedQuestions::new(alloc),
         })
     }
 
@@ -91,7 +91,7 @@ impl<'a> Search<'a> {
             ≡ option_map choice_view (choice_of self.old.rules self.old.known name.now)) }
         ensures trees { IfOk result (IsFoundByTrees self.old.rules self.old.known name.now) }
         ensures asked { OnOk result (self.new
-            ≡ record self.old { asked = asked_after self.old.rules self.old.known self.old.asked name.now }) }
+            ≡ record self.old { asked = questions_after self.old.rules self.old.known self.old.asked name.now }) }
         ensures refused { OnErr result (self.new ≡ self.old) }
     {
         let count = self.tried.count();
@@ -105,7 +105,7 @@ impl<'a> Search<'a> {
     /// The questions so far, each once and in order. Takes no memory.
     pub fn tried(&self) -> &[Question]
         ensures asked { map question_view result.now ≡ self.now.asked }
-        ensures once { IsDistinct asked_eq self.now.asked }
+        ensures once { IsDistinct question_eq self.now.asked }
     {
         self.tried.questions()
     }

@@ -10,7 +10,7 @@ use Rattle.std.proofs.lemmas.List.Sums.{position_or_len_is}
 use Rattle.std.proofs.lemmas.Map.Keys.{apart_from_distinct, any_passes_from_place, IsDistinct-from_apart, IsDistinct-push}
 use Rattle.kt_list.proofs.NameLemmas.{number_found}
 use Rattle.kt_list.specs.Names.{is_among, place_of, with_name}
-use Rattle.kt_list.specs.inner.Lists.{kept_for, AreFound, IsFound, KeepsFound}
+use Rattle.kt_list.specs.inner.Lists.{kept_for, AreFound, IsListNumber, KeepsFound}
 
 -- ---- an element at the end
 
@@ -101,10 +101,10 @@ module _ (lists lists' : List (List ℕ)) (ones ones' : List ℕ) (firsts firsts
       subst (λ rows. AreFound rows ones' firsts' others' × IsDistinct bytes_eq rows) (sym same)
       ((λ place list at. kept list place (are.0 place list at)), are.1)
 
-  module _ (list : List ℕ) (number : ℕ) (noted : IsFound ones' firsts' others' list number) (next : number ≡ length lists)
+  module _ (list : List ℕ) (number : ℕ) (noted : IsListNumber ones' firsts' others' list number) (next : number ≡ length lists)
       (grew : lists' ≡ lists ++ list ∷ []) (new : is_among lists list ≡ false) where
     found_more : (place : ℕ) (other : List ℕ)
-        → (slice_get lists place ≡ Some other) ⊎ ((place ≡ length lists) × (list ≡ other)) → IsFound ones' firsts' others' other place
+        → (slice_get lists place ≡ Some other) ⊎ ((place ≡ length lists) × (list ≡ other)) → IsListNumber ones' firsts' others' other place
     found_more place other (inl at) = kept other place (are.0 place other at)
     found_more place other (inr last) = grind arith
 

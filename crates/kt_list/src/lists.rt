@@ -5,7 +5,7 @@ ghost use Rattle.std.specs.List.{IsDistinct, find};
 ghost use Rattle.std.specs.Map.{lookup};
 ghost use Rattle.std.specs.Str.{bytes_eq};
 ghost use Rattle.kt_list.specs.inner.Lists.{hash_of, hash_with, is_at, kept_for, one_at};
-ghost use Rattle.kt_list.specs.inner.Lists.{IsFound, IsNowhere, KeepsFirsts, KeepsFound, KeepsOnes};
+ghost use Rattle.kt_list.specs.inner.Lists.{IsListNumber, IsNowhere, KeepsFirsts, KeepsFound, KeepsOnes};
 ghost use Rattle.kt_list.specs.Names.{is_among, place_of, with_name};
 
 use crate::narrowing::narrow;
@@ -147,7 +147,7 @@ fn keep(
     requires is_first { first ≡ kept_for ones.old.items firsts.old.entries list.now }
     ensures kept { KeepsFound ones.old.items firsts.old.entries others.old.items
         ones.new.items firsts.new.entries others.new.items }
-    ensures noted { OnOk result (IsFound ones.new.items firsts.new.entries others.new.items list.now number) }
+    ensures noted { OnOk result (IsListNumber ones.new.items firsts.new.entries others.new.items list.now number) }
 {
     match first {
         Some(_) => {

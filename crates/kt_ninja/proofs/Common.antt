@@ -3,7 +3,7 @@ pub use Rattle.kt_list.proofs.general.Places.{at_place}
 pub use Rattle.kt_list.specs.Names.{is_among}
 pub use Rattle.kt_ninja.specs.Text.{defaults_text, escaped, marked_text, name_text, names_text, rule_count, rule_name_text, rule_text, statement_text, statements_text}
 unfoldable pub use Rattle.kt_ninja.specs.Text.{number_text, plan_text}
-pub use Rattle.kt_ninja.specs.Writable.{HasWritableTexts, IsWritable, Obstacle, bad_command, bad_name, first_obstacle, is_empty, is_made, is_name, no_output, not_an_output, not_made, obstacle_in, obstacle_of_statement, obstacle_of_statements, repeated, repeated_after, told_obstacle}
+pub use Rattle.kt_ninja.specs.Writable.{HasWritableTexts, IsWritable, Obstacle, bad_command, bad_name, first_obstacle, is_empty, is_name, is_writable_making, no_output, not_an_output, not_made, obstacle_in, obstacle_of_statement, obstacle_of_statements, repeated, repeated_after, told_obstacle}
 pub use Rattle.kt_ninja.specs.declared.block.Block.{Block}
 pub use Rattle.memchr.specs.Find.{IsFirstByte, NoneBefore, Nowhere, Passes}
 pub use Rattle.std.proofs.Common.{List, arith, codes, length, nat_eq, option_map, rules, slice_get, subst, sym, ℕ}

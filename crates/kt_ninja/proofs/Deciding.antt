@@ -1,6 +1,6 @@
 -- A plan can be written exactly where it has no trouble.
 use Rattle.std.proofs.Common.{◌≡◌, ◌≢◌, ◌∙◌, ℕ, ◌+◌, List, [], ◌∷◌, ◌++◌, refl, sym, ap, arith, zero, suc, Bool, true, false, not, ◌&&◌, ◌||◌, nat_eq, Option, Some, None, option_map, Result, IsOk, find, All, Contains, if◌then◌else◌, ◌↔◌}
-use Rattle.kt_ninja.proofs.Common.{list_all, position_from, IsDistinct, AllByRecursion, option_or, pointwise, same_text, other_text, and_from, or_from, or_parts, list_any-append, Statement, is_among, HasWritableTexts, IsWritable, Obstacle, no_output, bad_name, bad_command, repeated, not_an_output, first_obstacle, is_empty, is_made, is_name, not_made, repeated_after, obstacle_in, obstacle_of_statement, obstacle_of_statements}
+use Rattle.kt_ninja.proofs.Common.{list_all, position_from, IsDistinct, AllByRecursion, option_or, pointwise, same_text, other_text, and_from, or_from, or_parts, list_any-append, Statement, is_among, HasWritableTexts, IsWritable, Obstacle, no_output, bad_name, bad_command, repeated, not_an_output, first_obstacle, is_empty, is_writable_making, is_name, not_made, repeated_after, obstacle_in, obstacle_of_statement, obstacle_of_statements}
 use Rattle.std.specs.Bool.{Decides}
 use Rattle.std.proofs.lemmas.Map.Made.{AllPairs-from_IsDistinct, IsDistinct-from_AllPairs}
 use Rattle.std.proofs.lemmas.Map.Views.{list_any-from_Contains}
@@ -66,15 +66,15 @@ made_none : (b : Bool) (t : Obstacle) → b ≡ true → (if b then None else So
 made_none b t e = ap (λ x. if x then None else Some t) e
 
 abbrev fine : Statement → Bool
-fine s = list_all is_name (names_of s) && is_made s.made
+fine s = list_all is_name (names_of s) && is_writable_making s.made
 
 fine_from_none : (n : ℕ) (s : Statement) → obstacle_of_statement n s ≡ None → fine s ≡ true
 fine_from_none n s e = grind (arith, not, and_from, pass_from_find, map_none, or_first, made_true, or_second)
 
 none_from_fine : (n : ℕ) (s : Statement) → fine s ≡ true → obstacle_of_statement n s ≡ None
 none_from_fine n s e =
-    or_none _ _ (ap (option_map bad_name) (find_from_pass is_name (names_of s) (and_first (list_all is_name (names_of s)) (is_made s.made) e)))
-    (made_none (is_made s.made) (bad_command n) (and_second (list_all is_name (names_of s)) (is_made s.made) e))
+    or_none _ _ (ap (option_map bad_name) (find_from_pass is_name (names_of s) (and_first (list_all is_name (names_of s)) (is_writable_making s.made) e)))
+    (made_none (is_writable_making s.made) (bad_command n) (and_second (list_all is_name (names_of s)) (is_writable_making s.made) e))
 
 all_fine : (n : ℕ) (ss : List Statement) → obstacle_of_statements n ss ≡ None → list_all fine ss ≡ true
 all_fine n [] e = refl

@@ -3,7 +3,7 @@ use Rattle.std.proofs.Common.{arith, ◌≡◌, ◌∙◌, ℕ, ◌+◌, List, [
 use Rattle.kt_ninja.proofs.Common.{list_any, option_or, pointwise, find-append, list_any-append, Statement, is_among, Obstacle, is_name, repeated_after, obstacle_of_statements}
 use Rattle.std.proofs.lemmas.List.Concat.{flat_map-append}
 use Rattle.kt_ninja.specs.Plan.{names_of, outputs}
-use Rattle.kt_ninja.specs.View.{names_at, obstacle_at}
+use Rattle.kt_ninja.specs.View.{obstacle_at, statement_names}
 use Rattle.kt_ninja.proofs.Places.{drop_at, take_at}
 
 pub is_among-outputs : (ss : List Statement) (name : List ℕ) → is_among (outputs ss) name ≡ list_any (λ s. is_among s.outs name) ss
@@ -31,9 +31,9 @@ repeated_after-append before [] ys = ap (λ b. repeated_after b ys) (sym (append
 repeated_after-append before (x ∷ xs) ys = grind (arith, append_assoc, or_cases, repeated_after-append (before ++ x ∷ []) xs ys)
 
 -- the same where the statement is found at a place, if there is one
-pub find_in_found : (found : Option Statement) → find (λ n. not (is_name n)) (names_at names_of found)
-    ≡ option_or (find (λ n. not (is_name n)) (names_at (λ s. s.outs) found)) (option_or (find (λ n. not (is_name n)) (names_at (λ s. s.inputs) found))
-    (option_or (find (λ n. not (is_name n)) (names_at (λ s. s.implicit) found)) (find (λ n. not (is_name n)) (names_at (λ s. s.order_only) found))))
+pub find_in_found : (found : Option Statement) → find (λ n. not (is_name n)) (statement_names names_of found)
+    ≡ option_or (find (λ n. not (is_name n)) (statement_names (λ s. s.outs) found)) (option_or (find (λ n. not (is_name n)) (statement_names (λ s. s.inputs) found))
+    (option_or (find (λ n. not (is_name n)) (statement_names (λ s. s.implicit) found)) (find (λ n. not (is_name n)) (statement_names (λ s. s.order_only) found))))
 find_in_found found = grind (arith, find_in_names)
 
 -- the outputs up to a statement, and with its own

@@ -13,11 +13,11 @@ is_empty [] = true
 is_empty (x ∷ xs) = false
 
 -- a byte that a name can hold: no bar, CR, LF or NUL
-abbrev pub is_name_byte : ℕ → Bool
-is_name_byte b = not (b == 124 || (b == 13 || (b == 10 || b == 0)))
+abbrev pub is_path_byte : ℕ → Bool
+is_path_byte b = not (b == 124 || (b == 13 || (b == 10 || b == 0)))
 
 abbrev pub is_name : List ℕ → Bool
-is_name name = not (is_empty name) && list_all is_name_byte name
+is_name name = not (is_empty name) && list_all is_path_byte name
 
 -- a byte that a command can hold: no CR, LF or NUL
 abbrev pub is_command_byte : ℕ → Bool
@@ -26,13 +26,14 @@ is_command_byte b = not (b == 13 || (b == 10 || b == 0))
 abbrev pub is_command : List ℕ → Bool
 is_command command = not (is_empty command) && list_all is_command_byte command
 
-abbrev pub is_made : Made → Bool
-is_made (Command c) = is_command c
-is_made Phony = true
+abbrev pub is_writable_making : Made → Bool
+is_writable_making (Command c) = is_command c
+is_writable_making Phony = true
 
 -- each name can be written, and each command
 abbrev pub HasWritableTexts : Plan → Type 0
-HasWritableTexts plan = list_all (λ s. list_all is_name (names_of s) && is_made s.made) plan.statements ≡ true
+HasWritableTexts plan =
+    list_all (λ s. list_all is_name (names_of s) && is_writable_making s.made) plan.statements ≡ true
 
 -- every statement makes something, its names and its command can be written, no output stands twice in the plan, and
 -- each default target is an output
@@ -53,7 +54,7 @@ pub data Obstacle : Type 0 where
 -- of a statement: its first name that can't be written, or its command
 abbrev pub obstacle_of_statement : ℕ → Statement → Option Obstacle
 obstacle_of_statement number s =
-    option_or (option_map bad_name (find (λ n. not (is_name n)) (names_of s))) (if is_made s.made then None
+    option_or (option_map bad_name (find (λ n. not (is_name n)) (names_of s))) (if is_writable_making s.made then None
     else Some (bad_command number))
 
 -- of statements in order, the first of which has this number

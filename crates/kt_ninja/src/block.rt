@@ -1,6 +1,6 @@
 //! Bytes on their way to a sink, handed over a block at a time.
 ghost use Rattle.std.specs.Prelude.{◌≡◌, ◌≤◌, ◌<◌, ◌+◌, [], take, drop, length};
-ghost use Rattle.kt_ninja.specs.Escaping.{is_special};
+ghost use Rattle.kt_ninja.specs.Escaping.{is_escaped};
 ghost use Rattle.kt_ninja.specs.Text.{escaped};
 
 use crate::escapes::Escapes;
@@ -80,7 +80,7 @@ impl<'a, W: Sink> Block<'a, W> {
 
     /// Puts the text, each special byte after a dollar.
     pub fn put_escaped(&mut self, text: &[u8], escapes: Escapes)
-        ensures { Puts W.seen self.old self.new (escaped (is_special escapes) text.now) }
+        ensures { Puts W.seen self.old self.new (escaped (is_escaped escapes) text.now) }
     {
         let mut rest = text;
         while let Some(at) = escapes.first_in(rest) {

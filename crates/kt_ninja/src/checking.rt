@@ -3,14 +3,14 @@ ghost use Rattle.std.specs.Prelude.{◌≡◌, ◌≤◌, ◌↔◌, ◌||◌, [
 ghost use Rattle.std.specs.List.{list_all, list_any, position_from};
 ghost use Rattle.kt_ninja.specs.Plan.{names_of, outputs};
 ghost use Rattle.kt_list.specs.Names.{is_among};
-ghost use Rattle.kt_ninja.specs.View.{made_by, names_at, names_listed, obstacle_at};
-ghost use Rattle.kt_ninja.specs.declared.view.Listed.TheVariants.{Outputs};
+ghost use Rattle.kt_ninja.specs.View.{made_by, names_listed, obstacle_at, statement_names};
+ghost use Rattle.kt_ninja.specs.declared.view.PlanNames.TheVariants.{Outputs};
 ghost use Rattle.kt_ninja.specs.Writable.{HasWritableTexts, IsWritable, first_obstacle, is_command_byte, is_empty};
-ghost use Rattle.kt_ninja.specs.Writable.{is_made, is_name, is_name_byte, not_made, repeated_after, obstacle_in};
+ghost use Rattle.kt_ninja.specs.Writable.{is_writable_making, is_name, is_path_byte, not_made, repeated_after, obstacle_in};
 ghost use Rattle.kt_ninja.specs.Writable.{obstacle_of_statements};
 
 use crate::plan::Plan;
-use crate::view::{Listed, NamesView, PlanView};
+use crate::view::{NamesView, PlanNames, PlanView};
 use memchr::memchr3;
 use thiserror::Error;
 
@@ -32,13 +32,13 @@ pub enum Unwritable<'a> {
 }
 
 fn is_written_name_byte(byte: u8) -> bool
-    ensures { result ≡ is_name_byte byte }
+    ensures { result ≡ is_path_byte byte }
 {
     !matches!(byte, b'|' | b'\r' | b'\n' | 0)
 }
 
 fn all_name_bytes(bytes: &[u8]) -> bool
-    ensures { result ≡ list_all is_name_byte bytes.now }
+    ensures { result ≡ list_all is_path_byte bytes.now }
 {
     bytes.iter().all(|byte| is_written_name_byte(*byte))
 }
@@ -65,7 +65,7 @@ pub fn name_can_be_written(name: &[u8]) -> bool
 }
 
 fn is_written_command(command: Option<&[u8]>) -> bool
-    ensures { result ≡ is_made (made_by (option_map (λ text. text.now) command.entry)) }
+    ensures { result ≡ is_writable_making (made_by (option_map (λ text. text.now) command.entry)) }
 {
     match command {
         Some(command) => !has_no_bytes(command) && command_can_hold(command),
@@ -87,7 +87,7 @@ fn first_bad<'a, N: NamesView<'a>>(names: &N) -> Option<&'a [u8]>
 }
 
 /// The first name of a list that can't be written.
-fn first_bad_name<'a, V: PlanView<'a>>(view: &'a V, list: Listed) -> Option<&'a [u8]>
+fn first_bad_name<'a, V: PlanView<'a>>(view: &'a V, list: PlanNames) -> Option<&'a [u8]>
     ensures { option_map (λ name. name.now) result ≡ find (λ n. not (is_name n)) (names_listed (V.plan view.now) list) }
 {
     first_bad(&view.names(list))
@@ -96,7 +96,7 @@ fn first_bad_name<'a, V: PlanView<'a>>(view: &'a V, list: Listed) -> Option<&'a 
 fn has_no_output<'a, V: PlanView<'a>>(view: &'a V, statement: usize) -> bool
     ensures { result ≡ is_empty (names_listed (V.plan view.now) (Outputs statement)) }
 {
-    view.names(Listed::Outputs(statement)).len() == 0
+    view.names(PlanNames::Outputs(statement)).len() == 0
 }
 
 fn first_without_output<'a, V: PlanView<'a>>(view: &'a V) -> Option<usize>
@@ -127,7 +127,7 @@ fn holds<'a, N: NamesView<'a>>(names: &N, count: usize, name: &[u8]) -> bool
 fn is_made_at<'a, V: PlanView<'a>>(view: &'a V, statement: usize, name: &[u8]) -> bool
     ensures { result ≡ is_among (names_listed (V.plan view.now) (Outputs statement)) name.now }
 {
-    let outs = view.names(Listed::Outputs(statement));
+    let outs = view.names(PlanNames::Outputs(statement));
     holds(&outs, outs.len(), name)
 }
 
@@ -155,18 +155,18 @@ fn is_output<'a, V: PlanView<'a>>(view: &'a V, count: usize, name: &[u8]) -> boo
 #[tactic(auto, using(crate::proofs::Troubles::find_in_found))]
 fn bad_name_of<'a, V: PlanView<'a>>(view: &'a V, statement: usize) -> Option<&'a [u8]>
     ensures { option_map (λ name. name.now) result
-        ≡ find (λ n. not (is_name n)) (names_at names_of (slice_get (V.plan view.now).statements statement)) }
+        ≡ find (λ n. not (is_name n)) (statement_names names_of (slice_get (V.plan view.now).statements statement)) }
 {
-    if let Some(name) = first_bad_name(view, Listed::Outputs(statement)) {
+    if let Some(name) = first_bad_name(view, PlanNames::Outputs(statement)) {
         return Some(name);
     }
-    if let Some(name) = first_bad_name(view, Listed::Inputs(statement)) {
+    if let Some(name) = first_bad_name(view, PlanNames::Inputs(statement)) {
         return Some(name);
     }
-    if let Some(name) = first_bad_name(view, Listed::Implicit(statement)) {
+    if let Some(name) = first_bad_name(view, PlanNames::Implicit(statement)) {
         return Some(name);
     }
-    first_bad_name(view, Listed::OrderOnly(statement))
+    first_bad_name(view, PlanNames::OrderOnly(statement))
 }
 
 fn statement_can_be_written<'a, V: PlanView<'a>>(
@@ -248,7 +248,7 @@ fn repeated_in<'a, V: PlanView<'a>>(view: &'a V, statement: usize) -> Option<&'a
         ≡ repeated_after (outputs (take statement (V.plan view.now).statements))
         (names_listed (V.plan view.now) (Outputs statement)) }
 {
-    repeated_among(view, statement, &view.names(Listed::Outputs(statement)))
+    repeated_among(view, statement, &view.names(PlanNames::Outputs(statement)))
 }
 
 fn first_repeated<'a, V: PlanView<'a>>(view: &'a V) -> Option<&'a [u8]>
@@ -281,7 +281,7 @@ fn first_not_made<'a, V: PlanView<'a>>(view: &'a V) -> Option<&'a [u8]>
     ensures { option_map (λ name. name.now) result
         ≡ not_made (outputs (V.plan view.now).statements) (V.plan view.now).defaults }
 {
-    not_made_among(view, &view.names(Listed::Defaults))
+    not_made_among(view, &view.names(PlanNames::Defaults))
 }
 
 fn first_obstacle_in<'a, V: PlanView<'a>>(view: &'a V) -> Result<(), Unwritable<'a>>

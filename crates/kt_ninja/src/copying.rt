@@ -1,10 +1,10 @@
 //! Plans that are built from views of them.
 ghost use Rattle.std.specs.Prelude.{◌≡◌, IfOk, slice_get};
-ghost use Rattle.kt_ninja.specs.declared.view.Listed.TheVariants.{Implicit, Inputs, OrderOnly, Outputs};
+ghost use Rattle.kt_ninja.specs.declared.view.PlanNames.TheVariants.{Implicit, Inputs, OrderOnly, Outputs};
 ghost use Rattle.kt_ninja.specs.View.{made_at, names_listed};
 
-use crate::plan::{Made, Name, Plan, Statement};
-use crate::view::{Listed, NamesView, PlanView};
+use crate::plan::{Made, Path, Plan, Statement};
+use crate::view::{NamesView, PlanNames, PlanView};
 use kt_list::Sequence;
 use std::alloc::{AllocError, Global};
 
@@ -13,7 +13,7 @@ pub fn copied_plan<'a, V: PlanView<'a>>(alloc: Global, view: &'a V) -> Result<Pl
     ensures { IfOk result (λ plan. plan ≡ V.plan view.now) }
 {
     let statements = copied_statements(alloc, view)?;
-    let defaults = copied_list(alloc, view, Listed::Defaults)?;
+    let defaults = copied_list(alloc, view, PlanNames::Defaults)?;
     Ok(Plan {
         statements: Sequence::from(statements),
         defaults,
@@ -47,11 +47,11 @@ fn copied_statement<'a, V: PlanView<'a>>(
       order_only = names_listed (V.plan view.now) (OrderOnly place);
     }) }
 {
-    let outs = copied_list(alloc, view, Listed::Outputs(place))?;
+    let outs = copied_list(alloc, view, PlanNames::Outputs(place))?;
     let made = copied_made(alloc, view, place)?;
-    let inputs = copied_list(alloc, view, Listed::Inputs(place))?;
-    let implicit = copied_list(alloc, view, Listed::Implicit(place))?;
-    let order_only = copied_list(alloc, view, Listed::OrderOnly(place))?;
+    let inputs = copied_list(alloc, view, PlanNames::Inputs(place))?;
+    let implicit = copied_list(alloc, view, PlanNames::Implicit(place))?;
+    let order_only = copied_list(alloc, view, PlanNames::OrderOnly(place))?;
     Ok(Statement {
         outs,
         made,
@@ -77,8 +77,8 @@ fn copied_made<'a, V: PlanView<'a>>(
 fn copied_list<'a, V: PlanView<'a>>(
     alloc: Global,
     view: &'a V,
-    list: Listed,
-) -> Result<Sequence<Name>, AllocError>
+    list: PlanNames,
+) -> Result<Sequence<Path>, AllocError>
     ensures { IfOk result (λ names. names ≡ names_listed (V.plan view.now) list) }
 {
     copied_names(alloc, &view.names(list))
@@ -88,13 +88,13 @@ fn copied_list<'a, V: PlanView<'a>>(
 fn copied_names<'a, N: NamesView<'a>>(
     alloc: Global,
     names: &N,
-) -> Result<Sequence<Name>, AllocError>
+) -> Result<Sequence<Path>, AllocError>
     ensures { IfOk result (λ copies. copies ≡ N.names names.now) }
 {
     let count = names.len();
     let mut copies = Vec::with_capacity(alloc, count)?;
     for place in 0..count {
-        copies.push(Name::copied(alloc, names.name(place))?)?;
+        copies.push(Path::copied(alloc, names.name(place))?)?;
     }
     Ok(Sequence::from(copies))
 }

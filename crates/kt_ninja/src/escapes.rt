@@ -1,7 +1,7 @@
 //! Where Ninja wants a dollar before a byte.
 ghost use Rattle.std.specs.Prelude.{◌<◌, IfSome, length};
 ghost use Rattle.memchr.specs.Find.{IsFirstByte};
-ghost use Rattle.kt_ninja.specs.Escaping.{is_special};
+ghost use Rattle.kt_ninja.specs.Escaping.{is_escaped};
 
 use memchr::{memchr, memchr3};
 
@@ -17,7 +17,7 @@ pub enum Escapes {
 impl Escapes {
     /// The place of the first special byte.
     pub fn first_in(self, text: &[u8]) -> Option<usize>
-        ensures first { IsFirstByte (is_special self) text.now result }
+        ensures first { IsFirstByte (is_escaped self) text.now result }
         ensures within { IfSome result (λ at. at < length text.now) }
     {
         match self {

@@ -17,7 +17,7 @@ pub use checking::{
 };
 pub use copying::copied_plan;
 pub use memory::MemSink;
-pub use plan::{Made, Name, Plan, Statement};
+pub use plan::{Made, Path, Plan, Statement};
 pub use sink::{Sink, SinkFault, WriteFault, put};
 pub use text::{write_plan, write_view};
-pub use view::{Listed, NamesView, PlanView};
+pub use view::{NamesView, PlanNames, PlanView};

@@ -17,9 +17,9 @@ pub struct MemSink {
 
 impl Model for MemSink {
     ghost use Rattle.std.specs.Prelude.{◌≤◌, vec_len, vec_capacity};
-    ghost use Rattle.kt_ninja.specs.Memory.{SinkMemory};
+    ghost use Rattle.kt_ninja.specs.Memory.{MemSink};
 
-    ghost Value = { SinkMemory };
+    ghost Value = { MemSink };
 
     ghost view = { λ s. record {
       bytes = s.bytes.items;
@@ -33,7 +33,7 @@ impl Model for MemSink {
 }
 
 impl MemSink {
-    ghost use Rattle.kt_ninja.specs.Memory.{SinkMemory};
+    ghost use Rattle.kt_ninja.specs.Memory.{MemSink as MemSinkSeen};
 
     /// A sink with room for a given number of bytes, reserved at once, of which it takes up to
     /// `step` in a call. With a step of 0 it returns 0 for every piece.
@@ -69,14 +69,14 @@ impl Sink for MemSink {
     ghost use Rattle.std.specs.Prelude.{◌≡◌, ◌≤◌, ◌<◌, Ok, [], IfOk, OnErr, IsErr, length, take};
     ghost use Rattle.kt_list.specs.Counters.{one_more, Rises};
     ghost use Rattle.kt_ninja.specs.Written.{GrowsByFront, Takes};
-    ghost use Rattle.kt_ninja.specs.Memory.{called, seen_of, taken_of};
+    ghost use Rattle.kt_ninja.specs.Memory.{sink_after_call, sink_seen_of, taken_of};
 
-    ghost seen = { seen_of };
+    ghost seen = { sink_seen_of };
 
     fn write(&mut self, piece: &[u8]) -> Result<usize, SinkFault>
         ensures within { IfOk result (λ n. n ≤ length piece.now) }
-        ensures takes { IfOk result (λ n. Takes (seen_of self.old) (seen_of self.new) (take n piece.now)) }
-        ensures front { OnErr result (GrowsByFront (seen_of self.old) (seen_of self.new) piece.now) }
+        ensures takes { IfOk result (λ n. Takes (sink_seen_of self.old) (sink_seen_of self.new) (take n piece.now)) }
+        ensures front { OnErr result (GrowsByFront (sink_seen_of self.old) (sink_seen_of self.new) piece.now) }
         ensures counts { self.old.failures ≤ self.new.failures }
         ensures fails { OnErr result (Rises self.old.failures self.new.failures) }
         ensures stalls { IfOk result (λ n. n ≡ 0 → 0 < length piece.now → Rises self.old.failures self.new.failures) }
@@ -84,10 +84,10 @@ impl Sink for MemSink {
 
         // It takes what step and room allow; nothing of a piece that isn't empty is a failure.
         ensures some { 0 < taken_of self.old piece.now → (result ≡ Ok (taken_of self.old piece.now))
-            × (self.new ≡ called self.old (take (taken_of self.old piece.now) piece.now) self.old.failures) }
-        ensures empty { piece.now ≡ [] → (result ≡ Ok 0) × (self.new ≡ called self.old [] self.old.failures) }
+            × (self.new ≡ sink_after_call self.old (take (taken_of self.old piece.now) piece.now) self.old.failures) }
+        ensures empty { piece.now ≡ [] → (result ≡ Ok 0) × (self.new ≡ sink_after_call self.old [] self.old.failures) }
         ensures none { taken_of self.old piece.now ≡ 0 → 0 < length piece.now
-            → self.new ≡ called self.old [] (one_more self.old.failures) }
+            → self.new ≡ sink_after_call self.old [] (one_more self.old.failures) }
         ensures idle { self.old.step ≡ 0 → result ≡ Ok 0 }
         ensures full { taken_of self.old piece.now ≡ 0 → 0 < length piece.now → 0 < self.old.step → IsErr result }
     {

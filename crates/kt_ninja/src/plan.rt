@@ -7,7 +7,7 @@ ghost use Rattle.kt_ninja.specs.inner.Equality.{made_laws, plan_laws, statement_
 use kt_list::{Sequence, Text};
 
 /// The bytes of a path, without escapes.
-pub type Name = Text;
+pub type Path = Text;
 
 /// How the outputs of a statement are made.
 #[derive(Debug, Drop)]
@@ -22,14 +22,14 @@ pub enum Made {
 #[derive(Debug, Drop)]
 pub struct Statement {
     /// What one run of the command makes.
-    pub outs: Sequence<Name>,
+    pub outs: Sequence<Path>,
     pub made: Made,
     /// Explicit inputs, which `$in` names.
-    pub inputs: Sequence<Name>,
+    pub inputs: Sequence<Path>,
     /// Implicit inputs, after `|`.
-    pub implicit: Sequence<Name>,
+    pub implicit: Sequence<Path>,
     /// Order-only inputs, after `||`.
-    pub order_only: Sequence<Name>,
+    pub order_only: Sequence<Path>,
 }
 
 /// What a Ninja file says: its build statements and its default targets, each in order.
@@ -37,7 +37,7 @@ pub struct Statement {
 pub struct Plan {
     pub statements: Sequence<Statement>,
     /// Targets that Ninja builds when it is given none (Ninja manual, "Default target statements").
-    pub defaults: Sequence<Name>,
+    pub defaults: Sequence<Path>,
 }
 
 impl PartialEq for Made {

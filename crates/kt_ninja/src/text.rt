@@ -16,7 +16,7 @@ use crate::block::Block;
 use crate::escapes::Escapes;
 use crate::plan::Plan;
 use crate::sink::{Sink, WriteFault};
-use crate::view::{Listed, NamesView, PlanView};
+use crate::view::{NamesView, PlanNames, PlanView};
 use arrayvec::ArrayVec;
 use itoa::Buffer;
 
@@ -108,12 +108,12 @@ impl<'a, W: Sink> Block<'a, W> {
             → Puts W.seen self.old self.new (build_text number s) }
     {
         self.put(b"build");
-        self.put_names(&view.names(Listed::Outputs(statement)));
+        self.put_names(&view.names(PlanNames::Outputs(statement)));
         self.put(b": ");
         self.put_rule_name(digits, command);
-        self.put_names(&view.names(Listed::Inputs(statement)));
-        self.put_marked(b" |", &view.names(Listed::Implicit(statement)));
-        self.put_marked(b" ||", &view.names(Listed::OrderOnly(statement)));
+        self.put_names(&view.names(PlanNames::Inputs(statement)));
+        self.put_marked(b" |", &view.names(PlanNames::Implicit(statement)));
+        self.put_marked(b" ||", &view.names(PlanNames::OrderOnly(statement)));
         self.put(b"\n");
     }
 
@@ -150,7 +150,7 @@ impl<'a, W: Sink> Block<'a, W> {
     fn put_defaults<'v, V: PlanView<'v>>(&mut self, view: &'v V)
         ensures { Puts W.seen self.old self.new (defaults_text (V.plan view.now).defaults) }
     {
-        let defaults = view.names(Listed::Defaults);
+        let defaults = view.names(PlanNames::Defaults);
         let count = defaults.len();
         if count > 0 {
             self.put(b"default");

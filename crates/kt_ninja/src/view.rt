@@ -1,13 +1,13 @@
 //! Plans by places, wherever they are held.
 ghost use Rattle.std.specs.Prelude.{◌≡◌, ◌<◌, List, Some, ℕ, length, option_map, slice_get};
-ghost use Rattle.kt_ninja.specs.View.{made_at, made_by, names_at, names_listed};
+ghost use Rattle.kt_ninja.specs.View.{made_at, made_by, names_listed, statement_names};
 ghost use Rattle.kt_ninja.specs.declared.plan.Plan.{Plan as PlanSeen};
 
-use crate::plan::{Made, Name, Plan, Statement};
+use crate::plan::{Made, Path, Plan, Statement};
 
 /// A list of names of a plan: one of those of a statement, which is told by its place, or the default targets.
 #[derive(Debug, Clone, Copy, PartialEq, Eq)]
-pub enum Listed {
+pub enum PlanNames {
     Outputs(usize),
     Inputs(usize),
     Implicit(usize),
@@ -48,12 +48,12 @@ pub trait PlanView<'a> {
             ≡ made_at (slice_get (plan self.now).statements statement) };
 
     /// The names of a list.
-    fn names(&'a self, list: Listed) -> Self::Names
+    fn names(&'a self, list: PlanNames) -> Self::Names
         ensures { Self.Names.names result ≡ names_listed (plan self.now) list };
 }
 
-fn outs_in(statement: Option<&Statement>) -> &[Name]
-    ensures { result.now ≡ names_at (λ s. s.outs) (option_map (λ s. s.now) statement.entry) }
+fn outs_in(statement: Option<&Statement>) -> &[Path]
+    ensures { result.now ≡ statement_names (λ s. s.outs) (option_map (λ s. s.now) statement.entry) }
 {
     match statement {
         Some(statement) => statement.outs.as_slice(),
@@ -61,8 +61,8 @@ fn outs_in(statement: Option<&Statement>) -> &[Name]
     }
 }
 
-fn inputs_in(statement: Option<&Statement>) -> &[Name]
-    ensures { result.now ≡ names_at (λ s. s.inputs) (option_map (λ s. s.now) statement.entry) }
+fn inputs_in(statement: Option<&Statement>) -> &[Path]
+    ensures { result.now ≡ statement_names (λ s. s.inputs) (option_map (λ s. s.now) statement.entry) }
 {
     match statement {
         Some(statement) => statement.inputs.as_slice(),
@@ -70,8 +70,8 @@ fn inputs_in(statement: Option<&Statement>) -> &[Name]
     }
 }
 
-fn implicit_in(statement: Option<&Statement>) -> &[Name]
-    ensures { result.now ≡ names_at (λ s. s.implicit) (option_map (λ s. s.now) statement.entry) }
+fn implicit_in(statement: Option<&Statement>) -> &[Path]
+    ensures { result.now ≡ statement_names (λ s. s.implicit) (option_map (λ s. s.now) statement.entry) }
 {
     match statement {
         Some(statement) => statement.implicit.as_slice(),
@@ -79,8 +79,8 @@ fn implicit_in(statement: Option<&Statement>) -> &[Name]
     }
 }
 
-fn order_only_in(statement: Option<&Statement>) -> &[Name]
-    ensures { result.now ≡ names_at (λ s. s.order_only) (option_map (λ s. s.now) statement.entry) }
+fn order_only_in(statement: Option<&Statement>) -> &[Path]
+    ensures { result.now ≡ statement_names (λ s. s.order_only) (option_map (λ s. s.now) statement.entry) }
 {
     match statement {
         Some(statement) => statement.order_only.as_slice(),
@@ -88,15 +88,15 @@ fn order_only_in(statement: Option<&Statement>) -> &[Name]
     }
 }
 
-fn names_in(plan: &Plan, list: Listed) -> &[Name]
+fn names_in(plan: &Plan, list: PlanNames) -> &[Path]
     ensures { result.now ≡ names_listed plan.now list }
 {
     match list {
-        Listed::Outputs(place) => outs_in(plan.statements.as_slice().get(place)),
-        Listed::Inputs(place) => inputs_in(plan.statements.as_slice().get(place)),
-        Listed::Implicit(place) => implicit_in(plan.statements.as_slice().get(place)),
-        Listed::OrderOnly(place) => order_only_in(plan.statements.as_slice().get(place)),
-        Listed::Defaults => plan.defaults.as_slice(),
+        PlanNames::Outputs(place) => outs_in(plan.statements.as_slice().get(place)),
+        PlanNames::Inputs(place) => inputs_in(plan.statements.as_slice().get(place)),
+        PlanNames::Implicit(place) => implicit_in(plan.statements.as_slice().get(place)),
+        PlanNames::OrderOnly(place) => order_only_in(plan.statements.as_slice().get(place)),
+        PlanNames::Defaults => plan.defaults.as_slice(),
     }
 }
 
@@ -118,7 +118,7 @@ fn command_in(statement: Option<&Statement>) -> Option<&[u8]>
     }
 }
 
-impl<'a> NamesView<'a> for &'a [Name] {
+impl<'a> NamesView<'a> for &'a [Path] {
     ghost names = { λ names. names.now };
 
     fn len(&self) -> usize {
@@ -131,7 +131,7 @@ impl<'a> NamesView<'a> for &'a [Name] {
 }
 
 impl<'a> PlanView<'a> for Plan {
-    type Names = &'a [Name];
+    type Names = &'a [Path];
 
     ghost use Rattle.std.specs.Prelude.{◌≡◌, ◌<◌, Some, length, option_map, slice_get};
     ghost use Rattle.kt_ninja.specs.View.{made_at, made_by, names_listed};
@@ -146,7 +146,7 @@ impl<'a> PlanView<'a> for Plan {
         command_in(self.statements.as_slice().get(statement))
     }
 
-    fn names(&'a self, list: Listed) -> &'a [Name] {
+    fn names(&'a self, list: PlanNames) -> &'a [Path] {
         names_in(self, list)
     }
 }

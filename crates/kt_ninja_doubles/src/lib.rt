@@ -4,7 +4,7 @@
 #![tactic(auto)]
 
 use kt_list::{Sequence, Text};
-use kt_ninja::{Made, Name, Plan, Statement};
+use kt_ninja::{Made, Path, Plan, Statement};
 use kt_testing::put;
 use std::alloc::Global;
 
@@ -16,11 +16,11 @@ fn put_names(told: &mut Vec<u8>, names: &[Text], mark: &[u8]) {
     }
 }
 
-fn put_name(names: &mut Vec<Name>, name: Vec<u8>) {
-    let _refused = names.push(Name::from(name));
+fn put_name(names: &mut Vec<Path>, name: Vec<u8>) {
+    let _refused = names.push(Path::from(name));
 }
 
-fn names_of(alloc: Global, field: &[u8]) -> Sequence<Name> {
+fn names_of(alloc: Global, field: &[u8]) -> Sequence<Path> {
     let mut names = Vec::new(alloc);
     let mut name = Vec::new(alloc);
     for byte in field {
@@ -79,7 +79,7 @@ pub fn plan_of(alloc: Global, text: &[u8]) -> Plan {
     }
 }
 
-fn put_field(text: &mut Vec<u8>, names: &[Name], end: &[u8]) {
+fn put_field(text: &mut Vec<u8>, names: &[Path], end: &[u8]) {
     put_names(text, names, b",");
     put(text, end);
 }

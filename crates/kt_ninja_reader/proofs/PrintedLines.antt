@@ -1,7 +1,7 @@
 -- The text of a plan as lines of pieces, and these as the parts of a file.
 use Rattle.std.proofs.Common.{arith, ◌≡◌, ◌∙◌, ℕ, ◌+◌, List, [], ◌∷◌, ◌++◌, refl, sym, ap, ap₂, map, append-nil, append_assoc, Bool, true, not, ◌==◌, ◌&&◌, ◌||◌, Some, None, codes}
-use Rattle.kt_ninja_reader.proofs.Common.{concat, list_all, and_from, and_parts, list_all-append, flat_map-append, Plain, Made, Command, Phony, Statement, JoinedLine, Text, file_lines, joined_from, Pieces, FilePart, cut_lines, cut_with, names_of, defaults_text, marked_text, names_text, rule_count, rule_name_text, rule_text, statements_text, is_command_byte, is_empty, is_made, is_name}
-use Rattle.kt_ninja_reader.specs.NinjaRead.{Cut}
+use Rattle.kt_ninja_reader.proofs.Common.{concat, list_all, and_from, and_parts, list_all-append, flat_map-append, Plain, Made, Command, Phony, Statement, JoinedLine, Bytes, file_lines, joined_from, Spelling, FilePart, cut_lines, cut_with, names_of, defaults_text, marked_text, names_text, rule_count, rule_name_text, rule_text, statements_text, is_command_byte, is_empty, is_writable_making, is_name}
+use Rattle.kt_ninja_reader.specs.NinjaRead.{FileParts}
 use Rattle.kt_ninja_reader.proofs.PrintedPieces.{all_both, all_implies, command_bytes, is_printed, neither, nothing_open, written, written_append, written_by}
 use Rattle.kt_ninja_reader.proofs.PrintedNames.{command_pieces, command_printed, command_written, is_name_piece, name_pieces, name_printed, names_are_words, plain_pieces, rule_name_bytes, written_plain}
 use Rattle.kt_ninja_reader.proofs.PrintedForms.{after_colon, after_pass, ended, spaced, spaced_pass, words_pass}
@@ -9,31 +9,31 @@ use Rattle.kt_ninja_reader.proofs.PrintedForms.{after_colon, after_pass, ended, 
 -- ---- texts
 
 -- names after their spaces, written, are their text
-pub names_written : (names : List Text) → written (spaced (map name_pieces names)) ≡ names_text names
+pub names_written : (names : List Bytes) → written (spaced (map name_pieces names)) ≡ names_text names
 names_written [] = refl
 names_written (n ∷ ns) = grind (arith, written_append, name_pieces, spaced, ap₂, written_by, names_written ns)
 
 -- words with a space after them
-ended_then : (ws : List Pieces) (t : Text) → written (spaced (ended ws)) ++ t ≡ written (spaced ws) ++ (32 ∷ t)
+ended_then : (ws : List Spelling) (t : Bytes) → written (spaced (ended ws)) ++ t ≡ written (spaced ws) ++ (32 ∷ t)
 ended_then ws t = grind (arith, written, flat_map-append, written_append, spaced, append_assoc)
 
 -- the rule's name and the inputs
-abbrev front_pieces : Text → List Text → List Pieces
+abbrev front_pieces : Bytes → List Bytes → List Spelling
 front_pieces rule ins = map Plain rule ∷ map name_pieces ins
 
 -- the text before the first bar
-front_written : (rule : Text) (ins : List Text) → written (spaced (front_pieces rule ins)) ≡ 32 ∷ (rule ++ names_text ins)
+front_written : (rule : Bytes) (ins : List Bytes) → written (spaced (front_pieces rule ins)) ≡ 32 ∷ (rule ++ names_text ins)
 front_written rule ins = grind (arith, written_append, spaced, name_pieces, ap₂, written_plain, names_written)
 
 -- the same where a bar follows
-front_then : (rule : Text) (ins : List Text) (t : Text)
+front_then : (rule : Bytes) (ins : List Bytes) (t : Bytes)
     → written (spaced (ended (front_pieces rule ins))) ++ t ≡ 32 ∷ (rule ++ (names_text ins ++ (32 ∷ t)))
 front_then rule ins t =
     ended_then (front_pieces rule ins) t ∙ ap (λ x. x ++ (32 ∷ t)) (front_written rule ins)
     ∙ ap (λ x. 32 ∷ x) (append_assoc rule (names_text ins) (32 ∷ t))
 
 -- all that stands after the colon
-after_written : (rule : Text) (ins is os : List Text)
+after_written : (rule : Bytes) (ins is os : List Bytes)
     → written (after_colon (front_pieces rule ins) (map name_pieces is) (map name_pieces os))
     ≡ 32 ∷ (rule ++ (names_text ins ++ (marked_text (codes " |") is ++ marked_text (codes " ||") os)))
 after_written rule ins [] [] = front_written rule ins ∙ ap (λ x. 32 ∷ (rule ++ x)) (sym (append-nil (names_text ins)))
@@ -59,45 +59,45 @@ after_written rule ins (i ∷ is) (o ∷ os) =
     ∙ front_then rule ins (124 ∷ (names_text (i ∷ is) ++ (32 ∷ 124 ∷ 124 ∷ names_text (o ∷ os))))
 
 -- the line of a rule
-abbrev pub rule_line : Text → Pieces
+abbrev pub rule_line : Bytes → Spelling
 rule_line rule = map Plain (codes "rule ") ++ map Plain rule
 
 -- the line of its command
-abbrev pub command_line : Text → Pieces
+abbrev pub command_line : Bytes → Spelling
 command_line c = map Plain (codes " command = ") ++ command_pieces c
 
 -- a build line
-abbrev pub build_line : Text → Statement → Pieces
+abbrev pub build_line : Bytes → Statement → Spelling
 build_line rule s =
     map Plain (codes "build") ++ (spaced (map name_pieces s.outs)
     ++ (Plain 58 ∷ after_colon (front_pieces rule s.inputs) (map name_pieces s.implicit) (map name_pieces s.order_only)))
 
 -- the line of the default targets
-abbrev pub default_line : List Text → Pieces
+abbrev pub default_line : List Bytes → Spelling
 default_line names = map Plain (codes "default") ++ spaced (map name_pieces names)
 
 -- a build line by its rule's name
-abbrev pub build_named : Text → Statement → Text
+abbrev pub build_named : Bytes → Statement → Bytes
 build_named rule s =
     concat (codes "build" ∷ names_text s.outs ∷ codes ": " ∷ rule ∷ names_text s.inputs
     ∷ marked_text (codes " |") s.implicit ∷ marked_text (codes " ||") s.order_only ∷ codes "\n" ∷ [])
 
 -- a build line and what follows it
-regrouped : (outs rule ins is os rest : Text)
+regrouped : (outs rule ins is os rest : Bytes)
     → (outs ++ (58 ∷ 32 ∷ (rule ++ (ins ++ (is ++ (os ++ (10 ∷ []))))))) ++ rest ≡ (outs ++ (58 ∷ 32 ∷ (rule ++ (ins ++ (is ++ os))))) ++ (10 ∷ rest)
 regrouped outs rule ins is os rest = simp append_assoc
 
 -- the build line as pieces, and its newline
-pub build_written : (rule : Text) (s : Statement) (rest : Text) → build_named rule s ++ rest ≡ written (build_line rule s) ++ (10 ∷ rest)
+pub build_written : (rule : Bytes) (s : Statement) (rest : Bytes) → build_named rule s ++ rest ≡ written (build_line rule s) ++ (10 ∷ rest)
 build_written rule s rest = grind (arith, codes, regrouped, written_append, spaced, name_pieces, after_colon, ap₂, names_written, after_written)
 
 -- the rule's two lines as pieces, with their newlines
-pub rule_written : (number : ℕ) (c : Text) (rest : Text)
+pub rule_written : (number : ℕ) (c : Bytes) (rest : Bytes)
     → rule_text number (Command c) ++ rest ≡ written (rule_line (rule_name_text number (Command c))) ++ (10 ∷ (written (command_line c) ++ (10 ∷ rest)))
 rule_written number c rest = grind (arith, codes, append_assoc, ap₂, written_plain, append-nil, command_written)
 
 -- the line of default targets as pieces, and its newline
-pub defaults_written : (names : List Text) → codes "default" ++ (names_text names ++ (10 ∷ [])) ≡ written (default_line names) ++ (10 ∷ [])
+pub defaults_written : (names : List Bytes) → codes "default" ++ (names_text names ++ (10 ∷ [])) ≡ written (default_line names) ++ (10 ∷ [])
 defaults_written names = ap (λ t. codes "default" ++ (t ++ (10 ∷ []))) (sym (names_written names))
 
 -- ---- what the printer writes, it writes by pieces
@@ -122,7 +122,7 @@ named_from s e =
     record { outs = one.0; inputs = two.0; implicit = three.0; order_only = three.1 }
 
 -- the pieces of names are printed
-names_printed : (names : List Text) → list_all is_name names ≡ true → list_all (list_all is_printed) (map name_pieces names) ≡ true
+names_printed : (names : List Bytes) → list_all is_name names ≡ true → list_all (list_all is_printed) (map name_pieces names) ≡ true
 names_printed names e = words_pass is_printed name_printed (map name_pieces names) (names_are_words names e)
 
 -- those of a rule's name are
@@ -134,7 +134,7 @@ pub rule_line_printed : (number : ℕ) (made : Made) → list_all is_printed (ru
 rule_line_printed number made = rule_pieces_printed number made
 
 -- of its command's line
-pub command_line_printed : (c : Text) → list_all is_command_byte c ≡ true → list_all is_printed (command_line c) ≡ true
+pub command_line_printed : (c : Bytes) → list_all is_command_byte c ≡ true → list_all is_printed (command_line c) ≡ true
 command_line_printed c e = command_printed c e
 
 -- of a build line
@@ -142,13 +142,13 @@ pub build_line_printed : (number : ℕ) (made : Made) (s : Statement) → Named 
 build_line_printed number made s named = grind (arith, all_both, is_printed, spaced, name_pieces, spaced_pass, names_printed, after_pass, and_from, rule_pieces_printed)
 
 -- of the line of default targets
-pub default_line_printed : (names : List Text) → list_all is_name names ≡ true → list_all is_printed (default_line names) ≡ true
+pub default_line_printed : (names : List Bytes) → list_all is_name names ≡ true → list_all is_printed (default_line names) ≡ true
 default_line_printed names e = spaced_pass is_printed refl (map name_pieces names) (names_printed names e)
 
 -- ---- lines
 
 -- the first line of a file
-line_cut : (bytes rest : Text) → list_all is_command_byte bytes ≡ true → file_lines (bytes ++ (10 ∷ rest)) ≡ record { bytes = bytes; ended = true } ∷ file_lines rest
+line_cut : (bytes rest : Bytes) → list_all is_command_byte bytes ≡ true → file_lines (bytes ++ (10 ∷ rest)) ≡ record { bytes = bytes; ended = true } ∷ file_lines rest
 unfolding file_lines
 line_cut [] rest e = refl
 line_cut (b ∷ bs) rest e =
@@ -157,21 +157,21 @@ line_cut (b ∷ bs) rest e =
     rw (other, line_cut bs rest both.1) refl
 
 -- the line of these pieces
-abbrev pub line : ℕ → Pieces → JoinedLine
+abbrev pub line : ℕ → Spelling → JoinedLine
 line number ps = record { number = number; text = written ps; ended = true }
 
 -- the joined lines of a text from this line on
-abbrev pub lines_at : ℕ → Text → List JoinedLine
+abbrev pub lines_at : ℕ → Bytes → List JoinedLine
 lines_at number text = joined_from number None (file_lines text)
 
 -- nothing is joined to a printed line
-line_first : (number : ℕ) (ps : Pieces) (rest : Text) → list_all is_printed ps ≡ true
+line_first : (number : ℕ) (ps : Spelling) (rest : Bytes) → list_all is_printed ps ≡ true
     → lines_at number (written ps ++ (10 ∷ rest)) ≡ line number ps ∷ lines_at (number + 1) rest
 unfolding joined_from
 line_first number ps rest e = grind (arith, line_cut, written, command_bytes, nothing_open)
 
 -- a printed line before the others, cut into parts
-pub cut_line : (number : ℕ) (ps : Pieces) (rest : Text) → list_all is_printed ps ≡ true
+pub cut_line : (number : ℕ) (ps : Spelling) (rest : Bytes) → list_all is_printed ps ≡ true
     → cut_lines (lines_at number (written ps ++ (10 ∷ rest))) ≡ cut_with (line number ps) (cut_lines (lines_at (number + 1) rest))
 unfolding cut_lines
 cut_line number ps rest e = ap cut_lines (line_first number ps rest e)
@@ -179,11 +179,11 @@ cut_line number ps rest e = ap cut_lines (line_first number ps rest e)
 -- ---- parts
 
 -- a part with a line of these pieces at the margin
-abbrev pub part : ℕ → Pieces → List JoinedLine → FilePart
+abbrev pub part : ℕ → Spelling → List JoinedLine → FilePart
 part number ps body = record { number = number; head = Some (line number ps); body = body }
 
 -- parts with no line before them
-abbrev pub from_parts : List FilePart → Cut
+abbrev pub from_parts : List FilePart → FileParts
 from_parts parts = record { before = []; parts = parts }
 
 -- the line after a statement that begins at this line
@@ -199,18 +199,18 @@ statement_parts number at s (Command c) later =
 statement_parts number at s Phony later = part at (build_line (codes "phony") s) [] ∷ later
 
 -- the part of the default targets, if there are any
-abbrev pub default_parts : ℕ → List Text → List FilePart
+abbrev pub default_parts : ℕ → List Bytes → List FilePart
 default_parts at [] = []
 default_parts at (n ∷ ns) = part at (default_line (n ∷ ns)) [] ∷ []
 
 -- the parts of statements and default targets, the first rule of which has this number, from this line on
-abbrev pub plan_parts : ℕ → ℕ → List Statement → List Text → List FilePart
+abbrev pub plan_parts : ℕ → ℕ → List Statement → List Bytes → List FilePart
 plan_parts number at [] defaults = default_parts at defaults
 plan_parts number at (s ∷ ss) defaults =
     statement_parts number at s s.made (plan_parts (number + rule_count s.made) (line_after s.made at) ss defaults)
 
 -- a build line before the others
-build_cut : (number at : ℕ) (made : Made) (s : Statement) (rest : Text) (later : List FilePart) → Named s
+build_cut : (number at : ℕ) (made : Made) (s : Statement) (rest : Bytes) (later : List FilePart) → Named s
     → cut_lines (lines_at (at + 1) rest) ≡ from_parts later
     → cut_lines (lines_at at (build_named (rule_name_text number made) s ++ rest)) ≡ from_parts (part at (build_line (rule_name_text number made) s) [] ∷ later)
 build_cut number at made s rest later named more =
@@ -220,7 +220,7 @@ build_cut number at made s rest later named more =
     ∙ ap (cut_with (line at ps)) more
 
 -- a statement before the others
-statement_cut : (number at : ℕ) (s : Statement) (made : Made) (rest : Text) (later : List FilePart) → is_made made ≡ true → Named s
+statement_cut : (number at : ℕ) (s : Statement) (made : Made) (rest : Bytes) (later : List FilePart) → is_writable_making made ≡ true → Named s
     → cut_lines (lines_at (line_after made at) rest) ≡ from_parts later
     → cut_lines (lines_at at ((rule_text number made ++ build_named (rule_name_text number made) s) ++ rest)) ≡ from_parts (statement_parts number at s made later)
 statement_cut number at s (Command c) rest later can named more =
@@ -234,7 +234,7 @@ statement_cut number at s (Command c) rest later can named more =
 statement_cut number at s Phony rest later can named more = build_cut number at Phony s rest later named more
 
 -- the default targets at the end
-defaults_cut : (at : ℕ) (names : List Text) → list_all is_name names ≡ true → cut_lines (lines_at at (defaults_text names)) ≡ from_parts (default_parts at names)
+defaults_cut : (at : ℕ) (names : List Bytes) → list_all is_name names ≡ true → cut_lines (lines_at at (defaults_text names)) ≡ from_parts (default_parts at names)
 unfolding file_lines joined_from cut_lines
 defaults_cut at [] e = refl
 defaults_cut at (n ∷ ns) e =
@@ -242,13 +242,13 @@ defaults_cut at (n ∷ ns) e =
     ∙ cut_line at (default_line (n ∷ ns)) [] (default_line_printed (n ∷ ns) e)
 
 -- the statements and default targets as parts of the file
-pub plan_cut : (number at : ℕ) (ss : List Statement) (defaults : List Text)
-    → list_all (λ s. list_all is_name (names_of s) && is_made s.made) ss ≡ true → list_all is_name defaults ≡ true
+pub plan_cut : (number at : ℕ) (ss : List Statement) (defaults : List Bytes)
+    → list_all (λ s. list_all is_name (names_of s) && is_writable_making s.made) ss ≡ true → list_all is_name defaults ≡ true
     → cut_lines (lines_at at (statements_text number ss ++ defaults_text defaults)) ≡ from_parts (plan_parts number at ss defaults)
 plan_cut number at [] defaults e d = defaults_cut at defaults d
 plan_cut number at (s ∷ ss) defaults e d =
-    let both = and_parts (list_all is_name (names_of s) && is_made s.made) (list_all (λ x. list_all is_name (names_of x) && is_made x.made) ss) e in
-    let here = and_parts (list_all is_name (names_of s)) (is_made s.made) both.0 in
+    let both = and_parts (list_all is_name (names_of s) && is_writable_making s.made) (list_all (λ x. list_all is_name (names_of x) && is_writable_making x.made) ss) e in
+    let here = and_parts (list_all is_name (names_of s)) (is_writable_making s.made) both.0 in
     let rest = statements_text (number + rule_count s.made) ss ++ defaults_text defaults in
     let later = plan_parts (number + rule_count s.made) (line_after s.made at) ss defaults in
     ap (λ t. cut_lines (lines_at at t)) (append_assoc (rule_text number s.made ++ build_named (rule_name_text number s.made) s) (statements_text (number + rule_count s.made) ss) (defaults_text defaults))

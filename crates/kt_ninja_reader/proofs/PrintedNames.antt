@@ -1,6 +1,6 @@
 -- What the printer writes for names, rules' names and commands, as pieces.
 use Rattle.std.proofs.Common.{rules, ◌≡◌, ◌∙◌, ◌<◌, ℕ, zero, suc, ◌+◌, List, [], ◌∷◌, ◌++◌, refl, sym, ap, ap₂, map, get_or, eqb-true, arith, le-leb, append_assoc, append-nil, Bool, true, false, not, ◌==◌, ◌&&◌, ◌||◌, nat_le, Some, codes, if◌then◌else◌}
-use Rattle.kt_ninja_reader.proofs.Common.{list_all, and_from, and_parts, or_left, or_right, Made, Text, Piece, Plain, Escaped, Variable, is_escapable, is_long_name_byte, Pieces, name_bytes, expanded, names_one, refers_to, command_text, is_special_in_command, is_special_in_name, number_text, rule_name_text, is_command_byte, is_empty, is_name, is_name_byte}
+use Rattle.kt_ninja_reader.proofs.Common.{list_all, and_from, and_parts, or_left, or_right, Made, Bytes, Piece, Plain, Escaped, Variable, is_escapable, is_long_name_byte, Spelling, name_bytes, bound_text, names_one, refers_to, command_text, is_special_in_command, is_special_in_name, number_text, rule_name_text, is_command_byte, is_empty, is_name, is_path_byte}
 use Rattle.std.specs.Int.Digits.{AllBelowBase, digits_of}
 use Rattle.std.proofs.Math.Bool.{or_assoc}
 use Rattle.std.proofs.lemmas.Int.Digits.{all_below_base_digits_of, first_digits_of, same_from_digits_of}
@@ -11,15 +11,15 @@ use Rattle.kt_ninja_reader.proofs.PrintedPieces.{by_passes, expanded_by, is_prin
 
 -- a piece of a printed name
 abbrev pub is_name_piece : Piece → Bool
-is_name_piece (Plain b) = not (is_escapable b) && is_name_byte b
+is_name_piece (Plain b) = not (is_escapable b) && is_path_byte b
 is_name_piece (Escaped b) = is_escapable b
 is_name_piece (Variable name) = false
 
 -- one name or more pieces
-abbrev pub is_word : Pieces → Bool
+abbrev pub is_word : Spelling → Bool
 is_word ps = not (is_empty ps) && list_all is_name_piece ps
 
-abbrev pub name_pieces : Text → Pieces
+abbrev pub name_pieces : Bytes → Spelling
 name_pieces name = pieces_by is_special_in_name name
 
 -- what is special in a name is what a dollar can escape
@@ -27,22 +27,22 @@ same_special : (b : ℕ) → is_special_in_name b ≡ is_escapable b
 same_special b = or_assoc (b == 36) (b == 32) (b == 58)
 
 -- each byte of a name gives such a piece
-name_piece_case : (b : ℕ) (special : Bool) → is_special_in_name b ≡ special → is_name_byte b ≡ true → is_name_piece (piece_by special b) ≡ true
+name_piece_case : (b : ℕ) (special : Bool) → is_special_in_name b ≡ special → is_path_byte b ≡ true → is_name_piece (piece_by special b) ≡ true
 name_piece_case b special is byte = grind (arith, same_special, and_from, not)
 
 -- a name that can be written is a word
-pub name_is_word : (name : Text) → is_name name ≡ true → is_word (name_pieces name) ≡ true
+pub name_is_word : (name : Bytes) → is_name name ≡ true → is_word (name_pieces name) ≡ true
 name_is_word name e = grind (arith, by_passes, name_piece_case)
 
 -- so are all names of a list
-pub names_are_words : (names : List Text) → list_all is_name names ≡ true → list_all is_word (map name_pieces names) ≡ true
+pub names_are_words : (names : List Bytes) → list_all is_name names ≡ true → list_all is_word (map name_pieces names) ≡ true
 names_are_words [] e = refl
 names_are_words (n ∷ ns) e =
     let both = and_parts (is_name n) (list_all is_name ns) e in
     and_from (is_word (name_pieces n)) (list_all is_word (map name_pieces ns)) (name_is_word n both.0) (names_are_words ns both.1)
 
 -- a byte of a name can stand in a command
-command_byte : (b : ℕ) → is_name_byte b ≡ true → is_command_byte b ≡ true
+command_byte : (b : ℕ) → is_path_byte b ≡ true → is_command_byte b ≡ true
 command_byte b e = ap not (neither (b == 124) (b == 13 || (b == 10 || b == 0)) e).1
 
 -- a piece of a name is one that the printer writes
@@ -98,7 +98,7 @@ pub rule_name_bytes : (number : ℕ) (made : Made) → list_all is_long_name_byt
 rule_name_bytes number made = grind (arith, append-nil, number_bytes)
 
 -- such a name is read from plain pieces
-pub name_bytes_plain : (bs : Text) → list_all is_long_name_byte bs ≡ true → name_bytes (map Plain bs) ≡ Some bs
+pub name_bytes_plain : (bs : Bytes) → list_all is_long_name_byte bs ≡ true → name_bytes (map Plain bs) ≡ Some bs
 unfolding name_bytes
 name_bytes_plain [] e = refl
 name_bytes_plain (b ∷ bs) e =
@@ -106,7 +106,7 @@ name_bytes_plain (b ∷ bs) e =
     rw (both.0, name_bytes_plain bs both.1) refl
 
 -- plain pieces are written as they are
-pub written_plain : (bs : Text) → written (map Plain bs) ≡ bs
+pub written_plain : (bs : Bytes) → written (map Plain bs) ≡ bs
 written_plain [] = refl
 written_plain (b ∷ bs) = ap (λ later. b ∷ later) (written_plain bs)
 
@@ -119,7 +119,7 @@ long_piece : (b : ℕ) → is_long_name_byte b ≡ true → is_name_piece (Plain
 long_piece b e = search (rules, other_byte)
 
 -- and so does the whole name
-pub plain_pieces : (bs : Text) → list_all is_long_name_byte bs ≡ true → list_all is_name_piece (map Plain bs) ≡ true
+pub plain_pieces : (bs : Bytes) → list_all is_long_name_byte bs ≡ true → list_all is_name_piece (map Plain bs) ≡ true
 plain_pieces [] e = refl
 plain_pieces (b ∷ bs) e =
     let both = and_parts (is_long_name_byte b) (list_all is_long_name_byte bs) e in
@@ -128,7 +128,7 @@ plain_pieces (b ∷ bs) e =
 -- ---- commands
 
 -- the pieces of a printed command: a first space stands after a dollar too
-abbrev pub command_pieces : Text → Pieces
+abbrev pub command_pieces : Bytes → Spelling
 command_pieces [] = []
 command_pieces (b ∷ bs) = piece_by (b == 32 || b == 36) b ∷ pieces_by is_special_in_command bs
 
@@ -138,12 +138,12 @@ first_written : (b : ℕ) (space dollar : Bool) → (b == 32) ≡ space → (b =
 first_written b space dollar s d = grind (arith, eqb-true)
 
 -- a command, written, is its text
-pub command_written : (c : Text) → written (command_pieces c) ≡ command_text c
+pub command_written : (c : Bytes) → written (command_pieces c) ≡ command_text c
 command_written c = grind (arith, ap₂, first_written, written_by, append_assoc)
 
 -- it stands for the command
-pub command_expanded : (value_of : Text → Text) (c : Text) → expanded value_of (command_pieces c) ≡ c
-unfolding expanded
+pub command_expanded : (value_of : Bytes → Bytes) (c : Bytes) → bound_text value_of (command_pieces c) ≡ c
+unfolding bound_text
 command_expanded value_of [] = refl
 command_expanded value_of (b ∷ bs) =
     ap₂ (λ one later. one ++ later) (one_expanded value_of (b == 32 || b == 36) b) (expanded_by value_of is_special_in_command bs)
@@ -158,19 +158,19 @@ first_piece : (b : ℕ) (space dollar : Bool) → (b == 32) ≡ space → (b == 
 first_piece b space dollar s d byte = grind (arith, or_right, or_left, command_piece)
 
 -- and so is the whole command
-pub command_printed : (c : Text) → list_all is_command_byte c ≡ true → list_all is_printed (command_pieces c) ≡ true
+pub command_printed : (c : Bytes) → list_all is_command_byte c ≡ true → list_all is_printed (command_pieces c) ≡ true
 command_printed c e = grind (arith, and_parts, and_from, first_piece, by_passes, is_printed, command_piece)
 
 -- a byte is no variable
-unnamed : (test : Text → Bool) (special : Bool) (b : ℕ) → names_one test (piece_by special b) ≡ false
+unnamed : (test : Bytes → Bool) (special : Bool) (b : ℕ) → names_one test (piece_by special b) ≡ false
 unnamed test special b = grind arith
 
 -- no byte of an escaped text is
-by_unnamed : (test : Text → Bool) (special : ℕ → Bool) (bs : Text) → refers_to test (pieces_by special bs) ≡ false
+by_unnamed : (test : Bytes → Bool) (special : ℕ → Bool) (bs : Bytes) → refers_to test (pieces_by special bs) ≡ false
 by_unnamed test special [] = refl
 by_unnamed test special (b ∷ bs) = ap₂ (λ one later. one || later) (unnamed test (special b) b) (by_unnamed test special bs)
 
 -- a printed command refers to no variable
-pub command_alone : (test : Text → Bool) (c : Text) → refers_to test (command_pieces c) ≡ false
+pub command_alone : (test : Bytes → Bool) (c : Bytes) → refers_to test (command_pieces c) ≡ false
 command_alone test [] = refl
 command_alone test (b ∷ bs) = ap₂ (λ one later. one || later) (unnamed test (b == 32 || b == 36) b) (by_unnamed test is_special_in_command bs)

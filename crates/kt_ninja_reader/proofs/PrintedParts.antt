@@ -1,6 +1,6 @@
 -- The lines of a printed plan, each read as what it was printed for.
 use Rattle.std.proofs.Common.{arith, rules, ◌≡◌, ◌∙◌, ℕ, ◌+◌, List, [], ◌∷◌, ◌++◌, refl, ap, map, true, false, not, Option, Some, None, option_map, is_none, codes, if◌then◌else◌}
-use Rattle.kt_ninja_reader.proofs.Common.{list_all, option_and_then, and_from, and_parts, Made, Command, Statement, JoinedLine, Text, is_comment, Plain, pieces, Binding, Build, Form, Pieces, build_form, build_of, default_form, defaults_of, form_of, rule_form, rule_of, ScopeTable, find_in, put_in, value_in, value_within, Making, State, PendingStatement, add_defaults, add_statement, are_new, block_from, block_of, block_scope, is_file_byte, is_sound, making_of, outs_of, paths_in, read_build, read_default, read_form, read_head, read_part, read_rule, rule_command, pending_with, is_special_in_name, rule_name_text, is_among, is_command, is_command_byte, is_empty, is_name}
+use Rattle.kt_ninja_reader.proofs.Common.{list_all, option_and_then, and_from, and_parts, Made, Command, Statement, JoinedLine, Bytes, is_comment, Plain, pieces, Binding, Build, MarginForm, Spelling, build_form, build_of, default_form, defaults_of, margin_form, rule_form, rule_name_in, ScopeTable, find_in, put_in, value_in, value_within, Making, State, PendingStatement, add_defaults, add_statement, are_new, block_from, block_of, block_scope, is_file_byte, is_sound, making_of, pending_outs, paths_in, read_build, read_default, read_form, read_head, read_part, read_rule, rule_command, pending_with, is_special_in_name, rule_name_text, is_among, is_command, is_command_byte, is_empty, is_name}
 use Rattle.kt_ninja_reader.proofs.PrintedPieces.{all_implies, command_bytes, expanded_by, is_printed, neither, pieces_from_written, written}
 use Rattle.kt_ninja_reader.proofs.PrintedNames.{command_alone, command_pieces, is_word, name_bytes_plain, name_pieces, names_are_words, plain_pieces, rule_name_bytes}
 use Rattle.kt_ninja_reader.proofs.PrintedForms.{after_build, after_colon, binding_printed, build_printed, built, defaults_printed, inputs_are, rule_printed, spaced}
@@ -13,20 +13,20 @@ file_byte : (b : ℕ) → is_command_byte b ≡ true → is_file_byte b ≡ true
 file_byte b e = grind (arith, neither, not)
 
 -- a printed line is sound
-sound : (number : ℕ) (ps : Pieces) → list_all is_printed ps ≡ true → is_sound (line number ps) ≡ true
+sound : (number : ℕ) (ps : Spelling) → list_all is_printed ps ≡ true → is_sound (line number ps) ≡ true
 sound number ps e = all_implies is_command_byte is_file_byte file_byte (written ps) (command_bytes ps e)
 
 -- the pieces of what was written
-pieces_written : (ps : Pieces) → list_all is_printed ps ≡ true → pieces (written ps) ≡ Some ps
+pieces_written : (ps : Spelling) → list_all is_printed ps ≡ true → pieces (written ps) ≡ Some ps
 unfolding pieces
 pieces_written ps e = pieces_from_written ps e
 
 -- the binding of a command
-abbrev bound : Text → Binding
+abbrev bound : Bytes → Binding
 bound c = record { key = codes "command"; value = command_pieces c }
 
 -- the rule's block
-block_printed : (number : ℕ) (c : Text) → list_all is_command_byte c ≡ true → block_of (line number (command_line c) ∷ []) ≡ Some (bound c ∷ [])
+block_printed : (number : ℕ) (c : Bytes) → list_all is_command_byte c ≡ true → block_of (line number (command_line c) ∷ []) ≡ Some (bound c ∷ [])
 unfolding block_from is_comment
 block_printed number c e = search (rules, pieces_written, command_line, command_line_printed, binding_printed)
 
@@ -35,29 +35,29 @@ rule_is_word : (number : ℕ) (made : Made) → is_word (map Plain (rule_name_te
 rule_is_word number made = grind (arith, plain_pieces, rule_name_bytes)
 
 -- the form of a rule's line
-rule_line_form : (number : ℕ) (c : Text) → form_of (written (rule_line (rule_name_text number (Command c)))) ≡ Some (rule_form (rule_name_text number (Command c)))
-unfolding form_of
+rule_line_form : (number : ℕ) (c : Bytes) → margin_form (written (rule_line (rule_name_text number (Command c)))) ≡ Some (rule_form (rule_name_text number (Command c)))
+unfolding margin_form
 rule_line_form number c =
     let rule = rule_name_text number (Command c) in
-    ap (option_and_then (λ ps. option_map rule_form (rule_of ps))) (pieces_written (map Plain rule) (rule_line_printed number (Command c)))
+    ap (option_and_then (λ ps. option_map rule_form (rule_name_in ps))) (pieces_written (map Plain rule) (rule_line_printed number (Command c)))
     ∙ ap (option_map rule_form) (rule_printed (map Plain rule) rule (rule_is_word number (Command c)) (name_bytes_plain rule (rule_name_bytes number (Command c))))
 
 -- what a build line says
-abbrev build_of_names : Text → List Text → List Text → List Text → List Text → Build
+abbrev build_of_names : Bytes → List Bytes → List Bytes → List Bytes → List Bytes → Build
 build_of_names rule outs ins is order = built (map name_pieces outs) rule (inputs_are (map name_pieces ins) (map name_pieces is) (map name_pieces order))
 
 -- its pieces after `build`
-abbrev pieces_of_names : Text → List Text → List Text → List Text → List Text → Pieces
+abbrev pieces_of_names : Bytes → List Bytes → List Bytes → List Bytes → List Bytes → Spelling
 pieces_of_names rule outs ins is order =
     spaced (map name_pieces outs) ++ (Plain 58 ∷ after_colon (map Plain rule ∷ map name_pieces ins) (map name_pieces is) (map name_pieces order))
 
 -- the form of a build line
-build_form_is : (number : ℕ) (made : Made) (outs ins is order : List Text) → not (is_empty outs) ≡ true
+build_form_is : (number : ℕ) (made : Made) (outs ins is order : List Bytes) → not (is_empty outs) ≡ true
     → list_all is_name outs ≡ true → list_all is_name ins ≡ true → list_all is_name is ≡ true → list_all is_name order ≡ true
     → list_all is_printed (pieces_of_names (rule_name_text number made) outs ins is order) ≡ true
-    → form_of (codes "build" ++ written (pieces_of_names (rule_name_text number made) outs ins is order))
+    → margin_form (codes "build" ++ written (pieces_of_names (rule_name_text number made) outs ins is order))
     ≡ Some (build_form (build_of_names (rule_name_text number made) outs ins is order))
-unfolding form_of
+unfolding margin_form
 build_form_is number made [] ins is order some a b c d e = absurd (cc some)
 build_form_is number made (o ∷ os) ins is order some a b c d e =
     let rule = rule_name_text number made in
@@ -71,14 +71,14 @@ build_form_is number made (o ∷ os) ins is order some a b c d e =
 
 -- the same of a statement
 build_line_form : (number : ℕ) (made : Made) (s : Statement) → not (is_empty s.outs) ≡ true → Named s
-    → form_of (written (build_line (rule_name_text number made) s))
+    → margin_form (written (build_line (rule_name_text number made) s))
     ≡ Some (build_form (build_of_names (rule_name_text number made) s.outs s.inputs s.implicit s.order_only))
 build_line_form number made s some named = grind (arith, build_form_is, build_line_printed)
 
 -- the form of the line of default targets
-default_line_form : (n : Text) (ns : List Text) → list_all is_name (n ∷ ns) ≡ true
-    → form_of (written (default_line (n ∷ ns))) ≡ Some (default_form (map name_pieces (n ∷ ns)))
-unfolding form_of
+default_line_form : (n : Bytes) (ns : List Bytes) → list_all is_name (n ∷ ns) ≡ true
+    → margin_form (written (default_line (n ∷ ns))) ≡ Some (default_form (map name_pieces (n ∷ ns)))
+unfolding margin_form
 default_line_form n ns e =
     ap (option_and_then (λ ps. option_map default_form (defaults_of ps))) (pieces_written (name_pieces n ++ spaced (map name_pieces ns)) (default_line_printed (n ∷ ns) e))
     ∙ ap (option_map default_form) (defaults_printed (name_pieces n) (map name_pieces ns) (names_are_words (n ∷ ns) e))
@@ -86,27 +86,27 @@ default_line_form n ns e =
 -- ---- parts
 
 -- a part by the form of its first line and its block
-part_read : (state : State) (number : ℕ) (ps : Pieces) (body : List JoinedLine) (form : Form) (bindings : List Binding) → list_all is_printed ps ≡ true
-    → form_of (written ps) ≡ Some form → list_all is_sound body ≡ true → block_of body ≡ Some bindings
+part_read : (state : State) (number : ℕ) (ps : Spelling) (body : List JoinedLine) (form : MarginForm) (bindings : List Binding) → list_all is_printed ps ≡ true
+    → margin_form (written ps) ≡ Some form → list_all is_sound body ≡ true → block_of body ≡ Some bindings
     → read_part state (part number ps body) ≡ read_form state form bindings
 unfolding read_part
 part_read state number ps body form bindings e is whole block =
     ap (λ b. if b then option_and_then (read_head state (Some (line number ps))) (block_of body) else None) whole
     ∙ ap (option_and_then (read_head state (Some (line number ps)))) block
-    ∙ ap (λ b. if b then option_and_then (λ f. read_form state f bindings) (form_of (written ps)) else None) (sound number ps e)
+    ∙ ap (λ b. if b then option_and_then (λ f. read_form state f bindings) (margin_form (written ps)) else None) (sound number ps e)
     ∙ ap (option_and_then (λ f. read_form state f bindings)) is
 
 -- what was read of a printed plan before its default targets: rules and statements
-abbrev pub state_with : ScopeTable Pieces → List PendingStatement → State
+abbrev pub state_with : ScopeTable Spelling → List PendingStatement → State
 state_with table so_far = record { file = []; rules = table; pending = so_far; defaults = [] }
 
 -- the command of the rule's block
-command_is : (c : Text) → is_command c ≡ true → rule_command (bound c ∷ []) ≡ Some (command_pieces c)
+command_is : (c : Bytes) → is_command c ≡ true → rule_command (bound c ∷ []) ≡ Some (command_pieces c)
 command_is [] e = absurd (cc e)
 command_is (b ∷ bs) e = search (rules, not, command_pieces, command_alone, codes)
 
 -- a rule is read
-pub rule_read : (number at : ℕ) (c : Text) (table : ScopeTable Pieces) (so_far : List PendingStatement) → is_command c ≡ true
+pub rule_read : (number at : ℕ) (c : Bytes) (table : ScopeTable Spelling) (so_far : List PendingStatement) → is_command c ≡ true
     → find_in table (rule_name_text number (Command c)) ≡ None
     → read_part (state_with table so_far) (part at (rule_line (rule_name_text number (Command c))) (line (at + 1) (command_line c) ∷ []))
     ≡ Some (state_with (put_in table (rule_name_text number (Command c)) (command_pieces c)) so_far)
@@ -122,11 +122,11 @@ rule_read number at c table so_far can fresh =
     ∙ ap (option_map (λ command. state_with (put_in table rule command) so_far)) (command_is c can)
 
 -- no name is empty
-some_name : (n : Text) → is_name n ≡ true → is_empty n ≡ false
+some_name : (n : Bytes) → is_name n ≡ true → is_empty n ≡ false
 some_name n e = grind arith
 
 -- names are read as they were
-paths_read : (value_of : Text → Text) (names : List Text) → list_all is_name names ≡ true → paths_in value_of (map name_pieces names) ≡ Some names
+paths_read : (value_of : Bytes → Bytes) (names : List Bytes) → list_all is_name names ≡ true → paths_in value_of (map name_pieces names) ≡ Some names
 unfolding paths_in
 paths_read value_of [] e = refl
 paths_read value_of (n ∷ ns) e =
@@ -138,7 +138,7 @@ abbrev pub pending_as : Making → Statement → PendingStatement
 pending_as making s = record { outs = s.outs; making = making; inputs = s.inputs; implicit = s.implicit; order_only = s.order_only }
 
 -- a statement by its lists of paths
-abbrev pending_of : Making → Option (List Text) → Option (List Text) → Option (List Text) → Option (List Text) → Option PendingStatement
+abbrev pending_of : Making → Option (List Bytes) → Option (List Bytes) → Option (List Bytes) → Option (List Bytes) → Option PendingStatement
 pending_of making a b c d =
     option_and_then (λ outs.
     option_and_then (λ inputs.
@@ -147,14 +147,14 @@ pending_of making a b c d =
     d) c) b) a
 
 -- and so is the statement
-pending_is : (value_of : Text → Text) (making : Making) (rule : Text) (s : Statement) → Named s
+pending_is : (value_of : Bytes → Bytes) (making : Making) (rule : Bytes) (s : Statement) → Named s
     → pending_with value_of making (build_of_names rule s.outs s.inputs s.implicit s.order_only) ≡ Some (pending_as making s)
 pending_is value_of making rule s named = grind (arith, name_pieces, paths_read)
 
 -- a build line is read
-pub build_read : (number at : ℕ) (made : Made) (making : Making) (s : Statement) (table : ScopeTable Pieces) (so_far : List PendingStatement)
+pub build_read : (number at : ℕ) (made : Made) (making : Making) (s : Statement) (table : ScopeTable Spelling) (so_far : List PendingStatement)
     → not (is_empty s.outs) ≡ true → Named s → making_of (state_with table so_far) (rule_name_text number made) [] ≡ Some making
-    → are_new (outs_of so_far) s.outs ≡ true
+    → are_new (pending_outs so_far) s.outs ≡ true
     → read_part (state_with table so_far) (part at (build_line (rule_name_text number made) s) [])
     ≡ Some (state_with table (so_far ++ pending_as making s ∷ []))
 unfolding block_from read_build block_scope
@@ -168,8 +168,8 @@ build_read number at made making s table so_far some named is new =
     ∙ ap (λ t. if t then Some (state_with table (so_far ++ pending_as making s ∷ [])) else None) new
 
 -- default targets are read
-pub defaults_read : (at : ℕ) (n : Text) (ns : List Text) (table : ScopeTable Pieces) (so_far : List PendingStatement)
-    → list_all is_name (n ∷ ns) ≡ true → list_all (is_among (outs_of so_far)) (n ∷ ns) ≡ true
+pub defaults_read : (at : ℕ) (n : Bytes) (ns : List Bytes) (table : ScopeTable Spelling) (so_far : List PendingStatement)
+    → list_all is_name (n ∷ ns) ≡ true → list_all (is_among (pending_outs so_far)) (n ∷ ns) ≡ true
     → read_part (state_with table so_far) (part at (default_line (n ∷ ns)) [])
     ≡ Some (record { file = []; rules = table; pending = so_far; defaults = n ∷ ns })
 unfolding block_from read_default

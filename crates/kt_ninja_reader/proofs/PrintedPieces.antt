@@ -1,14 +1,14 @@
 -- Texts as the printer writes them: each piece as its own bytes.
 use Rattle.std.proofs.Common.{arith, ◌≡◌, ◌∙◌, ℕ, List, [], ◌∷◌, ◌++◌, refl, sym, ap₂, subst, map, eqb-true, Bool, true, false, not, ◌==◌, ◌&&◌, ◌||◌, Some, codes, if◌then◌else◌}
-use Rattle.kt_ninja_reader.proofs.Common.{list_all, flat_map, and_from, and_parts, not-true, list_all-append, flat_map-append, escaped, Text, ends_in_dollar, Piece, Plain, Escaped, Variable, is_escapable, outside, pieces_from, Pieces, expanded, piece_text, is_command_byte}
+use Rattle.kt_ninja_reader.proofs.Common.{list_all, flat_map, and_from, and_parts, not-true, list_all-append, flat_map-append, escaped, Bytes, ends_in_dollar, Piece, Plain, Escaped, Variable, is_escapable, outside, pieces_from, Spelling, bound_text, piece_text, is_command_byte}
 
 -- what the printer writes for a piece; it writes no variables
-abbrev pub piece_written : Piece → Text
+abbrev pub piece_written : Piece → Bytes
 piece_written (Plain b) = b ∷ []
 piece_written (Escaped b) = 36 ∷ b ∷ []
 piece_written (Variable name) = []
 
-abbrev pub written : Pieces → Text
+abbrev pub written : Spelling → Bytes
 written ps = flat_map piece_written ps
 
 -- a piece that it writes: a byte that needs no dollar, or one after a dollar that can stand there
@@ -24,7 +24,7 @@ pub neither : (a b : Bool) → not (a || b) ≡ true → (a ≡ false) × (b ≡
 neither a b e = grind arith
 
 -- the pieces of a written text are these
-pub pieces_from_written : (ps : Pieces) → list_all is_printed ps ≡ true → pieces_from outside (written ps) ≡ Some ps
+pub pieces_from_written : (ps : Spelling) → list_all is_printed ps ≡ true → pieces_from outside (written ps) ≡ Some ps
 unfolding pieces_from
 pieces_from_written [] e = refl
 pieces_from_written (Plain b ∷ ps) e =
@@ -63,7 +63,7 @@ by_escapable P b e dollar space colon =
     either_case (b == 32) (b == 58) other (λ h. subst P (sym (eqb-true b 32 h)) space) (λ h. subst P (sym (eqb-true b 58 h)) colon))
 
 -- a written text has no byte that a command can't hold
-pub command_bytes : (ps : Pieces) → list_all is_printed ps ≡ true → list_all is_command_byte (written ps) ≡ true
+pub command_bytes : (ps : Spelling) → list_all is_printed ps ≡ true → list_all is_command_byte (written ps) ≡ true
 command_bytes [] e = refl
 command_bytes (Plain b ∷ ps) e =
     let both = and_parts (is_printed (Plain b)) (list_all is_printed ps) e in
@@ -75,7 +75,7 @@ command_bytes (Escaped b ∷ ps) e =
 command_bytes (Variable name ∷ ps) e = absurd (cc e)
 
 -- no dollar at its end is left open
-pub nothing_open : (ps : Pieces) → list_all is_printed ps ≡ true → ends_in_dollar false (written ps) ≡ false
+pub nothing_open : (ps : Spelling) → list_all is_printed ps ≡ true → ends_in_dollar false (written ps) ≡ false
 unfolding ends_in_dollar
 nothing_open [] e = refl
 nothing_open (Plain b ∷ ps) e =
@@ -86,7 +86,7 @@ nothing_open (Escaped b ∷ ps) e = nothing_open ps (and_parts (is_escapable b) 
 nothing_open (Variable name ∷ ps) e = absurd (cc e)
 
 -- pieces are written one after another
-pub written_append : (ps qs : Pieces) → written (ps ++ qs) ≡ written ps ++ written qs
+pub written_append : (ps qs : Spelling) → written (ps ++ qs) ≡ written ps ++ written qs
 written_append ps qs = flat_map-append piece_written ps qs
 
 -- ---- escaped texts
@@ -95,7 +95,7 @@ abbrev pub piece_by : Bool → ℕ → Piece
 piece_by special b = if special then Escaped b else Plain b
 
 -- the pieces of an escaped text
-abbrev pub pieces_by : (ℕ → Bool) → Text → Pieces
+abbrev pub pieces_by : (ℕ → Bool) → Bytes → Spelling
 pieces_by test bytes = map (λ b. piece_by (test b) b) bytes
 
 -- one byte of an escaped text
@@ -103,23 +103,23 @@ one_written : (special : Bool) (b : ℕ) → piece_written (piece_by special b) 
 one_written special b = grind arith
 
 -- the pieces of an escaped text, written, are that text
-pub written_by : (test : ℕ → Bool) (bytes : Text) → written (pieces_by test bytes) ≡ escaped test bytes
+pub written_by : (test : ℕ → Bool) (bytes : Bytes) → written (pieces_by test bytes) ≡ escaped test bytes
 written_by test [] = refl
 written_by test (b ∷ bs) = ap₂ (λ one later. one ++ later) (one_written (test b) b) (written_by test bs)
 
 -- one byte of it stands for itself
-pub one_expanded : (value_of : Text → Text) (special : Bool) (b : ℕ) → piece_text value_of (piece_by special b) ≡ b ∷ []
+pub one_expanded : (value_of : Bytes → Bytes) (special : Bool) (b : ℕ) → piece_text value_of (piece_by special b) ≡ b ∷ []
 one_expanded value_of special b = grind arith
 
 -- they stand for the bytes without escapes
-pub expanded_by : (value_of : Text → Text) (test : ℕ → Bool) (bytes : Text) → expanded value_of (pieces_by test bytes) ≡ bytes
-unfolding expanded
+pub expanded_by : (value_of : Bytes → Bytes) (test : ℕ → Bool) (bytes : Bytes) → bound_text value_of (pieces_by test bytes) ≡ bytes
+unfolding bound_text
 expanded_by value_of test [] = refl
 expanded_by value_of test (b ∷ bs) = ap₂ (λ one later. one ++ later) (one_expanded value_of (test b) b) (expanded_by value_of test bs)
 
 -- each piece passes where those of each byte pass
 pub by_passes : (q : Piece → Bool) (test ok : ℕ → Bool) → ((b : ℕ) → ok b ≡ true → q (piece_by (test b) b) ≡ true)
-    → (bytes : Text) → list_all ok bytes ≡ true → list_all q (pieces_by test bytes) ≡ true
+    → (bytes : Bytes) → list_all ok bytes ≡ true → list_all q (pieces_by test bytes) ≡ true
 by_passes q test ok each [] e = refl
 by_passes q test ok each (b ∷ bs) e =
     let both = and_parts (ok b) (list_all ok bs) e in

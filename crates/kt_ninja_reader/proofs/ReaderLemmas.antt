@@ -1,9 +1,9 @@
 -- The parts of a file, one after another.
 use Rattle.std.proofs.Common.{◌≡◌, ◌≤◌, ◌+◌, ◌-◌, ℕ, suc, Bool, true, false, not, List, [], ◌∷◌, ◌++◌, refl, sym, ◌∙◌, ap, append_assoc, append-nil, subst, length, take, drop, map, arith, Option, Some, option_map, Result, Ok, MatchResult, ⊎_elim}
-use Rattle.kt_ninja_reader.proofs.Common.{cases_Bool, drop-drop, length-drop, map_push, prefix_len, Plan, Fault, NoReading, JoinedLine, Text, is_blank, is_comment, Binding, FilePart, State, all_parts, and_then_parts, begins_part, block_from, cut_lines, ninja_read, nothing_read, read_part, read_parts, plan_text, IsWritable}
+use Rattle.kt_ninja_reader.proofs.Common.{cases_Bool, drop-drop, length-drop, map_push, prefix_len, Plan, PartFault, NoReading, JoinedLine, Bytes, is_blank_line, is_comment, Binding, FilePart, State, all_parts, and_then_parts, begins_part, block_from, cut_lines, ninja_read, nothing_read, read_part, read_parts, plan_text, IsWritable}
 use Rattle.kt_ninja_reader.specs.declared.read_fault.ReadFault.{ReadFault}
 use Rattle.kt_ninja_reader.specs.declared.read_fault.ReadFault.TheVariants.{Memory as MemoryRefused}
-use Rattle.kt_ninja_reader.specs.Reading.{Adds, Misreads, StopsBlock, fault_at, line_binding, part_before, part_of}
+use Rattle.kt_ninja_reader.specs.Reading.{AddsBindings, Misreads, StopsBlock, file_part, line_binding, part_before, part_fault}
 use Rattle.kt_ninja_reader.specs.inner.Refusals.{LacksReading}
 use Rattle.kt_ninja_reader.proofs.PrintThenRead.{printed_is_read}
 
@@ -13,30 +13,30 @@ in_front : (front : List Binding) (b : Binding) (later : Option (List Binding))
     → option_map (λ more. front ++ more) (option_map (λ more. b ∷ more) later) ≡ option_map (λ more. (front ++ b ∷ []) ++ more) later
 in_front front b later = grind (arith, append_assoc)
 
-pub comment_adds : (closed : Bool) (old : List Binding) (line : JoinedLine) → is_comment line.text ≡ true → Adds closed old line closed old
+pub comment_adds : (closed : Bool) (old : List Binding) (line : JoinedLine) → is_comment line.text ≡ true → AddsBindings closed old line closed old
 unfolding block_from
 comment_adds closed old line h rest = rw h refl
 
-pub blank_adds : (closed : Bool) (old : List Binding) (line : JoinedLine) → is_comment line.text ≡ false → is_blank line.text ≡ true → Adds closed old line true old
+pub blank_adds : (closed : Bool) (old : List Binding) (line : JoinedLine) → is_comment line.text ≡ false → is_blank_line line.text ≡ true → AddsBindings closed old line true old
 unfolding block_from
 blank_adds closed old line h i rest = rw (h, i) refl
 
-pub binding_adds : (closed : Bool) (old new : List Binding) (line : JoinedLine) (b : Binding) → is_comment line.text ≡ false → is_blank line.text ≡ false → closed ≡ false
-    → line_binding line.text ≡ Some b → new ≡ old ++ b ∷ [] → Adds closed old line false new
+pub binding_adds : (closed : Bool) (old new : List Binding) (line : JoinedLine) (b : Binding) → is_comment line.text ≡ false → is_blank_line line.text ≡ false → closed ≡ false
+    → line_binding line.text ≡ Some b → new ≡ old ++ b ∷ [] → AddsBindings closed old line false new
 unfolding block_from
 binding_adds closed old new line b h i shut j longer rest = rw (h, i, shut, j, longer) (in_front old b (block_from false rest))
 
-pub closed_stops : (closed : Bool) (line : JoinedLine) → is_comment line.text ≡ false → is_blank line.text ≡ false → closed ≡ true → StopsBlock closed line NoReading
+pub closed_stops : (closed : Bool) (line : JoinedLine) → is_comment line.text ≡ false → is_blank_line line.text ≡ false → closed ≡ true → StopsBlock closed line NoReading
 unfolding block_from
 closed_stops closed line h i shut rest = rw (h, i, shut) refl
 
-pub binding_stops : (closed : Bool) (line : JoinedLine) → is_comment line.text ≡ false → is_blank line.text ≡ false → closed ≡ false
-    → (fault : Fault) → LacksReading (line_binding line.text) fault → StopsBlock closed line fault
+pub binding_stops : (closed : Bool) (line : JoinedLine) → is_comment line.text ≡ false → is_blank_line line.text ≡ false → closed ≡ false
+    → (fault : PartFault) → LacksReading (line_binding line.text) fault → StopsBlock closed line fault
 unfolding block_from
 binding_stops closed line h i shut fault none = grind arith
 
 pub stops_all : (closed : Bool) (line : JoinedLine) (front : List Binding) (rest : List JoinedLine) (whole : Option (List Binding))
-    → option_map (λ more. front ++ more) (block_from closed (line ∷ rest)) ≡ whole → (fault : Fault) → StopsBlock closed line fault → LacksReading whole fault
+    → option_map (λ more. front ++ more) (block_from closed (line ∷ rest)) ≡ whole → (fault : PartFault) → StopsBlock closed line fault → LacksReading whole fault
 stops_all closed line front rest whole so_far fault stops = grind arith
 
 pub block_over : (closed : Bool) (front : List Binding) → option_map (λ more. front ++ more) (block_from closed []) ≡ Some front
@@ -55,7 +55,7 @@ length_more : (l : JoinedLine) (ls : List JoinedLine) → begins_part l.text ≡
 length_more l ls h = rw h (omega arith)
 
 cut_begun : (l : JoinedLine) (ls : List JoinedLine) → begins_part l.text ≡ true
-    → cut_lines (l ∷ ls) ≡ record { before = []; parts = part_of l (cut_lines ls).before ∷ (cut_lines ls).parts }
+    → cut_lines (l ∷ ls) ≡ record { before = []; parts = file_part l (cut_lines ls).before ∷ (cut_lines ls).parts }
 unfolding cut_lines
 cut_begun l ls h = rw h refl
 
@@ -82,13 +82,13 @@ none_before [] = refl
 none_before (l ∷ ls) = grind (arith, ⊎_elim, length_begun, cut_begun, length_more, cases_Bool, none_before ls)
 
 first_part : (head : JoinedLine) (after : List JoinedLine) → (cut_lines (head ∷ after)).before ≡ []
-    → (cut_lines (head ∷ after)).parts ≡ part_of head (cut_lines after).before ∷ (cut_lines after).parts
+    → (cut_lines (head ∷ after)).parts ≡ file_part head (cut_lines after).before ∷ (cut_lines after).parts
 first_part head after none = grind (arith, ⊎_elim, cut_begun, cut_more, cases_Bool)
 
 -- the part that the first line begins, and those after it
 pub parts_cut : (head : JoinedLine) (after rest body later : List JoinedLine) → rest ≡ head ∷ after → (cut_lines rest).before ≡ []
     → body ≡ take (length_before after) after → later ≡ drop (length_before after) after
-    → (cut_lines rest).parts ≡ part_of head body ∷ (cut_lines later).parts
+    → (cut_lines rest).parts ≡ file_part head body ∷ (cut_lines later).parts
 parts_cut head after rest body later is none front back = grind (arith, first_part, before_is, parts_are)
 
 pub left_after : (head : JoinedLine) (after lines : List JoinedLine) (from n : ℕ) → drop from lines ≡ head ∷ after → drop (from + 1 + n) lines ≡ drop n after
@@ -101,8 +101,8 @@ next_bound head after lines from n is bound =
     let left : length lines - from ≡ suc (length after) = sym (length-drop from lines) ∙ ap length is in
     omega (arith, left, bound)
 
-pub parts_step : (state : State) (head : JoinedLine) (rest body later : List JoinedLine) → (cut_lines rest).parts ≡ part_of head body ∷ (cut_lines later).parts
-    → read_parts state (cut_lines rest).parts ≡ and_then_parts head.number (read_part state (part_of head body)) (λ s. read_parts s (cut_lines later).parts)
+pub parts_step : (state : State) (head : JoinedLine) (rest body later : List JoinedLine) → (cut_lines rest).parts ≡ file_part head body ∷ (cut_lines later).parts
+    → read_parts state (cut_lines rest).parts ≡ and_then_parts head.number (read_part state (file_part head body)) (λ s. read_parts s (cut_lines later).parts)
 unfolding read_parts
 parts_step state head rest body later cut = ap (read_parts state) cut
 
@@ -130,7 +130,7 @@ pub part_taken : (number : ℕ) (found : Option State) (next : State) (rest : St
 part_taken number found next rest whole h i = sym (h ∙ ap (λ o. and_then_parts number o rest) i)
 
 pub part_refused : (number : ℕ) (found : Option State) (rest : State → Result State ℕ) (whole : Result State ℕ) → whole ≡ and_then_parts number found rest
-    → (fault : Fault) → LacksReading found fault → Misreads whole (fault_at number fault)
+    → (fault : PartFault) → LacksReading found fault → Misreads whole (part_fault number fault)
 part_refused number found rest whole h fault none = grind arith
 
 pub parts_carried : (old new : Result State ℕ) (r : Result State ReadFault) → old ≡ new → MatchResult r (λ s. old ≡ Ok s) (Misreads old)
@@ -146,6 +146,6 @@ told_more f xs all x h = ap (map f) h ∙ map_push f xs x
 
 -- ---- the whole text
 
-pub copy : (r : Result Plan ReadFault) (text : Text) → MatchResult r (λ plan. ninja_read text ≡ Ok plan) (Misreads (ninja_read text))
+pub copy : (r : Result Plan ReadFault) (text : Bytes) → MatchResult r (λ plan. ninja_read text ≡ Ok plan) (Misreads (ninja_read text))
     → (plan : Plan) → IsWritable plan → text ≡ plan_text plan → MatchResult r (λ read. read ≡ plan) (λ fault. fault ≡ MemoryRefused)
 copy r text h plan writable is = grind (arith, printed_is_read)

@@ -1,6 +1,6 @@
 -- Spellings by their first piece: names, spaces, variables, and what they stand for.
 use Rattle.std.proofs.Common.{◌≡◌, ◌≢◌, ℕ, suc, ◌+◌, Bool, true, false, ◌==◌, ◌||◌, List, [], ◌∷◌, ◌++◌, refl, sym, ◌∙◌, ap, append-nil, map, length, take, drop, arith, Option, Some, None, option_map, is_some, IfSome, ⊎_elim}
-use Rattle.kt_ninja_reader.proofs.Common.{cases_Bool, false≢true, eqb-true, eq-eqb, ne_eqb, Bor, list_any, prefix_len, slice_split, onto_first, Text, Piece, Plain, Escaped, Variable, after_dollar, is_long_name_byte, pieces, pieces_from, begins_with_at, is_plain, name_bytes, without_lead, expanded, refers_to, is_empty}
+use Rattle.kt_ninja_reader.proofs.Common.{cases_Bool, false≢true, eqb-true, eq-eqb, ne_eqb, Bor, list_any, prefix_len, slice_split, onto_first, Bytes, Piece, Plain, Escaped, Variable, after_dollar, is_long_name_byte, pieces, pieces_from, begins_with_at, is_plain_byte, name_bytes, without_lead, bound_text, refers_to, is_empty}
 use Rattle.std.proofs.lemmas.List.Splits.{slice_split-cons_no}
 use Rattle.kt_ninja_reader.specs.inner.Spelled.{is_spelled, pieces_in}
 use Rattle.kt_ninja_reader.specs.inner.Cutting.{variable_names}
@@ -14,27 +14,27 @@ begins_escaped (Plain b ∷ ps) = false
 begins_escaped (Escaped b ∷ ps) = true
 begins_escaped (Variable name ∷ ps) = true
 
-named_first : (name : Text) (found : Option (List Piece)) → IfSome (option_map (λ later. Variable name ∷ later) found) (λ ps. begins_escaped ps ≡ true)
+named_first : (name : Bytes) (found : Option (List Piece)) → IfSome (option_map (λ later. Variable name ∷ later) found) (λ ps. begins_escaped ps ≡ true)
 named_first name found = grind arith
 
-closed_first : (name after : Text) → IfSome (closed name after) (λ ps. begins_escaped ps ≡ true)
+closed_first : (name after : Bytes) → IfSome (closed name after) (λ ps. begins_escaped ps ≡ true)
 closed_first name after = grind (arith, ⊎_elim, named_first, cases_Bool)
 
 escaped_first : (b : ℕ) (found : Option (List Piece)) → IfSome (option_map (λ later. Escaped b ∷ later) found) (λ ps. begins_escaped ps ≡ true)
 escaped_first b found = grind arith
 
-after_first : (text : Text) → IfSome (pieces_from after_dollar text) (λ ps. begins_escaped ps ≡ true)
+after_first : (text : Bytes) → IfSome (pieces_from after_dollar text) (λ ps. begins_escaped ps ≡ true)
 after_first [] = rw escape-nil tt
 after_first (b ∷ bs) = grind (arith, ⊎_elim, escape-escapable, escaped_first, escape-brace, in_braces-prefix, closed_first, take, escape-short, in_name-prefix, named_first, escape-none, cases_Bool)
 
 -- a spelling by its first byte: a dollar begins no plain piece, and each other byte is one
-pub dollar_first : (b : ℕ) (bs : Text) → is_spelled (b ∷ bs) ≡ true → (b == 36) ≡ true → begins_escaped (pieces_in (b ∷ bs)) ≡ true
+pub dollar_first : (b : ℕ) (bs : Bytes) → is_spelled (b ∷ bs) ≡ true → (b == 36) ≡ true → begins_escaped (pieces_in (b ∷ bs)) ≡ true
 dollar_first b bs spelled d = rw (outside_some (b ∷ bs) spelled) at (rw (sym (outside-dollar b bs d)) at (after_first bs))
 
 some_tail : (p : Piece) (found : Option (List Piece)) → is_some (option_map (λ later. p ∷ later) found) ≡ is_some found
 some_tail p found = grind arith
 
-pub plain_first : (b : ℕ) (bs : Text) → is_spelled (b ∷ bs) ≡ true → (b == 36) ≡ false → (is_spelled bs ≡ true) × (pieces_in (b ∷ bs) ≡ Plain b ∷ pieces_in bs)
+pub plain_first : (b : ℕ) (bs : Bytes) → is_spelled (b ∷ bs) ≡ true → (b == 36) ≡ false → (is_spelled bs ≡ true) × (pieces_in (b ∷ bs) ≡ Plain b ∷ pieces_in bs)
 unfolding pieces
 plain_first b bs spelled d = grind (arith, outside-plain, some_tail, spelled_some)
 
@@ -50,44 +50,44 @@ nothing_in = refl
 escaped_some : (ps : List Piece) → begins_escaped ps ≡ true → is_empty ps ≡ false
 escaped_some ps h = grind (arith, false≢true)
 
-pub empty_text : (text : Text) → is_spelled text ≡ true → is_empty (pieces_in text) ≡ is_empty text
+pub empty_text : (text : Bytes) → is_spelled text ≡ true → is_empty (pieces_in text) ≡ is_empty text
 empty_text text spelled = grind (arith, nothing_in, ⊎_elim, escaped_some, dollar_first, plain_first, cases_Bool)
 
-pub empty_length : (text : Text) (ps : List Piece) → is_spelled text ≡ true → pieces_in text ≡ ps → (length text == 0) ≡ is_empty ps
+pub empty_length : (text : Bytes) (ps : List Piece) → is_spelled text ≡ true → pieces_in text ≡ ps → (length text == 0) ≡ is_empty ps
 empty_length text ps spelled view = grind (arith, empty_text, length, ne_eqb)
 
 -- whether the first piece is `@`
 escaped_at : (ps : List Piece) → begins_escaped ps ≡ true → begins_with_at ps ≡ false
 escaped_at ps h = grind (arith, false≢true)
 
-pub at_first : (text : Text) (b : ℕ) (bs : Text) → text ≡ b ∷ bs → is_spelled text ≡ true → begins_with_at (pieces_in text) ≡ (b == 64)
+pub at_first : (text : Bytes) (b : ℕ) (bs : Bytes) → text ≡ b ∷ bs → is_spelled text ≡ true → begins_with_at (pieces_in text) ≡ (b == 64)
 at_first text b bs is spelled = grind (arith, ⊎_elim, eqb-true, escaped_at, dollar_first, plain_first, cases_Bool)
 
-pub at_none : (text : Text) → text ≡ [] → begins_with_at (pieces_in text) ≡ false
+pub at_none : (text : Bytes) → text ≡ [] → begins_with_at (pieces_in text) ≡ false
 at_none text is = ap (λ l. begins_with_at (pieces_in l)) is ∙ ap begins_with_at nothing_in
 
 -- without the spaces at its begin
-escaped_lead : (ps : List Piece) → begins_escaped ps ≡ true → prefix_len (is_plain 32) ps ≡ 0
+escaped_lead : (ps : List Piece) → begins_escaped ps ≡ true → prefix_len (is_plain_byte 32) ps ≡ 0
 escaped_lead ps h = grind (arith, false≢true)
 
-abbrev indent : Text → ℕ
+abbrev indent : Bytes → ℕ
 indent text = prefix_len (λ b. b == 32) text
 
-drop_more : (n : ℕ) (c : ℕ) (cs : Text) → drop (1 + n) (c ∷ cs) ≡ drop n cs
+drop_more : (n : ℕ) (c : ℕ) (cs : Bytes) → drop (1 + n) (c ∷ cs) ≡ drop n cs
 drop_more n c cs = let e : 1 + n ≡ suc n = omega arith in rw e refl
 
 drop_piece : (n : ℕ) (p : Piece) (ps : List Piece) → drop (1 + n) (p ∷ ps) ≡ drop n ps
 drop_piece n p ps = let e : 1 + n ≡ suc n = omega arith in rw e refl
 
-spaced : (c : ℕ) (cs : Text) → (is_spelled (drop (indent cs) cs) ≡ true) × (pieces_in (drop (indent cs) cs) ≡ without_lead (pieces_in cs)) → pieces_in (c ∷ cs) ≡ Plain c ∷ pieces_in cs → (c == 32) ≡ true
+spaced : (c : ℕ) (cs : Bytes) → (is_spelled (drop (indent cs) cs) ≡ true) × (pieces_in (drop (indent cs) cs) ≡ without_lead (pieces_in cs)) → pieces_in (c ∷ cs) ≡ Plain c ∷ pieces_in cs → (c == 32) ≡ true
     → (is_spelled (drop (indent (c ∷ cs)) (c ∷ cs)) ≡ true) × (pieces_in (drop (indent (c ∷ cs)) (c ∷ cs)) ≡ without_lead (pieces_in (c ∷ cs)))
 spaced c cs later first s = grind (arith, drop_more, drop_piece)
 
-unspaced : (c : ℕ) (cs : Text) → is_spelled (c ∷ cs) ≡ true → pieces_in (c ∷ cs) ≡ Plain c ∷ pieces_in cs → (c == 32) ≡ false
+unspaced : (c : ℕ) (cs : Bytes) → is_spelled (c ∷ cs) ≡ true → pieces_in (c ∷ cs) ≡ Plain c ∷ pieces_in cs → (c == 32) ≡ false
     → (is_spelled (drop (indent (c ∷ cs)) (c ∷ cs)) ≡ true) × (pieces_in (drop (indent (c ∷ cs)) (c ∷ cs)) ≡ without_lead (pieces_in (c ∷ cs)))
 unspaced c cs whole first s = grind arith
 
-pub lead_cut : (text : Text) → is_spelled text ≡ true → (is_spelled (drop (indent text) text) ≡ true) × (pieces_in (drop (indent text) text) ≡ without_lead (pieces_in text))
+pub lead_cut : (text : Bytes) → is_spelled text ≡ true → (is_spelled (drop (indent text) text) ≡ true) × (pieces_in (drop (indent text) text) ≡ without_lead (pieces_in text))
 lead_cut [] spelled = (spelled_nil, rw nothing_in refl)
 lead_cut (b ∷ bs) spelled =
     ⊎_elim
@@ -119,7 +119,7 @@ no_name = refl
 long_plain : (b : ℕ) → is_long_name_byte b ≡ true → (b == 36) ≡ false
 long_plain b h = ⊎_elim (λ d. absurd (let e : b ≡ 36 = eqb-true _ _ d in let no : is_long_name_byte b ≡ false = rw e refl in false≢true (sym no ∙ h))) (λ d. d) (cases_Bool (b == 36))
 
-pub name_all : (text : Text) (n : ℕ) → n ≡ prefix_len is_long_name_byte text → n ≡ length text → is_spelled text ≡ true → name_bytes (pieces_in text) ≡ Some text
+pub name_all : (text : Bytes) (n : ℕ) → n ≡ prefix_len is_long_name_byte text → n ≡ length text → is_spelled text ≡ true → name_bytes (pieces_in text) ≡ Some text
 name_all [] n is all spelled = ap name_bytes nothing_in ∙ no_name
 name_all (b ∷ bs) n is all spelled =
     ⊎_elim
@@ -130,7 +130,7 @@ name_all (b ∷ bs) n is all spelled =
     (λ h. absurd (let none : n ≡ 0 = is ∙ rw h refl in omega (arith, none, all)))
     (cases_Bool (is_long_name_byte b))
 
-pub name_not : (text : Text) (n : ℕ) → n ≡ prefix_len is_long_name_byte text → n ≢ length text → is_spelled text ≡ true → name_bytes (pieces_in text) ≡ None
+pub name_not : (text : Bytes) (n : ℕ) → n ≡ prefix_len is_long_name_byte text → n ≢ length text → is_spelled text ≡ true → name_bytes (pieces_in text) ≡ None
 name_not [] n is other spelled = absurd (other is)
 name_not (b ∷ bs) n is other spelled =
     ⊎_elim
@@ -145,55 +145,55 @@ name_not (b ∷ bs) n is other spelled =
     (cases_Bool (is_long_name_byte b))
 
 -- plain bytes name no variable, and stand for themselves
-pub names_after : (plain : Text) (ps : List Piece) → variable_names (map Plain plain ++ ps) ≡ variable_names ps
+pub names_after : (plain : Bytes) (ps : List Piece) → variable_names (map Plain plain ++ ps) ≡ variable_names ps
 unfolding variable_names
 names_after [] ps = refl
 names_after (b ∷ bs) ps = names_after bs ps
 
-pub expanded_after : (value_of : Text → Text) (plain : Text) (ps : List Piece) → expanded value_of (map Plain plain ++ ps) ≡ plain ++ expanded value_of ps
-unfolding expanded
+pub expanded_after : (value_of : Bytes → Bytes) (plain : Bytes) (ps : List Piece) → bound_text value_of (map Plain plain ++ ps) ≡ plain ++ bound_text value_of ps
+unfolding bound_text
 expanded_after value_of [] ps = refl
 expanded_after value_of (b ∷ bs) ps = ap (λ l. b ∷ l) (expanded_after value_of bs ps)
 
 -- whether a variable is referred to, by the names
-pub refers_by_names : (test : Text → Bool) (ps : List Piece) → refers_to test ps ≡ list_any test (variable_names ps)
+pub refers_by_names : (test : Bytes → Bool) (ps : List Piece) → refers_to test ps ≡ list_any test (variable_names ps)
 unfolding variable_names
 refers_by_names test [] = refl
 refers_by_names test (Plain b ∷ ps) = refers_by_names test ps
 refers_by_names test (Escaped b ∷ ps) = refers_by_names test ps
 refers_by_names test (Variable name ∷ ps) = ap (λ r. test name || r) (refers_by_names test ps)
 
-pub variable_name : (names : List (Bor Text)) (name : Bor Text) → map (λ n. n.now) (names ++ name ∷ []) ≡ map (λ n. n.now) names ++ variable_names (Variable name.now ∷ [])
+pub variable_name : (names : List (Bor Bytes)) (name : Bor Bytes) → map (λ n. n.now) (names ++ name ∷ []) ≡ map (λ n. n.now) names ++ variable_names (Variable name.now ∷ [])
 unfolding variable_names
 variable_name [] name = refl
 variable_name (n ∷ ns) name = ap (λ l. n.now ∷ l) (variable_name ns name)
 
-pub byte_names : (names : List (Bor Text)) (b : ℕ) → map (λ n. n.now) names ≡ map (λ n. n.now) names ++ variable_names (Escaped b ∷ [])
+pub byte_names : (names : List (Bor Bytes)) (b : ℕ) → map (λ n. n.now) names ≡ map (λ n. n.now) names ++ variable_names (Escaped b ∷ [])
 unfolding variable_names
 byte_names names b = sym (append-nil (map (λ n. n.now) names))
 
 -- the names of what a run begins with
-pub names_from : (plain : Text) (p : Piece) (ps whole : List Piece) → whole ≡ map Plain plain ++ p ∷ ps → variable_names whole ≡ variable_names (p ∷ []) ++ variable_names ps
+pub names_from : (plain : Bytes) (p : Piece) (ps whole : List Piece) → whole ≡ map Plain plain ++ p ∷ ps → variable_names whole ≡ variable_names (p ∷ []) ++ variable_names ps
 unfolding variable_names
 names_from plain p ps whole is = grind (arith, names_after)
 
-pub names_end : (plain : Text) (whole : List Piece) → whole ≡ map Plain plain ++ [] → variable_names whole ≡ []
+pub names_end : (plain : Bytes) (whole : List Piece) → whole ≡ map Plain plain ++ [] → variable_names whole ≡ []
 unfolding variable_names
 names_end plain whole is = ap variable_names is ∙ names_after plain []
 
 -- what a mark cuts
-pub split_free : (mark : ℕ) (ps : List Piece) → list_any (is_plain mark) ps ≡ false → slice_split (is_plain mark) ps ≡ ps ∷ []
+pub split_free : (mark : ℕ) (ps : List Piece) → list_any (is_plain_byte mark) ps ≡ false → slice_split (is_plain_byte mark) ps ≡ ps ∷ []
 split_free mark [] h = refl
 split_free mark (p ∷ ps) h =
     ⊎_elim
-    (λ d. absurd (let yes : list_any (is_plain mark) (p ∷ ps) ≡ true = rw d refl in false≢true (sym h ∙ yes)))
-    (λ d. slice_split-cons_no (is_plain mark) p ps d ∙ ap (onto_first p) (split_free mark ps (rw d at h)))
-    (cases_Bool (is_plain mark p))
+    (λ d. absurd (let yes : list_any (is_plain_byte mark) (p ∷ ps) ≡ true = rw d refl in false≢true (sym h ∙ yes)))
+    (λ d. slice_split-cons_no (is_plain_byte mark) p ps d ∙ ap (onto_first p) (split_free mark ps (rw d at h)))
+    (cases_Bool (is_plain_byte mark p))
 
-pub split_cut : (mark : ℕ) (front back : List Piece) → list_any (is_plain mark) front ≡ false → slice_split (is_plain mark) (front ++ Plain mark ∷ back) ≡ front ∷ slice_split (is_plain mark) back
+pub split_cut : (mark : ℕ) (front back : List Piece) → list_any (is_plain_byte mark) front ≡ false → slice_split (is_plain_byte mark) (front ++ Plain mark ∷ back) ≡ front ∷ slice_split (is_plain_byte mark) back
 split_cut mark [] back h = let same : (mark == mark) ≡ true = eq-eqb mark mark refl in rw same refl
 split_cut mark (p ∷ ps) back h =
     ⊎_elim
-    (λ d. absurd (let yes : list_any (is_plain mark) (p ∷ ps) ≡ true = rw d refl in false≢true (sym h ∙ yes)))
-    (λ d. slice_split-cons_no (is_plain mark) p (ps ++ Plain mark ∷ back) d ∙ ap (onto_first p) (split_cut mark ps back (rw d at h)))
-    (cases_Bool (is_plain mark p))
+    (λ d. absurd (let yes : list_any (is_plain_byte mark) (p ∷ ps) ≡ true = rw d refl in false≢true (sym h ∙ yes)))
+    (λ d. slice_split-cons_no (is_plain_byte mark) p (ps ++ Plain mark ∷ back) d ∙ ap (onto_first p) (split_cut mark ps back (rw d at h)))
+    (cases_Bool (is_plain_byte mark p))

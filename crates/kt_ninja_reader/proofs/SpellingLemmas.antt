@@ -1,6 +1,6 @@
 -- Pieces and their spellings.
 use Rattle.std.proofs.Common.{arith, ◌≡◌, ℕ, Bool, true, false, ◌==◌, List, [], ◌∷◌, ◌++◌, refl, sym, ◌∙◌, ap, subst, append_assoc, append-nil, Option, Some, None, option_map, ⊎_elim, inl, inr}
-use Rattle.kt_ninja_reader.proofs.Common.{cases_Bool, false≢true, eqb-true, false_from_ne_true, and_from, and_parts, append_cancel_left, list_all-append, concat, list_all, Text, is_empty, Piece, Plain, Escaped, Variable, Where, after_dollar, in_braces, in_name, is_escapable, is_long_name_byte, is_short_name_byte, outside, pieces, pieces_from}
+use Rattle.kt_ninja_reader.proofs.Common.{cases_Bool, false≢true, eqb-true, false_from_ne_true, and_from, and_parts, append_cancel_left, list_all-append, concat, list_all, Bytes, is_empty, Piece, Plain, Escaped, Variable, Where, after_dollar, in_braces, in_name, is_escapable, is_long_name_byte, is_short_name_byte, outside, pieces, pieces_from}
 use Rattle.kt_ninja_reader.specs.Spellings.{AreSpelled, IsNameOf, IsSpelled, PieceLaw, name_goes_on}
 use Rattle.kt_ninja_reader.proofs.PieceLemmas.{none_before, escape-brace, escape-escapable, escape-nil, escape-none, escape-short, outside-dollar, outside-nil, outside-plain, name_ended, not_brace}
 
@@ -16,7 +16,7 @@ short_is_not_escapable b h = rw (short_is_no 36 refl b h, short_is_no 32 refl b 
 
 -- ---- runs of names
 
-name_run : (bs before after : Text) → list_all is_short_name_byte bs ≡ true → name_goes_on after ≡ false
+name_run : (bs before after : Bytes) → list_all is_short_name_byte bs ≡ true → name_goes_on after ≡ false
     → pieces_from (in_name before) (bs ++ after)
     ≡ option_map (λ later. Variable (before ++ bs) ∷ later) (pieces_from outside after)
 unfolding pieces_from
@@ -26,10 +26,10 @@ name_run (b ∷ bs) before after all ends =
     let both = and_parts (is_short_name_byte b) (list_all is_short_name_byte bs) all in
     rw both.0 (none_before (pieces_from (in_name (before ++ b ∷ [])) (bs ++ after))
     ∙ name_run bs (before ++ b ∷ []) after both.1 ends
-    ∙ ap (λ (name : Text). option_map (λ later. Variable name ∷ later) (pieces_from outside after))
+    ∙ ap (λ (name : Bytes). option_map (λ later. Variable name ∷ later) (pieces_from outside after))
     (append_assoc before (b ∷ []) bs))
 
-brace_run : (bs before after : Text) → list_all is_long_name_byte bs ≡ true → is_empty (before ++ bs) ≡ false
+brace_run : (bs before after : Bytes) → list_all is_long_name_byte bs ≡ true → is_empty (before ++ bs) ≡ false
     → pieces_from (in_braces before) (bs ++ 125 ∷ after)
     ≡ option_map (λ later. Variable (before ++ bs) ∷ later) (pieces_from outside after)
 unfolding pieces_from
@@ -40,25 +40,25 @@ brace_run (b ∷ bs) before after all some =
     rw (not_brace b both.0, both.0)
     (none_before (pieces_from (in_braces (before ++ b ∷ [])) (bs ++ 125 ∷ after))
     ∙ brace_run bs (before ++ b ∷ []) after both.1 (ap is_empty same ∙ some)
-    ∙ ap (λ (name : Text). option_map (λ later. Variable name ∷ later) (pieces_from outside after)) same)
+    ∙ ap (λ (name : Bytes). option_map (λ later. Variable name ∷ later) (pieces_from outside after)) same)
 
 -- ---- a spelling is read as its piece
 
-short_is_read : (name after : Text) → IsNameOf is_short_name_byte name → name_goes_on after ≡ false
+short_is_read : (name after : Bytes) → IsNameOf is_short_name_byte name → name_goes_on after ≡ false
     → pieces_from outside ((36 ∷ name) ++ after)
     ≡ option_map (λ later. Variable name ∷ later) (pieces_from outside after)
 short_is_read name after h ends = grind (arith, false≢true, and_parts, outside-dollar, escape-short, short_is_not_escapable, short_is_no, name_run)
 
-long_is_read : (name after : Text) → IsNameOf is_long_name_byte name
+long_is_read : (name after : Bytes) → IsNameOf is_long_name_byte name
     → pieces_from outside ((36 ∷ 123 ∷ name ++ 125 ∷ []) ++ after)
     ≡ option_map (λ later. Variable name ∷ later) (pieces_from outside after)
 long_is_read name after h = grind (arith, append_assoc, outside-dollar, escape-brace, brace_run)
 
-spelling_is_read : (piece : Piece) (spelling after : Text) → IsSpelled piece spelling after
+spelling_is_read : (piece : Piece) (spelling after : Bytes) → IsSpelled piece spelling after
     → pieces_from outside (spelling ++ after) ≡ option_map (λ later. piece ∷ later) (pieces_from outside after)
 spelling_is_read piece spelling after h = grind (arith, outside-plain, outside-dollar, escape-escapable, short_is_read, long_is_read)
 
-are_read : (found : List Piece) (spellings : List Text) → AreSpelled found spellings
+are_read : (found : List Piece) (spellings : List Bytes) → AreSpelled found spellings
     → pieces_from outside (concat spellings) ≡ Some found
 are_read [] [] h = outside-nil
 are_read [] (s ∷ ss) h = absurd h
@@ -68,13 +68,13 @@ are_read (p ∷ ps) (s ∷ ss) h =
 
 -- ---- there is one cutting
 
-abbrev second_byte : Text → ℕ
+abbrev second_byte : Bytes → ℕ
 second_byte [] = 0
 second_byte (b ∷ []) = 0
 second_byte (b ∷ c ∷ text) = c
 
 -- a name without braces isn't one with them
-no_both : {P : Type 0} (name other after past : Text) → IsNameOf is_short_name_byte name
+no_both : {P : Type 0} (name other after past : Bytes) → IsNameOf is_short_name_byte name
     → (36 ∷ name) ++ after ≡ (36 ∷ 123 ∷ other) ++ past → P
 no_both [] other after past h e = absurd (false≢true (sym h.0))
 no_both (b ∷ bs) other after past h e =
@@ -82,11 +82,11 @@ no_both (b ∷ bs) other after past h e =
     let short = (and_parts (is_short_name_byte b) (list_all is_short_name_byte bs) h.1).0 in
     absurd (false≢true (subst (λ c. is_short_name_byte c ≡ true) brace short))
 
-one_spelling : (piece : Piece) (one two after past : Text) → IsSpelled piece one after
+one_spelling : (piece : Piece) (one two after past : Bytes) → IsSpelled piece one after
     → IsSpelled piece two past → one ++ after ≡ two ++ past → one ≡ two
 one_spelling piece one two after past h k e = grind (arith, no_both)
 
-same_spellings : (found : List Piece) (spellings others : List Text) → AreSpelled found spellings
+same_spellings : (found : List Piece) (spellings others : List Bytes) → AreSpelled found spellings
     → AreSpelled found others
     → concat spellings ≡ concat others → spellings ≡ others
 same_spellings [] [] [] h k e = refl
@@ -96,28 +96,28 @@ same_spellings (p ∷ ps) [] ts h k e = absurd h
 same_spellings (p ∷ ps) (s ∷ ss) [] h k e = absurd k
 same_spellings (p ∷ ps) (s ∷ ss) (t ∷ ts) h k e =
     let first : s ≡ t = one_spelling p s t (concat ss) (concat ts) h.0 k.0 e in
-    let rest : concat ss ≡ concat ts = append_cancel_left t _ _ (ap (λ (x : Text). x ++ concat ss) (sym first) ∙ e) in
+    let rest : concat ss ≡ concat ts = append_cancel_left t _ _ (ap (λ (x : Bytes). x ++ concat ss) (sym first) ∙ e) in
     rw first (ap (λ later. t ∷ later) (same_spellings ps ss ts h.1 k.1 rest))
 
-one_cutting : (first second : List Piece) (spellings others : List Text) → AreSpelled first spellings
+one_cutting : (first second : List Piece) (spellings others : List Bytes) → AreSpelled first spellings
     → AreSpelled second others
     → concat spellings ≡ concat others → (first ≡ second) × (spellings ≡ others)
 one_cutting first second spellings others h k e = grind (arith, are_read, same_spellings)
 
 -- ---- what is read has spellings
 
-abbrev HasSpellings : Text → List Piece → Type 0
-HasSpellings text found = (spellings : List Text) × (concat spellings ≡ text) × AreSpelled found spellings
+abbrev HasSpellings : Bytes → List Piece → Type 0
+HasSpellings text found = (spellings : List Bytes) × (concat spellings ≡ text) × AreSpelled found spellings
 
 none_has : HasSpellings [] []
 none_has = ([], refl, tt)
 
-one_more : (piece : Piece) (spelling after : Text) (found : List Piece) → IsSpelled piece spelling after
+one_more : (piece : Piece) (spelling after : Bytes) (found : List Piece) → IsSpelled piece spelling after
     → HasSpellings after found
     → HasSpellings (spelling ++ after) (piece ∷ found)
 one_more piece spelling after found h (spellings, is, are) = (
   spelling ∷ spellings,
-  ap (λ (t : Text). spelling ++ t) is,
+  ap (λ (t : Bytes). spelling ++ t) is,
   (subst (λ t. IsSpelled piece spelling t) (sym is) h, are),
 )
 
@@ -127,7 +127,7 @@ mapped : (piece : Piece) (rest : Option (List Piece)) (found : List Piece)
 mapped piece rest found e = grind arith
 
 -- one more piece in front of what is read after it
-read_more : (piece : Piece) (spelling after : Text) (found : List Piece) → IsSpelled piece spelling after
+read_more : (piece : Piece) (spelling after : Bytes) (found : List Piece) → IsSpelled piece spelling after
     → ((later : List Piece) → pieces_from outside after ≡ Some later → HasSpellings after later)
     → option_map (λ later. piece ∷ later) (pieces_from outside after) ≡ Some found
     → HasSpellings (spelling ++ after) found
@@ -136,7 +136,7 @@ read_more piece spelling after found h by e =
     subst (HasSpellings (spelling ++ after)) are (one_more piece spelling after later h (by later is))
 
 -- what stands in front of a place, of what isn't a piece yet
-abbrev begun : Where → Text
+abbrev begun : Where → Bytes
 begun outside = []
 begun after_dollar = 36 ∷ []
 begun (in_name name) = 36 ∷ name
@@ -148,11 +148,11 @@ IsPlace after_dollar = Unit {0}
 IsPlace (in_name name) = IsNameOf is_short_name_byte name
 IsPlace (in_braces name) = list_all is_long_name_byte name ≡ true
 
-abbrev Reads : Text → Type 0
+abbrev Reads : Bytes → Type 0
 Reads text = (place : Where) (found : List Piece) → IsPlace place → pieces_from place text ≡ Some found
     → HasSpellings (begun place ++ text) found
 
-from_outside : (b : ℕ) (bs : Text) → Reads bs → (found : List Piece) → pieces_from outside (b ∷ bs) ≡ Some found
+from_outside : (b : ℕ) (bs : Bytes) → Reads bs → (found : List Piece) → pieces_from outside (b ∷ bs) ≡ Some found
     → HasSpellings (b ∷ bs) found
 from_outside b bs later found e =
     ⊎_elim
@@ -161,12 +161,12 @@ from_outside b bs later found e =
     (λ h. read_more (Plain b) (b ∷ []) bs found (refl, h) (λ f. later outside f tt) (sym (outside-plain b bs h) ∙ e))
     (cases_Bool (b == 36))
 
-short_begins : (b : ℕ) (bs : Text) → is_escapable b ≡ false → (b == 123) ≡ false → is_short_name_byte b ≡ true
+short_begins : (b : ℕ) (bs : Bytes) → is_escapable b ≡ false → (b == 123) ≡ false → is_short_name_byte b ≡ true
     → pieces_from after_dollar (b ∷ bs) ≡ pieces_from (in_name (b ∷ [])) bs
 unfolding pieces_from
 short_begins b bs h i j = rw (h, i, j) (none_before (pieces_from (in_name (b ∷ [])) bs))
 
-from_dollar : (b : ℕ) (bs : Text) → Reads bs → (found : List Piece)
+from_dollar : (b : ℕ) (bs : Bytes) → Reads bs → (found : List Piece)
     → pieces_from after_dollar (b ∷ bs) ≡ Some found → HasSpellings (36 ∷ b ∷ bs) found
 from_dollar b bs later found e =
     ⊎_elim
@@ -183,26 +183,26 @@ from_dollar b bs later found e =
     (cases_Bool (b == 123)))
     (cases_Bool (is_escapable b))
 
-not_empty : (name : Text) (b : ℕ) → is_empty (name ++ b ∷ []) ≡ false
+not_empty : (name : Bytes) (b : ℕ) → is_empty (name ++ b ∷ []) ≡ false
 not_empty [] b = refl
 not_empty (c ∷ name) b = refl
 
-all_with : (test : ℕ → Bool) (name : Text) (b : ℕ) → list_all test name ≡ true → test b ≡ true
+all_with : (test : ℕ → Bool) (name : Bytes) (b : ℕ) → list_all test name ≡ true → test b ≡ true
     → list_all test (name ++ b ∷ []) ≡ true
 all_with test name b all h = grind (arith, list_all-append, and_from)
 
-name_more : (name : Text) (b : ℕ) (bs : Text) → is_short_name_byte b ≡ true
+name_more : (name : Bytes) (b : ℕ) (bs : Bytes) → is_short_name_byte b ≡ true
     → pieces_from (in_name name) (b ∷ bs) ≡ pieces_from (in_name (name ++ b ∷ [])) bs
 unfolding pieces_from
 name_more name b bs h = rw h (none_before (pieces_from (in_name (name ++ b ∷ [])) bs))
 
-name_ends : (name after : Text) → name_goes_on after ≡ false
+name_ends : (name after : Bytes) → name_goes_on after ≡ false
     → pieces_from (in_name name) after ≡ option_map (λ later. Variable name ∷ later) (pieces_from outside after)
 name_ends name after ends =
     name_run [] name after refl ends
-    ∙ ap (λ (n : Text). option_map (λ later. Variable n ∷ later) (pieces_from outside after)) (append-nil name)
+    ∙ ap (λ (n : Bytes). option_map (λ later. Variable n ∷ later) (pieces_from outside after)) (append-nil name)
 
-from_name : (name : Text) (b : ℕ) (bs : Text) → Reads bs → (found : List Piece) → IsNameOf is_short_name_byte name
+from_name : (name : Bytes) (b : ℕ) (bs : Bytes) → Reads bs → (found : List Piece) → IsNameOf is_short_name_byte name
     → pieces_from (in_name name) (b ∷ bs) ≡ Some found → HasSpellings ((36 ∷ name) ++ b ∷ bs) found
 from_name name b bs later found named e =
     ⊎_elim
@@ -213,31 +213,31 @@ from_name name b bs later found named e =
     (sym (name_ends name (b ∷ bs) h) ∙ e))
     (cases_Bool (is_short_name_byte b))
 
-brace_more : (name : Text) (b : ℕ) (bs : Text) → (b == 125) ≡ false → is_long_name_byte b ≡ true
+brace_more : (name : Bytes) (b : ℕ) (bs : Bytes) → (b == 125) ≡ false → is_long_name_byte b ≡ true
     → pieces_from (in_braces name) (b ∷ bs) ≡ pieces_from (in_braces (name ++ b ∷ [])) bs
 unfolding pieces_from
 brace_more name b bs h i = rw (h, i) (none_before (pieces_from (in_braces (name ++ b ∷ [])) bs))
 
-brace_none : (name : Text) (b : ℕ) (bs : Text) → (b == 125) ≡ false → is_long_name_byte b ≡ false
+brace_none : (name : Bytes) (b : ℕ) (bs : Bytes) → (b == 125) ≡ false → is_long_name_byte b ≡ false
     → pieces_from (in_braces name) (b ∷ bs) ≡ None
 unfolding pieces_from
 brace_none name b bs h i = rw (h, i) refl
 
-brace_ends : (name : Text) (b : ℕ) (bs : Text) → (b == 125) ≡ true → is_empty name ≡ false
+brace_ends : (name : Bytes) (b : ℕ) (bs : Bytes) → (b == 125) ≡ true → is_empty name ≡ false
     → pieces_from (in_braces name) (b ∷ bs) ≡ option_map (λ later. Variable name ∷ later) (pieces_from outside bs)
 unfolding pieces_from
 brace_ends name b bs h i = rw (h, i) refl
 
-brace_unnamed : (name : Text) (b : ℕ) (bs : Text) → (b == 125) ≡ true → is_empty name ≡ true
+brace_unnamed : (name : Bytes) (b : ℕ) (bs : Bytes) → (b == 125) ≡ true → is_empty name ≡ true
     → pieces_from (in_braces name) (b ∷ bs) ≡ None
 unfolding pieces_from
 brace_unnamed name b bs h i = rw (h, i) refl
 
-brace_nil : (name : Text) → pieces_from (in_braces name) [] ≡ None
+brace_nil : (name : Bytes) → pieces_from (in_braces name) [] ≡ None
 unfolding pieces_from
 brace_nil name = refl
 
-from_braces : (name : Text) (b : ℕ) (bs : Text) → Reads bs → (found : List Piece)
+from_braces : (name : Bytes) (b : ℕ) (bs : Bytes) → Reads bs → (found : List Piece)
     → list_all is_long_name_byte name ≡ true
     → pieces_from (in_braces name) (b ∷ bs) ≡ Some found → HasSpellings ((36 ∷ 123 ∷ name) ++ b ∷ bs) found
 from_braces name b bs later found all e =
@@ -268,13 +268,13 @@ at_end (in_name name) found h e =
     (sym (name_ends name [] refl) ∙ e)
 at_end (in_braces name) found h e = let none = sym (brace_nil name) ∙ e in absurd (cc none)
 
-by_first : (b : ℕ) (bs : Text) → Reads bs → Reads (b ∷ bs)
+by_first : (b : ℕ) (bs : Bytes) → Reads bs → Reads (b ∷ bs)
 by_first b bs later outside found h e = from_outside b bs later found e
 by_first b bs later after_dollar found h e = from_dollar b bs later found e
 by_first b bs later (in_name name) found h e = from_name name b bs later found h e
 by_first b bs later (in_braces name) found h e = from_braces name b bs later found h e
 
-reads : (text : Text) → Reads text
+reads : (text : Bytes) → Reads text
 reads [] = at_end
 reads (b ∷ bs) = by_first b bs (reads bs)
 

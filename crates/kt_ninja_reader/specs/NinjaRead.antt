@@ -4,10 +4,10 @@ use Rattle.std.specs.Prelude.{ℕ, Bool, true, false, not, ◌==◌, ◌&&◌, �
 use Rattle.std.specs.Prelude.{option_map, is_some, is_none, Result, Ok, Err, codes, if◌then◌else◌}
 use Rattle.kt_ninja_reader.specs.Prelude.{option_and_then, list_all, flat_map, bytes_eq, Made, Command, Phony}
 use Rattle.kt_ninja_reader.specs.Prelude.{Statement, Plan, pieces, is_among, is_empty}
-use Rattle.kt_ninja_reader.specs.JoinedLines.{JoinedLine, Text, is_blank, is_comment, joined_lines}
-use Rattle.kt_ninja_reader.specs.Forms.{Binding, Build, Form, Pieces, binding_of, rule_form, build_form, default_form}
-use Rattle.kt_ninja_reader.specs.Forms.{binding_form, form_of}
-use Rattle.kt_ninja_reader.specs.Scopes.{Scope, ScopeTable, command_value, expanded, find_in, put_in, refers_to, value_in}
+use Rattle.kt_ninja_reader.specs.JoinedLines.{Bytes, JoinedLine, is_blank_line, is_comment, joined_lines}
+use Rattle.kt_ninja_reader.specs.Forms.{Binding, Build, MarginForm, Spelling, binding_of, rule_form, build_form, default_form}
+use Rattle.kt_ninja_reader.specs.Forms.{binding_form, margin_form}
+use Rattle.kt_ninja_reader.specs.Scopes.{Scope, ScopeTable, bound_text, command_value, find_in, put_in, refers_to, value_in}
 use Rattle.kt_ninja_reader.specs.Scopes.{value_within}
 
 -- a part of the file: a line at the margin, if it has one, with the lines up to the next such line
@@ -17,17 +17,17 @@ pub record FilePart : Type 0 where
   pub body : List JoinedLine
 
 -- what begins a part: a line that isn't empty and begins with neither a space nor `#`
-abbrev pub begins_part : Text → Bool
+abbrev pub begins_part : Bytes → Bool
 begins_part [] = false
 begins_part (b ∷ bs) = not (b == 32 || b == 35)
 
 -- lines before the first part that a line begins, and the parts
-pub record Cut : Type 0 where
+pub record FileParts : Type 0 where
   pub before : List JoinedLine
   pub parts : List FilePart
 
 -- one more line in front
-abbrev pub cut_with : JoinedLine → Cut → Cut
+abbrev pub cut_with : JoinedLine → FileParts → FileParts
 cut_with line cut =
     if begins_part line.text
     then record {
@@ -38,12 +38,12 @@ cut_with line cut =
     else record { before = line ∷ cut.before; parts = cut.parts }
 
 -- lines cut before each that begins a part
-unfoldable pub cut_lines : List JoinedLine → Cut
+unfoldable pub cut_lines : List JoinedLine → FileParts
 cut_lines [] = record { before = []; parts = [] }
 cut_lines (l ∷ ls) = cut_with l (cut_lines ls)
 
 -- all parts: the first begins with the first line, whatever that is
-abbrev pub all_parts : Cut → List FilePart
+abbrev pub all_parts : FileParts → List FilePart
 all_parts cut = if is_empty cut.before then cut.parts
     else record { number = 1; head = None; body = cut.before } ∷ cut.parts
 
@@ -60,7 +60,7 @@ unfoldable pub block_from : Bool → List JoinedLine → Option (List Binding)
 block_from closed [] = Some []
 block_from closed (l ∷ ls) =
     if is_comment l.text then block_from closed ls
-    else (if is_blank l.text then block_from true ls
+    else (if is_blank_line l.text then block_from true ls
     else (if closed then None
     else option_and_then (λ b. option_map
     (λ bs. b ∷ bs) (block_from false ls)) (option_and_then binding_of (pieces l.text))))
@@ -73,34 +73,34 @@ block_of lines = block_from false lines
 -- scope of its block
 pub data Making : Type 0 where
   by_nothing : Making
-  by_own : Text → Making
-  by_rule : Pieces → Scope → Making
+  by_own : Bytes → Making
+  by_rule : Spelling → Scope → Making
 
 -- a statement whose command may not be known yet: it looks up variables as the file leaves them
 pub record PendingStatement : Type 0 where
-  pub outs : List Text
+  pub outs : List Bytes
   pub making : Making
-  pub inputs : List Text
-  pub implicit : List Text
-  pub order_only : List Text
+  pub inputs : List Bytes
+  pub implicit : List Bytes
+  pub order_only : List Bytes
 
 -- what was read so far: the variables of the file, the commands of its rules, the statements and the default targets
 pub record State : Type 0 where
   pub file : Scope
-  pub rules : ScopeTable Pieces
+  pub rules : ScopeTable Spelling
   pub pending : List PendingStatement
-  pub defaults : List Text
+  pub defaults : List Bytes
 
 -- the outputs of statements
-abbrev pub outs_of : List PendingStatement → List Text
-outs_of pending = flat_map (λ s. s.outs) pending
+abbrev pub pending_outs : List PendingStatement → List Bytes
+pending_outs pending = flat_map (λ s. s.outs) pending
 
 -- a variable at the margin: its value is expanded at once, and replaces an earlier one
-unfoldable pub bind : State → Binding → State
-bind state b = record state { file = put_in state.file b.key (expanded (value_in state.file) b.value) }
+unfoldable pub bind_variable : State → Binding → State
+bind_variable state b = record state { file = put_in state.file b.key (bound_text (value_in state.file) b.value) }
 
 -- the command of a rule's block: its one binding, not empty, which doesn't refer to itself
-abbrev pub rule_command : List Binding → Option Pieces
+abbrev pub rule_command : List Binding → Option Spelling
 rule_command (b ∷ []) =
     if bytes_eq b.key (codes "command")
     && (not (is_empty b.value) && not (refers_to (bytes_eq (codes "command")) b.value))
@@ -108,10 +108,10 @@ rule_command (b ∷ []) =
 rule_command _ = None
 
 -- a name that no rule has yet
-abbrev pub is_new_rule : State → Text → Bool
+abbrev pub is_new_rule : State → Bytes → Bool
 is_new_rule state name = not (bytes_eq name (codes "phony")) && is_none (find_in state.rules name)
 
-unfoldable pub read_rule : State → Text → List Binding → Option State
+unfoldable pub read_rule : State → Bytes → List Binding → Option State
 read_rule state name bindings =
     if is_new_rule state name
     then option_map (λ command. record state { rules = put_in state.rules name command }) (rule_command bindings)
@@ -123,33 +123,33 @@ unfoldable pub block_scope : Scope → Scope → List Binding → Option Scope
 block_scope file block [] = Some block
 block_scope file block (b ∷ bs) =
     if is_some (find_in block b.key) || refers_to (λ name. is_some (find_in block name)) b.value then None
-    else block_scope file (put_in block b.key (expanded (value_in file) b.value)) bs
+    else block_scope file (put_in block b.key (bound_text (value_in file) b.value)) bs
 
 -- how a statement of this rule is made: a command in its block goes before the rule's
-abbrev pub made_by : Pieces → Scope → Option Text → Making
-made_by command block None = by_rule command block
-made_by command block (Some own) = by_own own
+abbrev pub making_by : Spelling → Scope → Option Bytes → Making
+making_by command block None = by_rule command block
+making_by command block (Some own) = by_own own
 
 -- the rule is `phony`, or stands above
-unfoldable pub making_of : State → Text → Scope → Option Making
+unfoldable pub making_of : State → Bytes → Scope → Option Making
 making_of state name block =
     if bytes_eq name (codes "phony") then Some by_nothing
-    else option_map (λ command. made_by command block (find_in block (codes "command"))) (find_in state.rules name)
+    else option_map (λ command. making_by command block (find_in block (codes "command"))) (find_in state.rules name)
 
 -- paths, none of which is empty
-unfoldable pub paths_in : (Text → Text) → List Pieces → Option (List Text)
+unfoldable pub paths_in : (Bytes → Bytes) → List Spelling → Option (List Bytes)
 paths_in value_of [] = Some []
 paths_in value_of (p ∷ ps) =
-    if is_empty (expanded value_of p) then None
-    else option_map (λ paths. expanded value_of p ∷ paths) (paths_in value_of ps)
+    if is_empty (bound_text value_of p) then None
+    else option_map (λ paths. bound_text value_of p ∷ paths) (paths_in value_of ps)
 
 -- whether no output stands twice, or among these
-unfoldable pub are_new : List Text → List Text → Bool
+unfoldable pub are_new : List Bytes → List Bytes → Bool
 are_new before [] = true
 are_new before (out ∷ outs) = not (is_among before out) && are_new (before ++ out ∷ []) outs
 
 -- a statement by the values of its paths' variables
-abbrev pub pending_with : (Text → Text) → Making → Build → Option PendingStatement
+abbrev pub pending_with : (Bytes → Bytes) → Making → Build → Option PendingStatement
 pending_with value_of making b =
     option_and_then (λ outs.
     option_and_then (λ inputs.
@@ -169,7 +169,8 @@ pending_with value_of making b =
 -- one more statement, if its outputs are new
 abbrev pub add_statement : State → PendingStatement → Option State
 add_statement state s =
-    if are_new (outs_of state.pending) s.outs then Some (record state { pending = state.pending ++ s ∷ [] }) else None
+    if are_new (pending_outs state.pending) s.outs then Some (record state { pending = state.pending ++ s ∷ [] })
+    else None
 
 unfoldable pub read_build : State → Build → List Binding → Option State
 read_build state b bindings =
@@ -180,26 +181,26 @@ read_build state b bindings =
     (block_scope state.file [] bindings)
 
 -- more default targets, each an output of a statement above
-abbrev pub add_defaults : State → List Text → Option State
+abbrev pub add_defaults : State → List Bytes → Option State
 add_defaults state names =
-    if list_all (is_among (outs_of state.pending)) names
+    if list_all (is_among (pending_outs state.pending)) names
     then Some (record state { defaults = state.defaults ++ names }) else None
 
-unfoldable pub read_default : State → List Pieces → Option State
+unfoldable pub read_default : State → List Spelling → Option State
 read_default state paths = option_and_then (add_defaults state) (paths_in (value_in state.file) paths)
 
 -- a line with its block; only rules and build lines have one
-abbrev pub read_form : State → Form → List Binding → Option State
+abbrev pub read_form : State → MarginForm → List Binding → Option State
 read_form state (rule_form name) bindings = read_rule state name bindings
 read_form state (build_form b) bindings = read_build state b bindings
 read_form state (default_form paths) bindings = if is_empty bindings then read_default state paths else None
-read_form state (binding_form b) bindings = if is_empty bindings then Some (bind state b) else None
+read_form state (binding_form b) bindings = if is_empty bindings then Some (bind_variable state b) else None
 
 -- a part's first line with the bindings below it
 abbrev pub read_head : State → Option JoinedLine → List Binding → Option State
 read_head state None bindings = if is_empty bindings then Some state else None
 read_head state (Some line) bindings =
-    if is_sound line then option_and_then (λ form. read_form state form bindings) (form_of line.text) else None
+    if is_sound line then option_and_then (λ form. read_form state form bindings) (margin_form line.text) else None
 
 -- what a part adds to what was read before it, if it has a reading there
 unfoldable pub read_part : State → FilePart → Option State
@@ -223,10 +224,10 @@ nothing_read = record { file = []; rules = []; pending = []; defaults = [] }
 unfoldable pub made_of : Scope → PendingStatement → Making → Made
 made_of file s by_nothing = Phony
 made_of file s (by_own command) = Command command
-made_of file s (by_rule command block) = Command (expanded (command_value s.inputs s.outs block file) command)
+made_of file s (by_rule command block) = Command (bound_text (command_value s.inputs s.outs block file) command)
 
-unfoldable pub statement_of : Scope → PendingStatement → Statement
-statement_of file s =
+unfoldable pub statement_of_pending : Scope → PendingStatement → Statement
+statement_of_pending file s =
     record {
       outs = s.outs;
       made = made_of file s s.making;
@@ -236,12 +237,13 @@ statement_of file s =
     }
 
 -- what was read as a plan
-unfoldable pub plan_of : State → Plan
-plan_of state = record { statements = map (statement_of state.file) state.pending; defaults = state.defaults }
+unfoldable pub plan_of_state : State → Plan
+plan_of_state state =
+    record { statements = map (statement_of_pending state.file) state.pending; defaults = state.defaults }
 
 -- the same, if all was read
 abbrev pub plan_in : Result State ℕ → Result Plan ℕ
-plan_in (Ok state) = Ok (plan_of state)
+plan_in (Ok state) = Ok (plan_of_state state)
 plan_in (Err number) = Err number
 
 -- the plan that lines say, or the number of the line that begins the first part through which they say none
@@ -249,5 +251,5 @@ abbrev pub plan_said : List JoinedLine → Result Plan ℕ
 plan_said lines = plan_in (read_parts nothing_read (all_parts (cut_lines lines)))
 
 -- the plan that a text says
-unfoldable pub ninja_read : Text → Result Plan ℕ
+unfoldable pub ninja_read : Bytes → Result Plan ℕ
 ninja_read text = plan_said (joined_lines text)

@@ -2,14 +2,14 @@
 use Rattle.std.specs.Prelude.{ℕ, Bool, ◌==◌, ◌&&◌, ◌||◌, nat_le, List, [], ◌∷◌, ◌++◌, Option, Some, None, option_map}
 use Rattle.std.specs.Prelude.{if◌then◌else◌}
 use Rattle.std.specs.Option.{option_and_then}
-use Rattle.kt_ninja_reader.specs.JoinedLines.{Text}
+use Rattle.kt_ninja_reader.specs.JoinedLines.{Bytes}
 use Rattle.kt_ninja.specs.Writable.{is_empty}
 
 -- a byte as it stands, a byte after a dollar, or the variable of a name
 pub data Piece : Type 0 where
   Plain : ℕ → Piece
   Escaped : ℕ → Piece
-  Variable : Text → Piece
+  Variable : Bytes → Piece
 
 -- a letter or digit of ASCII
 abbrev pub is_letter_or_digit : ℕ → Bool
@@ -32,8 +32,8 @@ is_escapable b = b == 36 || (b == 32 || b == 58)
 pub data Where : Type 0 where
   outside : Where
   after_dollar : Where
-  in_name : Text → Where
-  in_braces : Text → Where
+  in_name : Bytes → Where
+  in_braces : Bytes → Where
 
 -- what a byte ends, and where the next one stands
 pub record PieceStep : Type 0 where
@@ -54,7 +54,7 @@ dollar_step b =
     else (if is_short_name_byte b then Some (record { done = []; next = in_name (b ∷ []) }) else None))
 
 -- a byte in braces: a name has at least one byte
-abbrev pub brace_step : Text → ℕ → Option PieceStep
+abbrev pub brace_step : Bytes → ℕ → Option PieceStep
 brace_step name b =
     if b == 125 then (if is_empty name then None else Some (record { done = Variable name ∷ []; next = outside }))
     else (if is_long_name_byte b then Some (record { done = []; next = in_braces (name ++ b ∷ []) }) else None)
@@ -76,11 +76,11 @@ last_pieces (in_name name) = Some (Variable name ∷ [])
 last_pieces (in_braces name) = None
 
 -- the pieces of a text that goes on from there
-unfoldable pub pieces_from : Where → Text → Option (List Piece)
+unfoldable pub pieces_from : Where → Bytes → Option (List Piece)
 pieces_from place [] = last_pieces place
 pieces_from place (b ∷ bs) = option_and_then
     (λ s. option_map (λ later. s.done ++ later) (pieces_from s.next bs)) (step place b)
 
 -- the pieces of a text, if each of its dollars begins an escape or a variable
-unfoldable pub pieces : Text → Option (List Piece)
+unfoldable pub pieces : Bytes → Option (List Piece)
 pieces text = pieces_from outside text

@@ -2,54 +2,54 @@
 -- `in`, `in_newline` and `out`; how paths are quoted for the shell is kati's own).
 use Rattle.std.specs.Prelude.{ℕ, Bool, false, ◌==◌, ◌||◌, List, [], ◌∷◌, ◌++◌, map, Option, Some, None, unwrap_or}
 use Rattle.std.specs.Prelude.{codes, if◌then◌else◌}
-use Rattle.kt_ninja_reader.specs.Prelude.{list_all, list_any, flat_map, join_with_byte, bytes_eq, Text}
+use Rattle.kt_ninja_reader.specs.Prelude.{list_all, list_any, flat_map, join_with_byte, bytes_eq, Bytes}
 use Rattle.kt_ninja_reader.specs.Pieces.{Piece, Plain, Escaped, Variable, is_letter_or_digit}
-use Rattle.kt_ninja_reader.specs.Forms.{Pieces}
+use Rattle.kt_ninja_reader.specs.Forms.{Spelling}
 
 -- a finite map from names, as entries; no name stands twice
 abbrev pub ScopeTable : Type 0 → Type 0
-ScopeTable X = List (Text × X)
+ScopeTable X = List (Bytes × X)
 
 -- what the map has at a name
-unfoldable pub find_in : {X : Type 0} → ScopeTable X → Text → Option X
+unfoldable pub find_in : {X : Type 0} → ScopeTable X → Bytes → Option X
 find_in [] name = None
 find_in (e ∷ es) name = if bytes_eq name e.0 then Some e.1 else find_in es name
 
 -- the map with a value at a name, in place of what it had there
-unfoldable pub put_in : {X : Type 0} → ScopeTable X → Text → X → ScopeTable X
+unfoldable pub put_in : {X : Type 0} → ScopeTable X → Bytes → X → ScopeTable X
 put_in [] name value = (name, value) ∷ []
 put_in (e ∷ es) name value = if bytes_eq name e.0 then (e.0, value) ∷ es else e ∷ put_in es name value
 
 -- a scope: the values of its variables
 abbrev pub Scope : Type 0
-Scope = ScopeTable Text
+Scope = ScopeTable Bytes
 
 -- the value of a variable, empty where it is unknown
-abbrev pub value_in : Scope → Text → Text
+abbrev pub value_in : Scope → Bytes → Bytes
 value_in scope name = unwrap_or (find_in scope name) []
 
 -- the same where an inner scope goes before
-abbrev pub value_within : Scope → Scope → Text → Text
+abbrev pub value_within : Scope → Scope → Bytes → Bytes
 value_within inner outer name = unwrap_or (find_in inner name) (value_in outer name)
 
 -- what a piece stands for
-abbrev pub piece_text : (Text → Text) → Piece → Text
+abbrev pub piece_text : (Bytes → Bytes) → Piece → Bytes
 piece_text value_of (Plain b) = b ∷ []
 piece_text value_of (Escaped b) = b ∷ []
 piece_text value_of (Variable name) = value_of name
 
 -- what pieces stand for, where variables have these values
-unfoldable pub expanded : (Text → Text) → Pieces → Text
-expanded value_of ps = flat_map (piece_text value_of) ps
+unfoldable pub bound_text : (Bytes → Bytes) → Spelling → Bytes
+bound_text value_of ps = flat_map (piece_text value_of) ps
 
 -- whether the piece is a variable with such a name
-abbrev pub names_one : (Text → Bool) → Piece → Bool
+abbrev pub names_one : (Bytes → Bool) → Piece → Bool
 names_one test (Plain b) = false
 names_one test (Escaped b) = false
 names_one test (Variable name) = test name
 
 -- whether a variable with such a name stands among the pieces
-abbrev pub refers_to : (Text → Bool) → Pieces → Bool
+abbrev pub refers_to : (Bytes → Bool) → Spelling → Bool
 refers_to test ps = list_any (names_one test) ps
 
 -- a byte that a shell takes as it is
@@ -57,20 +57,20 @@ abbrev pub is_shell_safe : ℕ → Bool
 is_shell_safe b = is_letter_or_digit b || (b == 95 || (b == 43 || (b == 45 || (b == 46 || b == 47))))
 
 -- a byte in single quotes, which a single quote ends and begins again
-abbrev pub byte_in_quotes : ℕ → Text
+abbrev pub byte_in_quotes : ℕ → Bytes
 byte_in_quotes b = if b == 39 then 39 ∷ 92 ∷ 39 ∷ 39 ∷ [] else b ∷ []
 
 -- a path as one word of a shell
-unfoldable pub shell_word : Text → Text
+unfoldable pub shell_word : Bytes → Bytes
 shell_word path =
     if list_all is_shell_safe path then path else codes "'" ++ (flat_map byte_in_quotes path ++ codes "'")
 
 -- paths as shell words, joined by a byte
-unfoldable pub shell_words : ℕ → List Text → Text
+unfoldable pub shell_words : ℕ → List Bytes → Bytes
 shell_words between paths = join_with_byte between (map shell_word paths)
 
 -- the variables of a rule's command: its statement's paths, then the block of the statement, then the file
-unfoldable pub command_value : List Text → List Text → Scope → Scope → Text → Text
+unfoldable pub command_value : List Bytes → List Bytes → Scope → Scope → Bytes → Bytes
 command_value inputs outs block file name =
     if bytes_eq name (codes "in") then shell_words 32 inputs
     else (if bytes_eq name (codes "in_newline") then shell_words 10 inputs

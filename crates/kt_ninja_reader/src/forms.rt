@@ -1,22 +1,22 @@
 //! The forms of a line.
 ghost use Rattle.std.specs.Prelude.{◌≡◌, ◌++◌, ◌∷◌, [], IfOk, OnOk, MatchOption, Some, None};
 ghost use Rattle.std.specs.List.{list_any, slice_split};
-ghost use Rattle.kt_ninja_reader.specs.Forms.{binding_of, build_after, build_of, build_with, defaults_of, inputs_of};
-ghost use Rattle.kt_ninja_reader.specs.Forms.{is_keyword, is_plain, name_in, paths_of, rule_of, words_of};
-ghost use Rattle.kt_ninja_reader.specs.inner.Cutting.{is_mark};
+ghost use Rattle.kt_ninja_reader.specs.Forms.{binding_of, build_after, build_inputs, build_of, build_with, defaults_of};
+ghost use Rattle.kt_ninja_reader.specs.Forms.{is_keyword, is_plain_byte, paths_of, rule_name_in, single_name, spelled_words};
+ghost use Rattle.kt_ninja_reader.specs.inner.Cutting.{is_own_byte};
 ghost use Rattle.kt_ninja_reader.specs.inner.Wording.{bars_cut, binding_view, build_view, inputs_view, key_of, some_word};
 ghost use Rattle.kt_ninja_reader.specs.inner.Wording.{two_bars, two_of};
 ghost use Rattle.kt_ninja_reader.specs.inner.Refusals.{Reads, ReadsAs};
 ghost use Rattle.std.specs.Prelude.{true};
 
-use crate::read_fault::Fault;
+use crate::read_fault::PartFault;
 use crate::spelling::Spelling;
 use std::alloc::{AllocError, Global};
 
 // What stands between such bytes.
 fn parts<'t>(alloc: Global, mark: u8, line: &Spelling<'t>) -> Result<Vec<Spelling<'t>>, AllocError>
-    requires { is_mark mark ≡ true }
-    ensures { IfOk result (λ parts. parts.items ≡ slice_split (is_plain mark) line.now) }
+    requires { is_own_byte mark ≡ true }
+    ensures { IfOk result (λ parts. parts.items ≡ slice_split (is_plain_byte mark) line.now) }
 {
     let mut parts = Vec::new(alloc);
     let mut rest = line.copy();
@@ -40,7 +40,7 @@ fn add_word<'t>(words: &mut Vec<Spelling<'t>>, word: Spelling<'t>) -> Result<(),
 
 // What stands between plain spaces.
 fn words<'t>(alloc: Global, line: &Spelling<'t>) -> Result<Vec<Spelling<'t>>, AllocError>
-    ensures { IfOk result (λ words. words.items ≡ words_of line.now) }
+    ensures { IfOk result (λ words. words.items ≡ spelled_words line.now) }
 {
     let mut words = Vec::new(alloc);
     let mut rest = line.copy();
@@ -53,15 +53,15 @@ fn words<'t>(alloc: Global, line: &Spelling<'t>) -> Result<Vec<Spelling<'t>>, Al
 }
 
 fn has_plain(mark: u8, line: &Spelling) -> bool
-    requires { is_mark mark ≡ true }
-    ensures { result ≡ list_any (is_plain mark) line.now }
+    requires { is_own_byte mark ≡ true }
+    ensures { result ≡ list_any (is_plain_byte mark) line.now }
 {
     line.split(mark).is_some()
 }
 
 // The name that one word is.
 fn name_in<'t>(words: &[Spelling<'t>]) -> Option<&'t [u8]>
-    ensures { MatchOption result (name_in words.now ≡ None) (λ name. name_in words.now ≡ Some name.now) }
+    ensures { MatchOption result (single_name words.now ≡ None) (λ name. single_name words.now ≡ Some name.now) }
 {
     match words {
         [word] => word.name(),
@@ -70,13 +70,13 @@ fn name_in<'t>(words: &[Spelling<'t>]) -> Option<&'t [u8]>
 }
 
 /// The name after `rule`.
-pub(crate) fn rule_name<'t>(alloc: Global, line: &Spelling<'t>) -> Result<&'t [u8], Fault>
-    ensures { ReadsAs (λ name. name.now) result (rule_of line.now) }
+pub(crate) fn rule_name<'t>(alloc: Global, line: &Spelling<'t>) -> Result<&'t [u8], PartFault>
+    ensures { ReadsAs (λ name. name.now) result (rule_name_in line.now) }
 {
     let words = words(alloc, line)?;
     match name_in(words.as_slice()) {
         Some(name) => Ok(name),
-        None => Err(Fault::NoReading),
+        None => Err(PartFault::NoReading),
     }
 }
 
@@ -99,25 +99,25 @@ fn is_keyword(name: &[u8]) -> bool
 }
 
 // The key that stands before `=`.
-fn key<'t>(alloc: Global, front: &Spelling<'t>) -> Result<&'t [u8], Fault>
+fn key<'t>(alloc: Global, front: &Spelling<'t>) -> Result<&'t [u8], PartFault>
     ensures { ReadsAs (λ key. key.now) result (key_of front.now) }
 {
     let words = words(alloc, front)?;
     let Some(name) = name_in(words.as_slice()) else {
-        return Err(Fault::NoReading);
+        return Err(PartFault::NoReading);
     };
     if is_keyword(name) {
-        return Err(Fault::NoReading);
+        return Err(PartFault::NoReading);
     }
     Ok(name)
 }
 
 /// The binding of a key to what stands after the first `=`.
-pub(crate) fn binding_of<'t>(alloc: Global, line: &Spelling<'t>) -> Result<Binding<'t>, Fault>
+pub(crate) fn binding_of<'t>(alloc: Global, line: &Spelling<'t>) -> Result<Binding<'t>, PartFault>
     ensures { ReadsAs binding_view result (binding_of line.now) }
 {
     let Some((front, value)) = line.split(b'=') else {
-        return Err(Fault::NoReading);
+        return Err(PartFault::NoReading);
     };
     Ok(Binding {
         key: key(alloc, &front)?,
@@ -127,7 +127,7 @@ pub(crate) fn binding_of<'t>(alloc: Global, line: &Spelling<'t>) -> Result<Bindi
 
 /// What a build line names after its rule.
 #[derive(Drop)]
-pub(crate) struct Inputs<'t> {
+pub(crate) struct BuildInputs<'t> {
     pub(crate) explicit: Vec<Spelling<'t>>,
     pub(crate) implicit: Vec<Spelling<'t>>,
     pub(crate) order_only: Vec<Spelling<'t>>,
@@ -138,16 +138,16 @@ pub(crate) struct Inputs<'t> {
 pub(crate) struct Build<'t> {
     pub(crate) outs: Vec<Spelling<'t>>,
     pub(crate) rule: &'t [u8],
-    pub(crate) inputs: Inputs<'t>,
+    pub(crate) inputs: BuildInputs<'t>,
 }
 
 // Paths without a bar, at least one.
-fn paths<'t>(alloc: Global, line: &Spelling<'t>) -> Result<Vec<Spelling<'t>>, Fault>
+fn paths<'t>(alloc: Global, line: &Spelling<'t>) -> Result<Vec<Spelling<'t>>, PartFault>
     ensures { ReadsAs (λ paths. paths.items) result (paths_of line.now) }
 {
     let words = words(alloc, line)?;
     if words.is_empty() || has_plain(b'|', line) {
-        return Err(Fault::NoReading);
+        return Err(PartFault::NoReading);
     }
     Ok(words)
 }
@@ -163,24 +163,24 @@ fn two<'t>(parts: &[Spelling<'t>]) -> Option<(Spelling<'t>, Spelling<'t>)>
 }
 
 // What stands after two bars, by what stands between them, which is nothing, and after them.
-fn after_two_bars<'t>(parts: &[Spelling<'t>]) -> Result<Spelling<'t>, Fault>
+fn after_two_bars<'t>(parts: &[Spelling<'t>]) -> Result<Spelling<'t>, PartFault>
     ensures { Reads result (two_bars parts.now) }
 {
     match two(parts) {
         Some((between, order)) if between.is_empty() => Ok(order),
-        _ => Err(Fault::NoReading),
+        _ => Err(PartFault::NoReading),
     }
 }
 
 // What stands after one bar and after two, by the parts between the bars.
-fn after_bars<'t>(bars: &[Spelling<'t>]) -> Result<(Spelling<'t>, Spelling<'t>), Fault>
+fn after_bars<'t>(bars: &[Spelling<'t>]) -> Result<(Spelling<'t>, Spelling<'t>), PartFault>
     ensures { ReadsAs (λ cut. (cut.0, cut.1)) result (bars_cut bars.now) }
 {
     let Some((implicit, later)) = bars.split_first() else {
         return Ok((Spelling::empty(), Spelling::empty()));
     };
     if implicit.begins_with_at() {
-        return Err(Fault::NoReading);
+        return Err(PartFault::NoReading);
     }
     if later.is_empty() {
         return Ok((implicit.copy(), Spelling::empty()));
@@ -207,11 +207,11 @@ fn inputs_of<'t>(
     alloc: Global,
     explicit: &[Spelling<'t>],
     bars: &[Spelling<'t>],
-) -> Result<Inputs<'t>, Fault>
-    ensures { ReadsAs inputs_view result (inputs_of explicit.now bars.now) }
+) -> Result<BuildInputs<'t>, PartFault>
+    ensures { ReadsAs inputs_view result (build_inputs explicit.now bars.now) }
 {
     let (implicit, order_only) = after_bars(bars)?;
-    Ok(Inputs {
+    Ok(BuildInputs {
         explicit: copy(alloc, explicit)?,
         implicit: words(alloc, &implicit)?,
         order_only: words(alloc, &order_only)?,
@@ -224,14 +224,14 @@ fn build_with<'t>(
     outs: Vec<Spelling<'t>>,
     front: &[Spelling<'t>],
     bars: &[Spelling<'t>],
-) -> Result<Build<'t>, Fault>
+) -> Result<Build<'t>, PartFault>
     ensures { ReadsAs build_view result (build_with outs.entry.items front.now bars.now) }
 {
     let Some((rule, explicit)) = front.split_first() else {
-        return Err(Fault::NoReading);
+        return Err(PartFault::NoReading);
     };
     let Some(rule) = rule.name() else {
-        return Err(Fault::NoReading);
+        return Err(PartFault::NoReading);
     };
     let inputs = inputs_of(alloc, explicit, bars)?;
     Ok(Build { outs, rule, inputs })
@@ -242,24 +242,24 @@ fn build_after<'t>(
     alloc: Global,
     outs: Vec<Spelling<'t>>,
     rest: &Spelling<'t>,
-) -> Result<Build<'t>, Fault>
-    ensures { ReadsAs build_view result (build_after outs.entry.items (slice_split (is_plain 124) rest.now)) }
+) -> Result<Build<'t>, PartFault>
+    ensures { ReadsAs build_view result (build_after outs.entry.items (slice_split (is_plain_byte 124) rest.now)) }
 {
     let bars = parts(alloc, b'|', rest)?;
     let Some((front, past)) = bars.as_slice().split_first() else {
-        return Err(Fault::NoReading);
+        return Err(PartFault::NoReading);
     };
     let front = words(alloc, front)?;
     build_with(alloc, outs, front.as_slice(), past)
 }
 
 /// What stands after `build`.
-pub(crate) fn build_of<'t>(alloc: Global, line: &Spelling<'t>) -> Result<Build<'t>, Fault>
+pub(crate) fn build_of<'t>(alloc: Global, line: &Spelling<'t>) -> Result<Build<'t>, PartFault>
     ensures { ReadsAs build_view result (build_of line.now) }
 {
     let sides = parts(alloc, b':', line)?;
     let Some((outs, rest)) = two(sides.as_slice()) else {
-        return Err(Fault::NoReading);
+        return Err(PartFault::NoReading);
     };
     let outs = paths(alloc, &outs)?;
     build_after(alloc, outs, &rest)
@@ -269,11 +269,11 @@ pub(crate) fn build_of<'t>(alloc: Global, line: &Spelling<'t>) -> Result<Build<'
 pub(crate) fn defaults_of<'t>(
     alloc: Global,
     line: &Spelling<'t>,
-) -> Result<Vec<Spelling<'t>>, Fault>
+) -> Result<Vec<Spelling<'t>>, PartFault>
     ensures { ReadsAs (λ paths. paths.items) result (defaults_of line.now) }
 {
     if has_plain(b':', line) {
-        return Err(Fault::NoReading);
+        return Err(PartFault::NoReading);
     }
     paths(alloc, line)
 }

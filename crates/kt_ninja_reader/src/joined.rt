@@ -3,12 +3,12 @@ ghost use Rattle.std.specs.Prelude.{◌≡◌, ◌+◌, ◌-◌, ◌<◌, ◌≤
 ghost use Rattle.std.specs.Prelude.{◌++◌, IfOk, OnOk};
 ghost use Rattle.std.specs.Option.{option_copied};
 ghost use Rattle.std.specs.List.{position_or_len, prefix_len};
-ghost use Rattle.kt_ninja_reader.specs.JoinedLines.{ends_in_dollar, file_lines, is_blank, is_comment, joined_lines};
+ghost use Rattle.kt_ninja_reader.specs.JoinedLines.{ends_in_dollar, file_lines, is_blank_line, is_comment, joined_lines};
 ghost use Rattle.kt_ninja_reader.specs.JoinedLines.{without_indent};
 ghost use Rattle.kt_ninja_reader.specs.inner.Joining.{Joins, added_text, file_line, kept_text};
 
 use crate::bytes::first_byte;
-use crate::line::{JoinedLine, LineText};
+use crate::line::{JoinedLine, JoinedText};
 use memchr::memchr;
 use std::alloc::{AllocError, Global};
 use std::mem;
@@ -81,7 +81,7 @@ pub(crate) fn is_comment(text: &[u8]) -> bool
 }
 
 pub(crate) fn is_blank(text: &[u8]) -> bool
-    ensures { result ≡ is_blank text.now }
+    ensures { result ≡ is_blank_line text.now }
 {
     text.iter().all(|byte| *byte == b' ')
 }
@@ -127,9 +127,9 @@ fn without_last(text: &[u8]) -> &[u8]
 
 // What was joined so far to a line: whether it goes on, and is blank so far.
 #[derive(Drop)]
-struct Begun<'t> {
+struct OpenLine<'t> {
     number: u64,
-    text: LineText<'t>,
+    text: JoinedText<'t>,
     blank: bool,
     going_on: bool,
 }
@@ -161,15 +161,15 @@ fn kept(going_on: bool, bytes: &[u8]) -> &[u8]
 }
 
 fn stays_blank(blank: bool, bytes: &[u8]) -> bool
-    ensures { result ≡ blank && is_blank bytes.now }
+    ensures { result ≡ blank && is_blank_line bytes.now }
 {
     blank && is_blank(bytes)
 }
 
-impl<'t> Begun<'t> {
+impl<'t> OpenLine<'t> {
     // Joins a line of the file to it.
     fn join(&mut self, alloc: Global, line: &FileLine<'t>) -> Result<(), AllocError>
-        requires blank { self.old.blank ≡ is_blank self.old.text }
+        requires blank { self.old.blank ≡ is_blank_line self.old.text }
         requires plain { is_comment self.old.text ≡ false }
         ensures joined { OnOk result (Joins self.old line.now self.new) }
     {
@@ -196,7 +196,7 @@ impl<'t> Begun<'t> {
         ensures begun { (self.new.number ≡ next) × (self.new.blank ≡ true) × (self.new.going_on ≡ self.old.going_on) }
     {
         let number = self.number;
-        let text = mem::replace(&mut self.text, LineText::empty());
+        let text = mem::replace(&mut self.text, JoinedText::empty());
         self.number = next;
         self.blank = true;
         let line = JoinedLine::new(alloc, number, text, ended)?;
@@ -211,9 +211,9 @@ pub(crate) fn joined_lines(alloc: Global, text: &[u8]) -> Result<Vec<JoinedLine<
     let mut lines = Vec::new(alloc);
     let mut rest = text;
     let mut next = 1;
-    let mut begun = Begun {
+    let mut begun = OpenLine {
         number: 1,
-        text: LineText::empty(),
+        text: JoinedText::empty(),
         blank: true,
         going_on: false,
     };

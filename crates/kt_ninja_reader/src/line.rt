@@ -10,12 +10,12 @@ use std::mem;
 
 /// A slice of the file, or a text of its own where lines were joined.
 #[derive(Drop)]
-pub(crate) struct LineText<'t> {
+pub(crate) struct JoinedText<'t> {
     front: &'t [u8],
     joined: Option<Box<Vec<u8>>>,
 }
 
-impl<'t> Model for LineText<'t> {
+impl<'t> Model for JoinedText<'t> {
     ghost use Rattle.std.specs.Prelude.{ℕ, List, option_map, unwrap_or};
 
     ghost Value = { List ℕ };
@@ -23,11 +23,11 @@ impl<'t> Model for LineText<'t> {
     ghost view = { λ line. unwrap_or (option_map (λ b. b.value.items) line.joined) line.front.now };
 }
 
-impl<'t> LineText<'t> {
-    pub(crate) fn empty() -> LineText<'t>
+impl<'t> JoinedText<'t> {
+    pub(crate) fn empty() -> JoinedText<'t>
         ensures { result ≡ [] }
     {
-        LineText {
+        JoinedText {
             front: &[],
             joined: None,
         }
@@ -46,7 +46,7 @@ impl<'t> LineText<'t> {
     fn into_own(self, alloc: Global) -> Result<Vec<u8>, AllocError>
         ensures { IfOk result (λ text. text.items ≡ self.entry) }
     {
-        let LineText { front, joined } = self;
+        let JoinedText { front, joined } = self;
         match joined {
             Some(text) => Ok(Box::into_inner(text)),
             None => Vec::from_slice(alloc, front),
@@ -84,12 +84,12 @@ fn both(alloc: Global, first: &[u8], second: &[u8]) -> Result<Vec<u8>, AllocErro
 /// A line with those that are joined to it, without newlines.
 #[derive(Drop)]
 pub(crate) struct JoinedLine<'t> {
-    form: LineForm<'t>,
+    form: LineStorage<'t>,
 }
 
 // Most lines are one line of the file with its newline. The others are held apart, so that each takes less room.
 #[derive(Drop)]
-enum LineForm<'t> {
+enum LineStorage<'t> {
     Plain { number: u64, text: &'t [u8] },
     Other(Box<OtherLine>),
 }
@@ -102,10 +102,10 @@ struct OtherLine {
 }
 
 impl<'t> Model for JoinedLine<'t> {
-    ghost use Rattle.kt_ninja_reader.specs.JoinedLines.{JoinedLine as ReadLine};
+    ghost use Rattle.kt_ninja_reader.specs.JoinedLines.{JoinedLine};
     ghost use Rattle.kt_ninja_reader.specs.inner.Joining.{line_view};
 
-    ghost Value = { ReadLine };
+    ghost Value = { JoinedLine };
 
     ghost view = { λ s. line_view s.form };
 }
@@ -114,20 +114,20 @@ impl<'t> JoinedLine<'t> {
     pub(crate) fn new(
         alloc: Global,
         number: u64,
-        text: LineText<'t>,
+        text: JoinedText<'t>,
         ended: bool,
     ) -> Result<JoinedLine<'t>, AllocError>
         ensures { IfOk result (λ line. line ≡ record { number = number; text = text.entry; ended = ended }) }
     {
         let form = match text.of_file() {
-            Some(text) if ended => LineForm::Plain { number, text },
+            Some(text) if ended => LineStorage::Plain { number, text },
             _ => {
                 let line = OtherLine {
                     number,
                     text: text.into_own(alloc)?,
                     ended,
                 };
-                LineForm::Other(Box::new(alloc, line)?)
+                LineStorage::Other(Box::new(alloc, line)?)
             }
         };
         Ok(JoinedLine { form })
@@ -138,8 +138,8 @@ impl<'t> JoinedLine<'t> {
         ensures { result ≡ self.now.number }
     {
         match &self.form {
-            LineForm::Plain { number, .. } => *number,
-            LineForm::Other(line) => line.as_ref().number,
+            LineStorage::Plain { number, .. } => *number,
+            LineStorage::Other(line) => line.as_ref().number,
         }
     }
 
@@ -147,8 +147,8 @@ impl<'t> JoinedLine<'t> {
         ensures { result.now ≡ self.now.text }
     {
         match &self.form {
-            LineForm::Plain { text, .. } => text,
-            LineForm::Other(line) => line.as_ref().text.as_slice(),
+            LineStorage::Plain { text, .. } => text,
+            LineStorage::Other(line) => line.as_ref().text.as_slice(),
         }
     }
 
@@ -157,8 +157,8 @@ impl<'t> JoinedLine<'t> {
         ensures { result ≡ self.now.ended }
     {
         match &self.form {
-            LineForm::Plain { .. } => true,
-            LineForm::Other(line) => line.as_ref().ended,
+            LineStorage::Plain { .. } => true,
+            LineStorage::Other(line) => line.as_ref().ended,
         }
     }
 }

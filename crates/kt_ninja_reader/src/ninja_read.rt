@@ -6,8 +6,8 @@ ghost use Rattle.kt_ninja.specs.declared.plan.Plan.{Plan as PlanRead};
 ghost use Rattle.kt_ninja_reader.specs.declared.read_fault.ReadFault.TheVariants.{Memory as MemoryRefused};
 ghost use Rattle.kt_ninja_reader.specs.NinjaRead.{all_parts, begins_part, block_of, cut_lines, is_file_byte, is_sound};
 ghost use Rattle.kt_ninja_reader.specs.NinjaRead.{ninja_read, nothing_read, plan_said, read_part, read_parts};
-ghost use Rattle.kt_ninja_reader.specs.Reading.{Adds, Misreads, StopsBlock, build_line, default_line, fault_at, line_binding};
-ghost use Rattle.kt_ninja_reader.specs.Reading.{margin_line, part_before, part_of, read_text, rule_line};
+ghost use Rattle.kt_ninja_reader.specs.Reading.{AddsBindings, Misreads, StopsBlock, build_line, default_line, line_binding, part_fault};
+ghost use Rattle.kt_ninja_reader.specs.Reading.{file_part, margin_line, part_before, read_margin, rule_at_margin};
 ghost use Rattle.kt_ninja_reader.specs.inner.Parting.{CutsPart};
 ghost use Rattle.kt_ninja_reader.specs.inner.Refusals.{Reads, ReadsAs};
 ghost use Rattle.kt_ninja_reader.specs.Pieces.{pieces};
@@ -19,7 +19,7 @@ use crate::bytes::first_byte;
 use crate::forms::{Binding, binding_of, build_of, defaults_of, rule_name};
 use crate::joined::{is_blank, is_comment, joined_lines};
 use crate::line::JoinedLine;
-use crate::read_fault::{Fault, ReadFault};
+use crate::read_fault::{PartFault, ReadFault};
 use crate::spelling::Spelling;
 use crate::state::State;
 use kt_ninja::Plan;
@@ -67,17 +67,17 @@ fn no_bindings(block: &[Binding]) -> bool
 }
 
 // The text as a spelling.
-fn spelling(text: &[u8]) -> Result<Spelling<'_>, Fault>
+fn spelling(text: &[u8]) -> Result<Spelling<'_>, PartFault>
     ensures { Reads result (pieces text.now) }
 {
     match Spelling::of(text) {
         Some(spelling) => Ok(spelling),
-        None => Err(Fault::NoReading),
+        None => Err(PartFault::NoReading),
     }
 }
 
 // The binding that a line is.
-fn line_binding(alloc: Global, text: &[u8]) -> Result<Binding<'_>, Fault>
+fn line_binding(alloc: Global, text: &[u8]) -> Result<Binding<'_>, PartFault>
     ensures { ReadsAs binding_view result (line_binding text.now) }
 {
     let line = spelling(text)?;
@@ -90,8 +90,8 @@ fn add_line<'t>(
     closed: bool,
     bindings: &mut Vec<Binding<'t>>,
     line: &'t JoinedLine<'t>,
-) -> Result<bool, Fault>
-    ensures { MatchResult result (λ now. Adds closed (map binding_view bindings.old.items) line.now now
+) -> Result<bool, PartFault>
+    ensures { MatchResult result (λ now. AddsBindings closed (map binding_view bindings.old.items) line.now now
         (map binding_view bindings.new.items)) (StopsBlock closed line.now) }
 {
     let text = line.text();
@@ -102,14 +102,14 @@ fn add_line<'t>(
         return Ok(true);
     }
     if closed {
-        return Err(Fault::NoReading);
+        return Err(PartFault::NoReading);
     }
     bindings.push(line_binding(alloc, text)?)?;
     Ok(false)
 }
 
 // The bindings of a block.
-fn block<'t>(alloc: Global, body: &'t [JoinedLine<'t>]) -> Result<Vec<Binding<'t>>, Fault>
+fn block<'t>(alloc: Global, body: &'t [JoinedLine<'t>]) -> Result<Vec<Binding<'t>>, PartFault>
     ensures { ReadsAs (λ block. map binding_view block.items) result (block_of body.now) }
 {
     let mut bindings = Vec::new(alloc);
@@ -126,8 +126,8 @@ fn read_rule_line<'t>(
     state: State<'t>,
     block: &[Binding<'t>],
     text: &'t [u8],
-) -> Result<State<'t>, Fault>
-    ensures { Reads result (rule_line state.entry (map binding_view block.now) text.now) }
+) -> Result<State<'t>, PartFault>
+    ensures { Reads result (rule_at_margin state.entry (map binding_view block.now) text.now) }
 {
     let line = spelling(text)?;
     let name = rule_name(alloc, &line)?;
@@ -140,7 +140,7 @@ fn read_build_line<'t>(
     state: State<'t>,
     block: &[Binding<'t>],
     text: &'t [u8],
-) -> Result<State<'t>, Fault>
+) -> Result<State<'t>, PartFault>
     ensures { Reads result (build_line state.entry (map binding_view block.now) text.now) }
 {
     let line = spelling(text)?;
@@ -154,11 +154,11 @@ fn read_default_line<'t>(
     state: State<'t>,
     block: &[Binding<'t>],
     text: &'t [u8],
-) -> Result<State<'t>, Fault>
+) -> Result<State<'t>, PartFault>
     ensures { Reads result (default_line state.entry (map binding_view block.now) text.now) }
 {
     if !no_bindings(block) {
-        return Err(Fault::NoReading);
+        return Err(PartFault::NoReading);
     }
     let line = spelling(text)?;
     let paths = defaults_of(alloc, &line)?;
@@ -171,11 +171,11 @@ fn read_margin_line<'t>(
     state: State<'t>,
     block: &[Binding<'t>],
     text: &'t [u8],
-) -> Result<State<'t>, Fault>
+) -> Result<State<'t>, PartFault>
     ensures { Reads result (margin_line state.entry (map binding_view block.now) text.now) }
 {
     if !no_bindings(block) {
-        return Err(Fault::NoReading);
+        return Err(PartFault::NoReading);
     }
     let binding = line_binding(alloc, text)?;
     Ok(state.bind(&binding)?)
@@ -191,14 +191,14 @@ fn past<'t>(keyword: &[u8], text: &'t [u8]) -> Option<&'t [u8]>
 }
 
 // A line at the margin, with the block below it.
-#[tactic(auto, unfolding(crate::specs::Forms::form_of))]
+#[tactic(auto, unfolding(crate::specs::Forms::margin_form))]
 fn read_text<'t>(
     alloc: Global,
     state: State<'t>,
     block: &[Binding<'t>],
     text: &'t [u8],
-) -> Result<State<'t>, Fault>
-    ensures { Reads result (read_text state.entry (map binding_view block.now) text.now) }
+) -> Result<State<'t>, PartFault>
+    ensures { Reads result (read_margin state.entry (map binding_view block.now) text.now) }
 {
     if let Some(rest) = past(b"rule ", text) {
         return read_rule_line(alloc, state, block, rest);
@@ -214,17 +214,17 @@ fn read_text<'t>(
 
 // The lines before the first that begins a part.
 #[tactic(auto, unfolding(crate::specs::NinjaRead::read_part))]
-fn read_before<'t>(alloc: Global, body: &'t [JoinedLine<'t>]) -> Result<(), Fault>
+fn read_before<'t>(alloc: Global, body: &'t [JoinedLine<'t>]) -> Result<(), PartFault>
     ensures { ReadsAs (λ _. nothing_read) result (read_part nothing_read (part_before body.now)) }
 {
     if !all_sound(body) {
-        return Err(Fault::NoReading);
+        return Err(PartFault::NoReading);
     }
     let block = block(alloc, body)?;
     if no_bindings(block.as_slice()) {
         Ok(())
     } else {
-        Err(Fault::NoReading)
+        Err(PartFault::NoReading)
     }
 }
 
@@ -235,11 +235,11 @@ fn read_part<'t>(
     state: State<'t>,
     head: &'t JoinedLine<'t>,
     body: &'t [JoinedLine<'t>],
-) -> Result<State<'t>, Fault>
-    ensures { Reads result (read_part state.entry (part_of head.now body.now)) }
+) -> Result<State<'t>, PartFault>
+    ensures { Reads result (read_part state.entry (file_part head.now body.now)) }
 {
     if !is_sound(head) || !all_sound(body) {
-        return Err(Fault::NoReading);
+        return Err(PartFault::NoReading);
     }
     let block = block(alloc, body)?;
     read_text(alloc, state, block.as_slice(), head.text())
@@ -253,12 +253,12 @@ fn body_length(lines: &[JoinedLine]) -> usize
     lines.iter().take_while(|line| !begins_part(line)).count()
 }
 
-fn fault_at(number: u64, fault: Fault) -> ReadFault
-    ensures { result ≡ fault_at number fault }
+fn fault_at(number: u64, fault: PartFault) -> ReadFault
+    ensures { result ≡ part_fault number fault }
 {
     match fault {
-        Fault::NoReading => ReadFault::NotNinja(number),
-        Fault::Memory => ReadFault::Memory,
+        PartFault::NoReading => ReadFault::NotNinja(number),
+        PartFault::Memory => ReadFault::Memory,
     }
 }
 

@@ -5,22 +5,22 @@ ghost use Rattle.kt_ninja_reader.specs.Scopes.{value_in, value_within};
 ghost use Rattle.kt_ninja_reader.specs.inner.Holding.{path_in};
 ghost use Rattle.kt_ninja_reader.specs.inner.Refusals.{Reads};
 
-use crate::read_fault::Fault;
+use crate::read_fault::PartFault;
 use crate::scopes::{BlockScope, Scope, Scopes, expanded};
 use crate::spelling::Spelling;
 use kt_list::Sequence;
-use kt_ninja::Name;
+use kt_ninja::Path;
 use std::alloc::Global;
 
 // The value of a path, which isn't empty.
-fn path(alloc: Global, path: &Spelling, scopes: Scopes) -> Result<Name, Fault>
+fn path(alloc: Global, path: &Spelling, scopes: Scopes) -> Result<Path, PartFault>
     ensures { Reads result (path_in (value_within scopes.entry.block.now scopes.entry.file.now) path.now) }
 {
     let name = expanded(alloc, path, scopes)?;
     if name.is_empty() {
-        return Err(Fault::NoReading);
+        return Err(PartFault::NoReading);
     }
-    Ok(Name::from(name))
+    Ok(Path::from(name))
 }
 
 /// Paths, none of which is empty.
@@ -28,7 +28,7 @@ pub(crate) fn paths_within(
     alloc: Global,
     paths: &[Spelling],
     scopes: Scopes,
-) -> Result<Sequence<Name>, Fault>
+) -> Result<Sequence<Path>, PartFault>
     ensures { Reads result (paths_in (value_within scopes.entry.block.now scopes.entry.file.now) paths.now) }
 {
     let mut names = Vec::with_capacity(alloc, paths.len())?;
@@ -43,7 +43,7 @@ pub(crate) fn paths_of_file(
     alloc: Global,
     targets: &[Spelling],
     file: &Scope,
-) -> Result<Sequence<Name>, Fault>
+) -> Result<Sequence<Path>, PartFault>
     ensures { Reads result (paths_in (value_in file.now) targets.now) }
 {
     let none = BlockScope::new();

@@ -4,7 +4,7 @@
 //! Fast: a statement is given back as soon as the plan's is made of it. Spares the memory of all statements at the
 //! peak.
 ghost use Rattle.std.specs.Prelude.{◌≡◌, ◌∷◌, ◌++◌, [], true, map, IfOk, OnOk};
-ghost use Rattle.kt_ninja_reader.specs.NinjaRead.{statement_of, pending_with};
+ghost use Rattle.kt_ninja_reader.specs.NinjaRead.{statement_of_pending, pending_with};
 ghost use Rattle.kt_ninja_reader.specs.Scopes.{value_within};
 ghost use Rattle.kt_ninja_reader.specs.inner.Holding.{made_as, making_as, no_more};
 ghost use Rattle.kt_ninja_reader.specs.inner.Refusals.{Reads};
@@ -12,11 +12,11 @@ ghost use Rattle.kt_ninja_reader.specs.inner.Wording.{build_view};
 
 use crate::forms::Build;
 use crate::paths::paths_within;
-use crate::read_fault::Fault;
+use crate::read_fault::PartFault;
 use crate::scopes::{BlockScope, CommandScopes, Scope, Scopes, command_line};
 use crate::spelling::Spelling;
 use kt_list::Sequence;
-use kt_ninja::{Made, Name, Statement};
+use kt_ninja::{Made, Path, Statement};
 use std::alloc::{AllocError, Global};
 use std::boxed::Box;
 use std::marker::Model;
@@ -35,8 +35,8 @@ pub(crate) enum Making<'t> {
 #[derive(Drop)]
 struct More {
     block: BlockScope,
-    implicit: Sequence<Name>,
-    order_only: Sequence<Name>,
+    implicit: Sequence<Path>,
+    order_only: Sequence<Path>,
 }
 
 /// The same, which takes room only where there is any.
@@ -47,10 +47,10 @@ struct MoreIfAny {
 
 impl Model for MoreIfAny {
     ghost use Rattle.std.specs.Prelude.{option_map, unwrap_or};
-    ghost use Rattle.kt_ninja_reader.specs.declared.pending_statement.More.{More as HeldMore};
+    ghost use Rattle.kt_ninja_reader.specs.declared.pending_statement.More.{More};
     ghost use Rattle.kt_ninja_reader.specs.inner.Holding.{no_more};
 
-    ghost Value = { HeldMore };
+    ghost Value = { More };
 
     ghost view = { λ s. unwrap_or (option_map (λ b. b.value) s.held) no_more };
 }
@@ -58,16 +58,16 @@ impl Model for MoreIfAny {
 /// A statement, which looks up the variables of its command as the file leaves them.
 #[derive(Drop)]
 pub(crate) struct PendingStatement<'t> {
-    outs: Sequence<Name>,
+    outs: Sequence<Path>,
     making: Making<'t>,
-    inputs: Sequence<Name>,
+    inputs: Sequence<Path>,
     more: MoreIfAny,
 }
 
 impl<'t> Model for PendingStatement<'t> {
-    ghost use Rattle.kt_ninja_reader.specs.NinjaRead.{PendingStatement as ReadStatement};
+    ghost use Rattle.kt_ninja_reader.specs.NinjaRead.{PendingStatement};
 
-    ghost Value = { ReadStatement };
+    ghost Value = { PendingStatement };
 
     ghost use Rattle.kt_ninja_reader.specs.inner.Holding.{making_as};
 
@@ -88,9 +88,9 @@ pub(crate) struct PendingStatements<'t> {
 
 impl<'t> Model for PendingStatements<'t> {
     ghost use Rattle.std.specs.Prelude.{List, map};
-    ghost use Rattle.kt_ninja_reader.specs.NinjaRead.{PendingStatement as ReadStatement};
+    ghost use Rattle.kt_ninja_reader.specs.NinjaRead.{PendingStatement};
 
-    ghost Value = { List ReadStatement };
+    ghost Value = { List PendingStatement };
 
     ghost view = { λ s. map (λ b. b.value) s.items.items };
 }
@@ -106,7 +106,7 @@ impl More {
     }
 }
 
-fn are_none(names: &[Name]) -> bool
+fn are_none(names: &[Path]) -> bool
     ensures { result ≡ true → names.now ≡ [] }
 {
     matches!(names, [])
@@ -163,7 +163,7 @@ impl<'t> PendingStatement<'t> {
         making: Making<'t>,
         block: BlockScope,
         file: &Scope,
-    ) -> Result<PendingStatement<'t>, Fault>
+    ) -> Result<PendingStatement<'t>, PartFault>
         ensures { Reads result
             (pending_with (value_within block file.now) (making_as block making.entry) (build_view build.now)) }
     {
@@ -188,7 +188,7 @@ impl<'t> PendingStatement<'t> {
         })
     }
 
-    pub(crate) fn outs(&self) -> &[Name]
+    pub(crate) fn outs(&self) -> &[Path]
         ensures { result.now ≡ self.now.outs }
     {
         self.outs.as_slice()
@@ -196,7 +196,7 @@ impl<'t> PendingStatement<'t> {
 
     // The statement of the plan, by the variables that the file leaves.
     fn into_statement(self, alloc: Global, file: &Scope) -> Result<Statement, AllocError>
-        ensures { IfOk result (λ s. s ≡ statement_of file.now self.entry) }
+        ensures { IfOk result (λ s. s ≡ statement_of_pending file.now self.entry) }
     {
         let PendingStatement {
             outs,
@@ -235,7 +235,7 @@ fn statements(
     pending: Vec<Box<PendingStatement>>,
 ) -> Result<Vec<Statement>, AllocError>
     ensures { IfOk result (λ statements. statements.items
-        ≡ map (statement_of file.now) (map (λ b. b.value) pending.entry.items)) }
+        ≡ map (statement_of_pending file.now) (map (λ b. b.value) pending.entry.items)) }
 {
     let mut statements = Vec::with_capacity(alloc, pending.len())?;
     for statement in pending {
@@ -272,7 +272,7 @@ impl<'t> PendingStatements<'t> {
         alloc: Global,
         file: &Scope,
     ) -> Result<Vec<Statement>, AllocError>
-        ensures { IfOk result (λ statements. statements.items ≡ map (statement_of file.now) self.entry) }
+        ensures { IfOk result (λ statements. statements.items ≡ map (statement_of_pending file.now) self.entry) }
     {
         let PendingStatements { items } = self;
         statements(alloc, file, items)

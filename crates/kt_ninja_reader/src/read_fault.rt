@@ -1,6 +1,6 @@
 //! Why a text has no reading.
 ghost use Rattle.std.specs.Prelude.{◌≡◌};
-ghost use Rattle.kt_ninja_reader.specs.declared.read_fault.Fault.TheVariants.{Memory};
+ghost use Rattle.kt_ninja_reader.specs.declared.read_fault.PartFault.TheVariants.{Memory};
 
 use std::alloc::{AllocError, AllocFailed};
 use thiserror::Error;
@@ -19,23 +19,23 @@ pub enum ReadFault {
 
 // Why a part of the text has no value.
 #[derive(Clone, Copy, Debug, PartialEq, Eq)]
-pub(crate) enum Fault {
+pub(crate) enum PartFault {
     NoReading,
     Memory,
 }
 
-impl From<AllocError> for Fault {
+impl From<AllocError> for PartFault {
     ghost from_gives = { λ _ fault. fault ≡ Memory };
 
-    fn from(_refused: AllocError) -> Fault {
-        Fault::Memory
+    fn from(_refused: AllocError) -> PartFault {
+        PartFault::Memory
     }
 }
 
-impl<T: Drop> From<AllocFailed<T>> for Fault {
+impl<T: Drop> From<AllocFailed<T>> for PartFault {
     ghost from_gives = { λ _ fault. fault ≡ Memory };
 
-    fn from(_refused: AllocFailed<T>) -> Fault {
-        Fault::Memory
+    fn from(_refused: AllocFailed<T>) -> PartFault {
+        PartFault::Memory
     }
 }

@@ -3,13 +3,13 @@ ghost use Rattle.std.specs.Prelude.{◌≡◌, ◌∷◌, ◌++◌, [], true, If
 ghost use Rattle.std.specs.List.{list_all, flat_map};
 ghost use Rattle.std.specs.Option.{option_copied};
 ghost use Rattle.kt_ninja_reader.specs.inner.Cutting.{dollar_piece};
-ghost use Rattle.kt_ninja_reader.specs.Scopes.{byte_in_quotes, command_value, expanded, find_in, is_shell_safe, piece_text};
+ghost use Rattle.kt_ninja_reader.specs.Scopes.{bound_text, byte_in_quotes, command_value, find_in, is_shell_safe, piece_text};
 ghost use Rattle.kt_ninja_reader.specs.Scopes.{put_in, shell_word, shell_words, value_in, value_within};
 
 use crate::spelling::{Dollar, Spelling};
 use crate::table::Table;
 use kt_list::{Sequence, Text};
-use kt_ninja::Name;
+use kt_ninja::Path;
 use std::alloc::{AllocError, Global};
 use std::boxed::Box;
 use std::marker::Model;
@@ -126,7 +126,7 @@ pub(crate) fn expanded(
     scopes: Scopes,
 ) -> Result<Vec<u8>, AllocError>
     ensures { IfOk result (λ text. text.items
-        ≡ expanded (value_within scopes.entry.block.now scopes.entry.file.now) spelling.now) }
+        ≡ bound_text (value_within scopes.entry.block.now scopes.entry.file.now) spelling.now) }
 {
     let mut text = Vec::new(alloc);
     let mut rest = spelling.copy();
@@ -199,7 +199,7 @@ fn add_shell_word(text: &mut Vec<u8>, path: &[u8]) -> Result<(), AllocError>
 }
 
 // Adds paths as words of a shell, each after a byte.
-fn add_later_words(text: &mut Vec<u8>, between: u8, paths: &[Name]) -> Result<(), AllocError>
+fn add_later_words(text: &mut Vec<u8>, between: u8, paths: &[Path]) -> Result<(), AllocError>
     ensures { OnOk result (text.new.items ≡ text.old.items ++ flat_map (λ path. between ∷ shell_word path) paths.now) }
 {
     for path in paths {
@@ -210,7 +210,7 @@ fn add_later_words(text: &mut Vec<u8>, between: u8, paths: &[Name]) -> Result<()
 }
 
 // Adds paths as words of a shell, with a byte between them.
-fn add_shell_words(text: &mut Vec<u8>, between: u8, paths: &[Name]) -> Result<(), AllocError>
+fn add_shell_words(text: &mut Vec<u8>, between: u8, paths: &[Path]) -> Result<(), AllocError>
     ensures { OnOk result (text.new.items ≡ text.old.items ++ shell_words between paths.now) }
 {
     match paths.split_first() {
@@ -225,8 +225,8 @@ fn add_shell_words(text: &mut Vec<u8>, between: u8, paths: &[Name]) -> Result<()
 /// What the command of a rule may name.
 #[derive(Clone, Copy)]
 pub(crate) struct CommandScopes<'a> {
-    pub(crate) inputs: &'a [Name],
-    pub(crate) outs: &'a [Name],
+    pub(crate) inputs: &'a [Path],
+    pub(crate) outs: &'a [Path],
     pub(crate) scopes: Scopes<'a>,
 }
 
@@ -268,7 +268,7 @@ pub(crate) fn command_line(
     scopes: CommandScopes,
 ) -> Result<Vec<u8>, AllocError>
     ensures { IfOk result (λ text. text.items
-        ≡ expanded (command_value scopes.entry.inputs.now scopes.entry.outs.now scopes.entry.scopes.block.now
+        ≡ bound_text (command_value scopes.entry.inputs.now scopes.entry.outs.now scopes.entry.scopes.block.now
         scopes.entry.scopes.file.now) command.now) }
 {
     let mut text = Vec::new(alloc);

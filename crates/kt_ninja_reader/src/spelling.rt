@@ -4,14 +4,14 @@ ghost use Rattle.std.specs.Prelude.{◌≡◌, ◌≤◌, ◌<◌, ◌++◌, ◌
 ghost use Rattle.std.specs.Prelude.{MatchOption, None, OnOk, Some};
 ghost use Rattle.std.specs.List.{list_any, prefix_len};
 ghost use Rattle.memchr.specs.Find.{is_byte2};
-ghost use Rattle.kt_ninja_reader.specs.Forms.{begins_with_at, is_plain, name_bytes, without_lead};
+ghost use Rattle.kt_ninja_reader.specs.Forms.{begins_with_at, is_plain_byte, name_bytes, without_lead};
 ghost use Rattle.kt_ninja_reader.specs.Pieces.{Plain, after_dollar, in_braces, is_escapable, is_long_name_byte};
 ghost use Rattle.kt_ninja_reader.specs.Pieces.{is_short_name_byte, pieces, pieces_from};
 ghost use Rattle.kt_ninja_reader.specs.inner.Spelled.{is_spelled, pieces_in};
 ghost use Rattle.kt_ninja.specs.Writable.{is_empty};
 ghost use Rattle.kt_ninja_reader.specs.inner.Cutting.{AreSides, CutsOff, CutsShort, dollar_piece, dollar_pieces};
 ghost use Rattle.kt_ninja_reader.specs.Spellings.{name_goes_on};
-ghost use Rattle.kt_ninja_reader.specs.inner.Cutting.{is_mark, stops_at, variable_names};
+ghost use Rattle.kt_ninja_reader.specs.inner.Cutting.{is_own_byte, stops_at, variable_names};
 
 use crate::bytes::first_byte;
 use crate::joined::without_indent;
@@ -51,7 +51,7 @@ pub(crate) enum Dollar<'t> {
 
 // What a dollar begins, and what stands after it.
 #[derive(Drop)]
-struct Cut<'t> {
+struct DollarCut<'t> {
     dollar: Dollar<'t>,
     after: &'t [u8],
 }
@@ -101,7 +101,7 @@ fn short_name_length(text: &[u8]) -> usize
 }
 
 // A variable whose name stands in braces, of which the first is cut off.
-fn variable_in_braces(text: &[u8]) -> Option<Cut<'_>>
+fn variable_in_braces(text: &[u8]) -> Option<DollarCut<'_>>
     ensures { MatchOption result (pieces_from (in_braces []) text.now ≡ None) (CutsOff (in_braces []) text.now) }
 {
     let length = long_name_length(text);
@@ -113,14 +113,14 @@ fn variable_in_braces(text: &[u8]) -> Option<Cut<'_>>
     if byte != b'}' {
         return None;
     }
-    Some(Cut {
+    Some(DollarCut {
         dollar: Dollar::Variable(name),
         after,
     })
 }
 
 // A variable without braces.
-fn short_variable(text: &[u8]) -> Option<Cut<'_>>
+fn short_variable(text: &[u8]) -> Option<DollarCut<'_>>
     ensures { MatchOption result (name_goes_on text.now ≡ false) (CutsShort text.now) }
 {
     let length = short_name_length(text);
@@ -128,19 +128,19 @@ fn short_variable(text: &[u8]) -> Option<Cut<'_>>
         return None;
     }
     let (name, after) = text.split_at(length);
-    Some(Cut {
+    Some(DollarCut {
         dollar: Dollar::Variable(name),
         after,
     })
 }
 
 // What a dollar begins that stands before the text.
-fn escape(text: &[u8]) -> Option<Cut<'_>>
+fn escape(text: &[u8]) -> Option<DollarCut<'_>>
     ensures { MatchOption result (pieces_from after_dollar text.now ≡ None) (CutsOff after_dollar text.now) }
 {
     let (byte, after) = first_byte(text)?;
     if is_escapable(byte) {
-        return Some(Cut {
+        return Some(DollarCut {
             dollar: Dollar::Byte(byte),
             after,
         });
@@ -181,9 +181,9 @@ fn is_spelled(text: &[u8]) -> bool
 
 // What stands before the first such byte that no dollar escapes, and what stands after it.
 fn sides(mark: u8, text: &[u8]) -> Option<(&[u8], &[u8])>
-    requires mark { is_mark mark ≡ true }
+    requires mark { is_own_byte mark ≡ true }
     requires spelled { is_spelled text.now ≡ true }
-    ensures { MatchOption result (list_any (is_plain mark) (pieces_in text.now) ≡ false)
+    ensures { MatchOption result (list_any (is_plain_byte mark) (pieces_in text.now) ≡ false)
         (λ sides. AreSides mark text.now sides.0.now sides.1.now) }
 {
     let mut rest = text;
@@ -253,9 +253,9 @@ impl<'t> Spelling<'t> {
 
     /// What stands before the first such byte that no dollar escapes, and what stands after it.
     pub(crate) fn split(&self, mark: u8) -> Option<(Spelling<'t>, Spelling<'t>)>
-        requires { is_mark mark ≡ true }
-        ensures cut { MatchOption result (list_any (is_plain mark) self.now ≡ false)
-            (λ sides. (self.now ≡ sides.0 ++ Plain mark ∷ sides.1) × (list_any (is_plain mark) sides.0 ≡ false)) }
+        requires { is_own_byte mark ≡ true }
+        ensures cut { MatchOption result (list_any (is_plain_byte mark) self.now ≡ false)
+            (λ sides. (self.now ≡ sides.0 ++ Plain mark ∷ sides.1) × (list_any (is_plain_byte mark) sides.0 ≡ false)) }
     {
         let (front, after) = sides(mark, self.text)?;
         Some((Spelling { text: front }, Spelling { text: after }))
@@ -308,7 +308,7 @@ impl<'t> Spelling<'t> {
 }
 
 // What the dollar begins at which a run has stopped; none at the end.
-fn next(stop: &[u8]) -> Option<Cut<'_>>
+fn next(stop: &[u8]) -> Option<DollarCut<'_>>
     requires spelled { is_spelled stop.now ≡ true }
     requires stop { stops_at (is_byte2 36 36) stop.now }
     ensures { MatchOption result (stop.now ≡ []) (λ cut. (is_spelled cut.after.now ≡ true)

@@ -2,10 +2,10 @@
 ghost use Rattle.std.specs.Prelude.{◌≡◌, ◌++◌, [], true, codes, is_some, map, IfOk, MatchResult};
 ghost use Rattle.std.specs.List.{list_all, list_any};
 ghost use Rattle.std.specs.Str.{bytes_eq};
-ghost use Rattle.kt_ninja_reader.specs.NinjaRead.{add_defaults, add_statement, are_new, bind, block_scope, making_of};
-ghost use Rattle.kt_ninja_reader.specs.NinjaRead.{nothing_read, paths_in, plan_of, read_build, read_default, read_rule};
+ghost use Rattle.kt_ninja_reader.specs.NinjaRead.{add_defaults, add_statement, are_new, bind_variable, block_scope, making_of};
+ghost use Rattle.kt_ninja_reader.specs.NinjaRead.{nothing_read, paths_in, plan_of_state, read_build, read_default, read_rule};
 ghost use Rattle.kt_ninja_reader.specs.NinjaRead.{rule_command, pending_with};
-ghost use Rattle.kt_ninja_reader.specs.Scopes.{expanded, find_in, refers_to, value_in, value_within};
+ghost use Rattle.kt_ninja_reader.specs.Scopes.{bound_text, find_in, refers_to, value_in, value_within};
 ghost use Rattle.kt_ninja_reader.specs.inner.Holding.{FailsTest, block_with, making_as};
 ghost use Rattle.kt_ninja_reader.specs.inner.Wording.{binding_view, build_view};
 ghost use Rattle.kt_ninja_reader.specs.inner.Refusals.{Reads, ReadsAs};
@@ -14,12 +14,12 @@ ghost use Rattle.kt_list.specs.Names.{is_among};
 use crate::forms::{Binding, Build};
 use crate::paths::paths_of_file;
 use crate::pending_statement::{Making, PendingStatement, PendingStatements};
-use crate::read_fault::Fault;
+use crate::read_fault::PartFault;
 use crate::scopes::{BlockScope, Scope, Scopes, expanded};
 use crate::spelling::Spelling;
-use crate::table::{Rules, Table};
+use crate::table::{RuleCommands, Table};
 use kt_list::{Names, Sequence, Text};
-use kt_ninja::{Name, Plan};
+use kt_ninja::{Path, Plan};
 use std::alloc::{AllocError, Global};
 use std::boxed::Box;
 use std::marker::Model;
@@ -29,17 +29,17 @@ use std::marker::Model;
 pub(crate) struct State<'t> {
     alloc: Global,
     file: Scope,
-    rules: Rules<'t>,
+    rules: RuleCommands<'t>,
     pending: PendingStatements<'t>,
     outs: Names,
-    defaults: Vec<Name>,
+    defaults: Vec<Path>,
 }
 
 impl<'t> Model for State<'t> {
     ghost use Rattle.std.specs.Prelude.{◌≡◌};
-    ghost use Rattle.kt_ninja_reader.specs.NinjaRead.{State as ReadState, outs_of};
+    ghost use Rattle.kt_ninja_reader.specs.NinjaRead.{State, pending_outs};
 
-    ghost Value = { ReadState };
+    ghost Value = { State };
 
     ghost view = { λ s. record {
       file = s.file;
@@ -48,7 +48,7 @@ impl<'t> Model for State<'t> {
       defaults = s.defaults.items;
     } };
 
-    ghost invariant = { λ s. s.outs ≡ outs_of s.pending };
+    ghost invariant = { λ s. s.outs ≡ pending_outs s.pending };
 }
 
 fn is_command(name: &[u8]) -> bool
@@ -71,17 +71,17 @@ fn refers_to_command(alloc: Global, spelling: &Spelling) -> Result<bool, AllocEr
 }
 
 // The command of a rule's block: its one binding.
-fn rule_command<'t>(alloc: Global, block: &[Binding<'t>]) -> Result<Spelling<'t>, Fault>
+fn rule_command<'t>(alloc: Global, block: &[Binding<'t>]) -> Result<Spelling<'t>, PartFault>
     ensures { Reads result (rule_command (map binding_view block.now)) }
 {
     let [binding] = block else {
-        return Err(Fault::NoReading);
+        return Err(PartFault::NoReading);
     };
     if !is_command(binding.key) || binding.value.is_empty() {
-        return Err(Fault::NoReading);
+        return Err(PartFault::NoReading);
     }
     if refers_to_command(alloc, &binding.value)? {
-        return Err(Fault::NoReading);
+        return Err(PartFault::NoReading);
     }
     Ok(binding.value.copy())
 }
@@ -102,7 +102,7 @@ fn refers_to_key(alloc: Global, scope: &BlockScope, spelling: &Spelling) -> Resu
 // What it stands for by the variables of the file alone.
 #[tactic(auto, unfolding(crate::specs::Scopes::find_in))]
 fn value_of(alloc: Global, spelling: &Spelling, file: &Scope) -> Result<Vec<u8>, AllocError>
-    ensures { IfOk result (λ text. text.items ≡ expanded (value_in file.now) spelling.now) }
+    ensures { IfOk result (λ text. text.items ≡ bound_text (value_in file.now) spelling.now) }
 {
     let none = BlockScope::new();
     expanded(alloc, spelling, Scopes { block: &none, file })
@@ -114,11 +114,11 @@ fn add_to_block(
     file: &Scope,
     block: &mut BlockScope,
     binding: &Binding,
-) -> Result<(), Fault>
+) -> Result<(), PartFault>
     ensures { ReadsAs (λ _. block.new) result (block_with file.now block.old (binding_view binding.now)) }
 {
     if block.has(binding.key) || refers_to_key(alloc, block, &binding.value)? {
-        return Err(Fault::NoReading);
+        return Err(PartFault::NoReading);
     }
     let key = Text::copied(alloc, binding.key)?;
     let value = value_of(alloc, &binding.value, file)?;
@@ -127,7 +127,7 @@ fn add_to_block(
 }
 
 // The scope of a statement's block.
-fn block_scope(alloc: Global, file: &Scope, bindings: &[Binding]) -> Result<BlockScope, Fault>
+fn block_scope(alloc: Global, file: &Scope, bindings: &[Binding]) -> Result<BlockScope, PartFault>
     ensures { Reads result (block_scope file.now [] (map binding_view bindings.now)) }
 {
     let mut block = BlockScope::new();
@@ -138,21 +138,21 @@ fn block_scope(alloc: Global, file: &Scope, bindings: &[Binding]) -> Result<Bloc
 }
 
 // Adds outputs, each of which is new.
-fn add_outs(names: &mut Names, outs: &[Name]) -> Result<(), Fault>
+fn add_outs(names: &mut Names, outs: &[Path]) -> Result<(), PartFault>
     ensures { MatchResult result (λ _. (are_new names.old outs.now ≡ true)
         × (names.new ≡ names.old ++ outs.now)) (FailsTest (are_new names.old outs.now)) }
 {
     for out in outs {
         let name = out.as_slice();
         if names.contains(name) {
-            return Err(Fault::NoReading);
+            return Err(PartFault::NoReading);
         }
         names.add(name)?;
     }
     Ok(())
 }
 
-fn all_among(names: &Names, targets: &[Name]) -> bool
+fn all_among(names: &Names, targets: &[Path]) -> bool
     ensures { result ≡ list_all (is_among names.now) targets.now }
 {
     targets
@@ -174,7 +174,7 @@ impl<'t> State<'t> {
         State {
             alloc,
             file: Table::new(alloc),
-            rules: Rules::new(alloc),
+            rules: RuleCommands::new(alloc),
             pending: PendingStatements::new(alloc),
             outs: Names::new(alloc),
             defaults: Vec::new(alloc),
@@ -182,9 +182,9 @@ impl<'t> State<'t> {
     }
 
     /// A variable at the margin.
-    #[tactic(auto, unfolding(crate::specs::NinjaRead::bind))]
+    #[tactic(auto, unfolding(crate::specs::NinjaRead::bind_variable))]
     pub(crate) fn bind(mut self, binding: &Binding) -> Result<State<'t>, AllocError>
-        ensures { IfOk result (λ state. state ≡ bind self.entry (binding_view binding.now)) }
+        ensures { IfOk result (λ state. state ≡ bind_variable self.entry (binding_view binding.now)) }
     {
         let value = value_of(self.alloc, &binding.value, &self.file)?;
         let key = Text::copied(self.alloc, binding.key)?;
@@ -198,11 +198,11 @@ impl<'t> State<'t> {
         mut self,
         name: &'t [u8],
         block: &[Binding<'t>],
-    ) -> Result<State<'t>, Fault>
+    ) -> Result<State<'t>, PartFault>
         ensures { Reads result (read_rule self.entry name.now (map binding_view block.now)) }
     {
         if is_phony(name) || self.rules.has(name) {
-            return Err(Fault::NoReading);
+            return Err(PartFault::NoReading);
         }
         let command = rule_command(self.alloc, block)?;
         self.rules.put(name, command)?;
@@ -210,14 +210,14 @@ impl<'t> State<'t> {
     }
 
     #[tactic(auto, unfolding(crate::specs::NinjaRead::making_of))]
-    fn making(&self, rule: &'t [u8], block: &BlockScope) -> Result<Making<'t>, Fault>
+    fn making(&self, rule: &'t [u8], block: &BlockScope) -> Result<Making<'t>, PartFault>
         ensures { ReadsAs (λ making. making_as block.now making) result (making_of self.now rule.now block.now) }
     {
         if is_phony(rule) {
             return Ok(Making::ByNothing);
         }
         let Some(command) = self.rules.get(rule) else {
-            return Err(Fault::NoReading);
+            return Err(PartFault::NoReading);
         };
         match block.get(b"command".as_slice()) {
             Some(own) => {
@@ -229,7 +229,7 @@ impl<'t> State<'t> {
     }
 
     // The scope of a block.
-    fn block(&self, bindings: &[Binding]) -> Result<BlockScope, Fault>
+    fn block(&self, bindings: &[Binding]) -> Result<BlockScope, PartFault>
         ensures { Reads result (block_scope self.now.file [] (map binding_view bindings.now)) }
     {
         block_scope(self.alloc, &self.file, bindings)
@@ -241,7 +241,7 @@ impl<'t> State<'t> {
         build: &Build,
         making: Making<'t>,
         block: BlockScope,
-    ) -> Result<PendingStatement<'t>, Fault>
+    ) -> Result<PendingStatement<'t>, PartFault>
         ensures { Reads result
             (pending_with (value_within block self.now.file) (making_as block making.entry) (build_view build.now)) }
     {
@@ -250,7 +250,11 @@ impl<'t> State<'t> {
 
     /// A build line with its block.
     #[tactic(auto, unfolding(crate::specs::NinjaRead::read_build))]
-    pub(crate) fn read_build(self, build: &Build<'t>, block: &[Binding]) -> Result<State<'t>, Fault>
+    pub(crate) fn read_build(
+        self,
+        build: &Build<'t>,
+        block: &[Binding],
+    ) -> Result<State<'t>, PartFault>
         ensures { Reads result (read_build self.entry (build_view build.now) (map binding_view block.now)) }
     {
         let block = self.block(block)?;
@@ -260,7 +264,7 @@ impl<'t> State<'t> {
     }
 
     // One more statement, if its outputs are new.
-    fn with_statement(self, statement: PendingStatement<'t>) -> Result<State<'t>, Fault>
+    fn with_statement(self, statement: PendingStatement<'t>) -> Result<State<'t>, PartFault>
         ensures { Reads result (add_statement self.entry statement.entry) }
     {
         let State {
@@ -284,7 +288,7 @@ impl<'t> State<'t> {
     }
 
     // The names of default targets.
-    fn targets(&self, targets: &[Spelling]) -> Result<Sequence<Name>, Fault>
+    fn targets(&self, targets: &[Spelling]) -> Result<Sequence<Path>, PartFault>
         ensures { Reads result (paths_in (value_in self.now.file) targets.now) }
     {
         paths_of_file(self.alloc, targets, &self.file)
@@ -292,7 +296,7 @@ impl<'t> State<'t> {
 
     /// Default targets.
     #[tactic(auto, unfolding(crate::specs::NinjaRead::read_default))]
-    pub(crate) fn read_default(self, targets: &[Spelling]) -> Result<State<'t>, Fault>
+    pub(crate) fn read_default(self, targets: &[Spelling]) -> Result<State<'t>, PartFault>
         ensures { Reads result (read_default self.entry targets.now) }
     {
         let names = self.targets(targets)?;
@@ -300,11 +304,11 @@ impl<'t> State<'t> {
     }
 
     // More default targets, each an output of a statement above.
-    fn with_defaults(mut self, names: Sequence<Name>) -> Result<State<'t>, Fault>
+    fn with_defaults(mut self, names: Sequence<Path>) -> Result<State<'t>, PartFault>
         ensures { Reads result (add_defaults self.entry names) }
     {
         if !all_among(&self.outs, names.as_slice()) {
-            return Err(Fault::NoReading);
+            return Err(PartFault::NoReading);
         }
         let mut names = names.into_vec();
         self.defaults.append(&mut names)?;
@@ -312,9 +316,9 @@ impl<'t> State<'t> {
     }
 
     /// What was read, as a plan.
-    #[tactic(auto, unfolding(crate::specs::NinjaRead::plan_of))]
+    #[tactic(auto, unfolding(crate::specs::NinjaRead::plan_of_state))]
     pub(crate) fn into_plan(self) -> Result<Plan, AllocError>
-        ensures { IfOk result (λ plan. plan ≡ plan_of self.entry) }
+        ensures { IfOk result (λ plan. plan ≡ plan_of_state self.entry) }
     {
         let State {
             alloc,

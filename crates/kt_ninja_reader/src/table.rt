@@ -59,11 +59,11 @@ impl<V: Drop> Table<V> {
 
 // The commands of rules by their names, which stand in the file.
 #[derive(Drop)]
-pub(crate) struct Rules<'t> {
+pub(crate) struct RuleCommands<'t> {
     commands: IndexMap<Key<'t>, Spelling<'t>>,
 }
 
-impl<'t> Model for Rules<'t> {
+impl<'t> Model for RuleCommands<'t> {
     ghost use Rattle.std.specs.Prelude.{ℕ, List, map};
     ghost use Rattle.kt_ninja_reader.specs.Pieces.{Piece};
 
@@ -72,11 +72,11 @@ impl<'t> Model for Rules<'t> {
     ghost view = { λ r. map (λ e. (e.0.0.now, e.1)) r.commands.entries };
 }
 
-impl<'t> Rules<'t> {
-    pub(crate) fn new(alloc: Global) -> Rules<'t>
+impl<'t> RuleCommands<'t> {
+    pub(crate) fn new(alloc: Global) -> RuleCommands<'t>
         ensures { result ≡ [] }
     {
-        Rules {
+        RuleCommands {
             commands: IndexMap::new(alloc),
         }
     }

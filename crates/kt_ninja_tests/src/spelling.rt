@@ -1,7 +1,7 @@
 //! Random plans: what is printed of them, beside a plain printing, and what is read of other spellings of it.
 use crate::sameness::same;
 use crate::writing::written;
-use kt_ninja::{Made, Name, Plan, Statement};
+use kt_ninja::{Made, Path, Plan, Statement};
 use kt_ninja_doubles::plan_of;
 use kt_ninja_reader::read_plan;
 use kt_testing::{Random, put};
@@ -116,7 +116,7 @@ fn put_paths(
     random: &mut Random,
     spelling: Spelling,
     mark: &[u8],
-    names: &[Name],
+    names: &[Path],
 ) {
     if !names.is_empty() && !mark.is_empty() {
         put(text, random.piece(spelling.gaps));

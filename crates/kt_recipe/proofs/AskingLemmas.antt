@@ -1,10 +1,10 @@
 -- An automatic macro is found by its name.
 use Rattle.std.proofs.Common.{arith, ◌≡◌, ℕ, Bool, true, false, not, ◌&&◌, ◌==◌, if◌then◌else◌, List, [], ◌∷◌, ◌++◌, map, Option, Some, None, option_map, refl, sym, ap, ◌∙◌, true≢false, nat_eq, flat_map}
-use Rattle.kt_recipe.proofs.Common.{list_any, pointwise, eqb-true, Text, Store, look, Node, Form, Subject, text_of, marks, endings, names_in, of_mark, automatic_in}
+use Rattle.kt_recipe.proofs.Common.{list_any, pointwise, eqb-true, Text, Store, look, Node, NamePart, Subject, names_text_in, marks, endings, subject_names_in, of_mark, automatic_in}
 use Rattle.std.specs.Option.{option_and_then}
 use Rattle.kt_list.proofs.general.Booleans.{or_first, or_second}
-use Rattle.kt_recipe.specs.declared.forms.Form.TheVariants.{Whole, Directory, File}
-use Rattle.kt_recipe.specs.inner.Asking.{subject_in, subject_of, form_of, parted, asked_by, macro_in}
+use Rattle.kt_recipe.specs.declared.forms.NamePart.TheVariants.{Whole, Directory, File}
+use Rattle.kt_recipe.specs.inner.Asking.{subject_in, subject_of, letter_part, parted, subject_and_part, macro_in}
 
 -- ---- pairs after others
 
@@ -88,11 +88,11 @@ found_there node part (one ∷ known) mark rest is =
 
 -- ---- what comes after a mark
 
-abbrev told : Node → ℕ → Subject × Form → Text
-told node part asked = text_of asked.1 (names_in node part asked.0)
+abbrev told : Node → ℕ → Subject × NamePart → Text
+told node part asked = names_text_in asked.1 (subject_names_in node part asked.0)
 
 abbrev of_endings : Node → ℕ → Subject → Bool → Store
-of_endings node part subject parts = map (λ ending. (ending.0, text_of ending.1 (names_in node part subject))) (endings parts)
+of_endings node part subject parts = map (λ ending. (ending.0, names_text_in ending.1 (subject_names_in node part subject))) (endings parts)
 
 nothing_after : (node : Node) (part : ℕ) (subject : Subject) (parts : Bool) → look (of_endings node part subject parts) [] ≡ Some (told node part (subject, Whole))
 nothing_after node part subject parts = grind arith
@@ -104,7 +104,7 @@ by_letter node part subject d f = grind arith
 
 letter_after : (node : Node) (part : ℕ) (subject : Subject) (letter : ℕ) (parts : Bool)
     → look (of_endings node part subject parts) (letter ∷ [])
-    ≡ option_map (told node part) (if parts then option_map (λ form. (subject, form)) (form_of letter) else None)
+    ≡ option_map (told node part) (if parts then option_map (λ form. (subject, form)) (letter_part letter) else None)
 letter_after node part subject letter parts = grind (arith, by_letter)
 
 never : (d f : Bool) (one other : Option Text) → (if d && false then one else (if f && false then other else None)) ≡ None
@@ -130,7 +130,7 @@ with_more node part letter other more found = grind (arith, more_after)
 
 -- what is found among the automatic macros is that of the name
 pub found_by_name : (node : Node) (part : ℕ) (name : Text) → look (automatic_in node part) name ≡ macro_in node part name
-unfolding automatic_in macro_in asked_by subject_of
+unfolding automatic_in macro_in subject_and_part subject_of
 found_by_name node part [] = refl
 found_by_name node part (mark ∷ []) = grind (arith, found_there, alone)
 found_by_name node part (mark ∷ letter ∷ []) = grind (arith, found_there, with_letter)

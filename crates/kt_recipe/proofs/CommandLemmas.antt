@@ -1,45 +1,45 @@
 -- A command is the calls of its pieces: each step puts its own calls behind those before it.
 use Rattle.std.proofs.Common.{arith, ◌≡◌, ℕ, Bool, true, false, List, [], ◌∷◌, ◌++◌, length, map, Option, Some, None, if◌then◌else◌, refl, sym, ap, subst, ◌∙◌, codes, filter, flat_map}
 use Rattle.std.proofs.lemmas.Grind.{flat_map-append}
-use Rattle.kt_recipe.proofs.Common.{append-nil, append_assoc, All, range_with_len, Text, is_nonempty, RecipeLine, Store, Table, Node, after_run, is_marked, pieces_of, joined, wrapped, Setting, shell_text, expansion, put_piece, put_pieces, put_line, put_lines, put_part, put_parts, shell_of}
+use Rattle.kt_recipe.proofs.Common.{append-nil, append_assoc, All, range_with_len, Text, is_nonempty, RecipeLine, Store, Macros, Node, after_run, ignores_failure, pieces_of_line, joined, wrapped, Setting, shell_text, expansion, put_piece, put_pieces, put_line, put_lines, put_part, put_parts, shell_of}
 use Rattle.std.proofs.lemmas.List.Elements.{All-nil, All-cons, All-head, All-tail}
-use Rattle.kt_eval.specs.Outcome.{Outcome, Gave, StepOver, ◌>>=◌, then_do, done}
-use Rattle.kt_recipe.specs.Commands.{Line, line_with, lines_in, lines_of, CommandPiece, piece_with, Call, call_text, command_of, Expanded, AreExpanded, MadeLine, CallsItsPieces, shell_at, expanded_for, IsCommandOf, CommandLaw}
+use Rattle.kt_eval.specs.Outcome.{StepEnd, Gave, StepOver, ◌>>=◌, then_do, done}
+use Rattle.kt_recipe.specs.Commands.{NodeLine, line_with, lines_in, lines_of, CommandPiece, piece_with, Call, call_text, command_of, ExpandedText, AreExpanded, MadeLine, CallsItsPieces, shell_at, expanded_for, IsCommandOf, CommandLaw}
 
 -- ---- the steps as one list of lines
 
-unfoldable put_all : List Line → Option Text → StepOver (List Text) (Option Text)
+unfoldable put_all : List NodeLine → Option Text → StepOver (List Text) (Option Text)
 put_all [] command = done command
 put_all (line ∷ lines) command = do
   longer ← put_line line.at line.text command
   put_all lines longer
 
-then_same : {A B : Type 0} (o : Outcome (List Text) A) (next other : A → StepOver (List Text) B)
+then_same : {A B : Type 0} (o : StepEnd (List Text) A) (next other : A → StepOver (List Text) B)
     → ((x : A) (left : List Text) → next x left ≡ other x left) → then_do o next ≡ then_do o other
 then_same o next other same = grind arith
 
-then_joined : {A B C : Type 0} (o : Outcome (List Text) A) (next : A → StepOver (List Text) B) (last : B → StepOver (List Text) C)
+then_joined : {A B C : Type 0} (o : StepEnd (List Text) A) (next : A → StepOver (List Text) B) (last : B → StepOver (List Text) C)
     → then_do o (λ x left. then_do (next x left) last) ≡ then_do (then_do o next) last
 then_joined o next last = grind arith
 
-put_all_both : (xs ys : List Line) (command : Option Text) (said : List Text) → put_all (xs ++ ys) command said ≡ then_do (put_all xs command said) (put_all ys)
+put_all_both : (xs ys : List NodeLine) (command : Option Text) (said : List Text) → put_all (xs ++ ys) command said ≡ then_do (put_all xs command said) (put_all ys)
 unfolding put_all
 put_all_both [] ys command said = refl
 put_all_both (x ∷ xs) ys command said = grind (arith, then_same, then_joined, put_all_both xs ys)
 
-put_lines_are : (table : Table) (automatic : Store) (limit : ℕ) (lines : List RecipeLine) (command : Option Text) (said : List Text)
+put_lines_are : (table : Macros) (automatic : Store) (limit : ℕ) (lines : List RecipeLine) (command : Option Text) (said : List Text)
     → put_lines table automatic limit lines command said ≡ put_all (map (line_with table automatic limit) lines) command said
 unfolding put_lines put_all
 put_lines_are table automatic limit [] command said = refl
 put_lines_are table automatic limit (line ∷ lines) command said = grind (arith, then_same, put_lines_are table automatic limit lines)
 
-put_parts_are : (table : Table) (limit : ℕ) (node : Node) (parts : List ℕ) (command : Option Text) (said : List Text)
+put_parts_are : (table : Macros) (limit : ℕ) (node : Node) (parts : List ℕ) (command : Option Text) (said : List Text)
     → put_parts table limit node parts command said ≡ put_all (flat_map (lines_in table limit node) parts) command said
 unfolding put_parts put_part put_all
 put_parts_are table limit node [] command said = refl
 put_parts_are table limit node (part ∷ parts) command said = grind (arith, then_same, put_lines_are, put_all_both, put_parts_are table limit node parts)
 
-shell_is_all : (table : Table) (limit : ℕ) (node : Node) (said : List Text) → shell_of table limit node said ≡ put_all (lines_of table limit node) None said
+shell_is_all : (table : Macros) (limit : ℕ) (node : Node) (said : List Text) → shell_of table limit node said ≡ put_all (lines_of table limit node) None said
 unfolding shell_of
 shell_is_all table limit node said = put_parts_are table limit node (range_with_len 0 (length node.parts)) None said
 
@@ -55,13 +55,13 @@ after_call before call start is = ap (λ start. Some (joined start (call_text ca
 -- ---- a step that gave a command has made it of calls
 
 -- two steps that came to a value
-pub record GaveBoth {L A B : Type 0} (first : Outcome L A) (next : A → StepOver L B) (left : L) (value : B) : Type 0 where
+pub record GaveBoth {L A B : Type 0} (first : StepEnd L A) (next : A → StepOver L B) (left : L) (value : B) : Type 0 where
   pub middle : L
   pub given : A
   pub is : first ≡ Gave middle given
   pub rest : next given middle ≡ Gave left value
 
-pub gave_both : {L A B : Type 0} (first : Outcome L A) (next : A → StepOver L B) (left : L) (value : B) → then_do first next ≡ Gave left value
+pub gave_both : {L A B : Type 0} (first : StepEnd L A) (next : A → StepOver L B) (left : L) (value : B) → then_do first next ≡ Gave left value
     → GaveBoth first next left value
 gave_both first next left value e = grind arith
 
@@ -71,7 +71,7 @@ value_is x value left end e = cc e
 left_is : {L A : Type 0} (x value : A) (left end : L) → done x left ≡ Gave end value → end ≡ left
 left_is x value left end e = cc e
 
-both_expanded : (xs ys : List Expanded) (said left heard : List Text) → AreExpanded xs said left → AreExpanded ys left heard → AreExpanded (xs ++ ys) said heard
+both_expanded : (xs ys : List ExpandedText) (said left heard : List Text) → AreExpanded xs said left → AreExpanded ys left heard → AreExpanded (xs ++ ys) said heard
 both_expanded [] ys said left heard is rest = subst (λ said. AreExpanded ys said heard) is rest
 both_expanded (x ∷ xs) ys said left heard is rest = (is.0, is.1, both_expanded xs ys is.0 left heard is.2 rest)
 
@@ -113,14 +113,14 @@ pieces_called at marked (piece ∷ pieces) before start command said heard is e 
     (λ now is. pieces_called at marked pieces now both.given command both.middle heard is both.rest)
 
 -- the lines, behind the calls before them
-record Made (lines : List Line) (before : List Call) (said heard : List Text) (command : Option Text) : Type 0 where
+record Made (lines : List NodeLine) (before : List Call) (said heard : List Text) (command : Option Text) : Type 0 where
   made : List MadeLine
   whole : map (λ line. line.line) made ≡ lines
   pieces : All CallsItsPieces made
   expanded : AreExpanded (flat_map expanded_for made) said heard
   joined : command ≡ command_of (before ++ flat_map (λ line. line.calls) made)
 
-lines_made : (lines : List Line) (before : List Call) (start command : Option Text) (said heard : List Text)
+lines_made : (lines : List NodeLine) (before : List Call) (start command : Option Text) (said heard : List Text)
     → start ≡ command_of before → put_all lines start said ≡ Gave heard command → Made lines before said heard command
 unfolding put_all put_line
 lines_made [] before start command said heard is e = record {
@@ -132,8 +132,8 @@ lines_made [] before start command said heard is e = record {
 }
 lines_made (line ∷ lines) before start command said heard is e =
     let put = gave_both (put_line line.at line.text start said) (put_all lines) heard command e in
-    let both = gave_both (expansion line.at (after_run line.text) said) (λ text. put_pieces line.at (is_marked line.text) (pieces_of text) start) put.middle put.given put.is in
-    let called = pieces_called line.at (is_marked line.text) (pieces_of both.given) before start put.given both.middle put.middle is both.rest in
+    let both = gave_both (expansion line.at (after_run line.text) said) (λ text. put_pieces line.at (ignores_failure line.text) (pieces_of_line text) start) put.middle put.given put.is in
+    let called = pieces_called line.at (ignores_failure line.text) (pieces_of_line both.given) before start put.given both.middle put.middle is both.rest in
     let more = lines_made lines (before ++ called.calls) put.given command put.middle heard called.joined put.rest in
     record {
       made = record { line = line; text = both.given; calls = called.calls } ∷ more.made;
@@ -146,12 +146,12 @@ lines_made (line ∷ lines) before start command said heard is e =
 -- ---- what is made of calls is what the steps give
 
 -- texts in a row, and the messages between
-record Parted (xs ys : List Expanded) (said heard : List Text) : Type 0 where
+record Parted (xs ys : List ExpandedText) (said heard : List Text) : Type 0 where
   middle : List Text
   first : AreExpanded xs said middle
   rest : AreExpanded ys middle heard
 
-parted : (xs ys : List Expanded) (said heard : List Text) → AreExpanded (xs ++ ys) said heard → Parted xs ys said heard
+parted : (xs ys : List ExpandedText) (said heard : List Text) → AreExpanded (xs ++ ys) said heard → Parted xs ys said heard
 parted [] ys said heard h = record { middle = said; first = refl; rest = h }
 parted (x ∷ xs) ys said heard h =
     let more = parted xs ys h.0 heard h.2 in
@@ -190,9 +190,9 @@ lines_put [] before start said heard is pieces told = grind (arith, append-nil)
 lines_put (m ∷ made) before start said heard is pieces told =
     let more = parted (map (shell_at m.line.at) m.calls) (flat_map expanded_for made) told.0 heard told.2 in
     let put_rest = put_all (map (λ (line : MadeLine). line.line) made) in
-    ap (λ o. then_do (then_do o (λ text. put_pieces m.line.at (is_marked m.line.text) (pieces_of text) start)) put_rest) told.1
+    ap (λ o. then_do (then_do o (λ text. put_pieces m.line.at (ignores_failure m.line.text) (pieces_of_line text) start)) put_rest) told.1
     ∙ (ap (λ o. then_do o put_rest)
-    (pieces_put m.line.at (is_marked m.line.text) (pieces_of m.text) more.middle m.calls before start told.0 is (All-head CallsItsPieces m made pieces) more.first)
+    (pieces_put m.line.at (ignores_failure m.line.text) (pieces_of_line m.text) more.middle m.calls before start told.0 is (All-head CallsItsPieces m made pieces) more.first)
     ∙ (lines_put made (before ++ m.calls) (command_of (before ++ m.calls)) more.middle heard refl (All-tail CallsItsPieces m made pieces) more.rest
     ∙ ap (λ calls. Gave heard (command_of calls)) (append_assoc before m.calls (flat_map (λ line. line.calls) made))))
 

@@ -1,21 +1,21 @@
 -- Worked values, one by one: each is found by computing, but for the terms of a text, which are found by the quick way.
 use Rattle.std.proofs.Common.{arith, refl, ◌≡◌, ℕ, List, [], ◌∷◌, ◌++◌, Some, None, codes}
-use Rattle.kt_recipe.proofs.Common.{Text, is_separator, is_blank, words_of, Place, RecipeLine, Byte, Parentheses, literal, reference, terms_of, Store, Table, find, seen, innermost, lookup, Gave, Stopped, other_function, function_of, is_refused_function, arguments_from, arguments_of, asked_of, asked_by, naming_of, text_function, value_of, each_argument, each_word, apply_foreach, apply_eval, apply_error, apply_info, apply, body_of, value_named, referred, term_of, each_term, expanded, above, none_left, evaluator, Node, automatic_in, is_prefix, is_marked, pieces_of, wrapped, setting_of, shell_text, expansion, put_piece, put_pieces, put_line, put_lines, put_part, put_parts, shell_of}
+use Rattle.kt_recipe.proofs.Common.{Text, is_separator, is_blank, words_of, Place, RecipeLine, Byte, Parentheses, literal, reference, terms_of, Store, Macros, find, seen, innermost_value, lookup, Gave, Stopped, other_function, function_of, is_refused_function, arguments_from, arguments_of, asked_of, request_by_mark, naming_of, text_function, value_of, each_argument, each_word, apply_foreach, apply_eval, apply_error, apply_info, apply, body_of, value_named, referred, term_of, each_term, expanded, above, none_left, evaluator, Node, automatic_in, is_prefix, ignores_failure, pieces_of_line, wrapped, setting_of, shell_text, expansion, put_piece, put_pieces, put_line, put_lines, put_part, put_parts, shell_of}
 use Rattle.kt_eval.specs.Step.{fault_at}
 use Rattle.kt_eval.specs.expanding.TextFunctions.{text_result}
 use Rattle.kt_recipe.specs.Quoting.{quoted}
-use Rattle.kt_recipe.specs.Rows.{line, sample, rooted, simple, doubled, told, with_shell, comes_to}
+use Rattle.kt_recipe.specs.Rows.{line_of_recipe, sample, rooted, simple, node_of_two_rules, told, with_shell, command_from}
 use Rattle.kt_eval.specs.Rows.{at_m, deferred}
 use Rattle.kt_recipe.proofs.PlainLemmas.{listing}
 use Rattle.kt_recipe.proofs.TermLemmas.{terms_are, splitting, shell_terms}
 
 -- `unfolding expanding` opens what a text expands to, and `making` how a command is made
 unfoldable expanding : Unit {0}
-unfolding listing splitting is_separator is_blank words_of find seen innermost lookup text_function other_function function_of is_refused_function text_result arguments_from arguments_of asked_of asked_by naming_of value_of each_argument apply_foreach each_word apply_eval apply_error apply_info apply body_of value_named referred term_of each_term expanded above none_left evaluator expansion
+unfolding listing splitting is_separator is_blank words_of find seen innermost_value lookup text_function other_function function_of is_refused_function text_result arguments_from arguments_of asked_of request_by_mark naming_of value_of each_argument apply_foreach each_word apply_eval apply_error apply_info apply body_of value_named referred term_of each_term expanded above none_left evaluator expansion
 expanding = tt
 
 unfoldable making : Unit {0}
-unfolding is_blank is_prefix is_marked pieces_of quoted wrapped put_piece put_pieces put_line put_lines put_part put_parts shell_of
+unfolding is_blank is_prefix ignores_failure pieces_of_line quoted wrapped put_piece put_pieces put_line put_lines put_part put_parts shell_of
 making = tt
 
 -- ---- automatic macros
@@ -106,64 +106,64 @@ hidden_terms : terms_of (codes "$(foreach @,a b,$@) $@") ≡ reference Parenthes
 unfolding splitting
 hidden_terms = terms_are (codes "$(foreach @,a b,$@) $@")
 
-shell_told : (node : Node) (part : ℕ) (more : Table) (place : Place) (said : List Text)
+shell_told : (node : Node) (part : ℕ) (more : Macros) (place : Place) (said : List Text)
     → expansion (setting_of (with_shell more) (automatic_in node part) 9 place) shell_text said ≡ Gave said (codes "/bin/sh -c")
 unfolding expanding
 shell_told node part more place said = rw shell_terms (rw (terms_are (codes "/bin/sh")) (rw (terms_are (codes "-c")) refl))
 
-telling_shell : (node : Node) (part : ℕ) (more : Table) (place : Place) (said : List Text)
+telling_shell : (node : Node) (part : ℕ) (more : Macros) (place : Place) (said : List Text)
     → expansion (setting_of (deferred (codes "SHELL") (codes "$(info s)sh") ∷ deferred (codes ".SHELLFLAGS") (codes "-c") ∷ more) (automatic_in node part) 9 place) shell_text said
     ≡ Gave (said ++ codes "s" ∷ []) (codes "sh -c")
 unfolding expanding
 telling_shell node part more place said = grind (arith, shell_terms, telling_terms, terms_are, codes)
 
-refusing_shell : (lines : List RecipeLine) (more : Table) (place : Place) (said : List Text)
+refusing_shell : (lines : List RecipeLine) (more : Macros) (place : Place) (said : List Text)
     → expansion (setting_of (deferred (codes "SHELL") (codes "$(error $@)") ∷ more) (automatic_in (simple lines) 0) 9 place) shell_text said
     ≡ Stopped said (fault_at (Some place) 19 (codes "t"))
 unfolding expanding
 refusing_shell lines more place said = rw shell_terms (rw refusing_terms (rw target_terms refl))
 
-quotes_told : (table : Table) (automatic : Store) (place : Place) (said : List Text)
+quotes_told : (table : Macros) (automatic : Store) (place : Place) (said : List Text)
     → expansion (setting_of table automatic 9 place) (codes "echo \"it's $$HOME\"") said ≡ Gave said (codes "echo \"it's $HOME\"")
 unfolding expanding
 quotes_told table automatic place said = rw (terms_are (codes "echo \"it's $$HOME\"")) refl
 
-a_told : (table : Table) (automatic : Store) (place : Place) (said : List Text)
+a_told : (table : Macros) (automatic : Store) (place : Place) (said : List Text)
     → expansion (setting_of table automatic 9 place) (codes "a") said ≡ Gave said (codes "a")
 unfolding expanding
 a_told table automatic place said = rw (terms_are (codes "a")) refl
 
-blank_told : (table : Table) (automatic : Store) (place : Place) (said : List Text)
+blank_told : (table : Macros) (automatic : Store) (place : Place) (said : List Text)
     → expansion (setting_of table automatic 9 place) (codes "a ") said ≡ Gave said (codes "a ")
 unfolding expanding
 blank_told table automatic place said = rw (terms_are (codes "a ")) refl
 
-nothing_told : (table : Table) (automatic : Store) (place : Place) (said : List Text)
+nothing_told : (table : Macros) (automatic : Store) (place : Place) (said : List Text)
     → expansion (setting_of table automatic 9 place) [] said ≡ Gave said []
 unfolding expanding
 nothing_told table automatic place said = rw (terms_are []) refl
 
-info_told : (table : Table) (automatic : Store) (place : Place) (said : List Text)
+info_told : (table : Macros) (automatic : Store) (place : Place) (said : List Text)
     → expansion (setting_of table automatic 9 place) (codes "a$(info hi)") said ≡ Gave (said ++ (codes "hi" ∷ [])) (codes "a")
 unfolding expanding
 info_told table automatic place said = rw (terms_are (codes "a$(info hi)")) (rw (terms_are (codes "hi")) refl)
 
-first_told : (table : Table) (automatic : Store) (place : Place) (said : List Text)
+first_told : (table : Macros) (automatic : Store) (place : Place) (said : List Text)
     → expansion (setting_of table automatic 9 place) (codes "$(info 1)a") said ≡ Gave (said ++ (codes "1" ∷ [])) (codes "a")
 unfolding expanding
 first_told table automatic place said = rw (terms_are (codes "$(info 1)a")) (rw (terms_are (codes "1")) refl)
 
-second_told : (table : Table) (automatic : Store) (place : Place) (said : List Text)
+second_told : (table : Macros) (automatic : Store) (place : Place) (said : List Text)
     → expansion (setting_of table automatic 9 place) (codes "$(info 2)b") said ≡ Gave (said ++ (codes "2" ∷ [])) (codes "b")
 unfolding expanding
 second_told table automatic place said = rw (terms_are (codes "$(info 2)b")) (rw (terms_are (codes "2")) refl)
 
-eval_told : (table : Table) (automatic : Store) (place : Place) (said : List Text)
+eval_told : (table : Macros) (automatic : Store) (place : Place) (said : List Text)
     → expansion (setting_of table automatic 9 place) (codes "$(eval A = 1)") said ≡ Stopped said (fault_at (Some place) 32 (codes "eval in a recipe"))
 unfolding expanding
 eval_told table automatic place said = rw (terms_are (codes "$(eval A = 1)")) refl
 
-unclosed_told : (table : Table) (automatic : Store) (place : Place) (said : List Text)
+unclosed_told : (table : Macros) (automatic : Store) (place : Place) (said : List Text)
     → expansion (setting_of table automatic 9 place) (codes "$(x") said ≡ Stopped said (fault_at (Some place) 7 (codes "unterminated reference"))
 unfolding expanding
 unclosed_told table automatic place said = rw (terms_are (codes "$(x")) refl
@@ -173,85 +173,85 @@ undefined_told : (node : Node) (part : ℕ) (place : Place) (said : List Text)
 unfolding expanding
 undefined_told node part place said = rw (terms_are (codes "$(X)")) refl
 
-canned_told : (node : Node) (part : ℕ) (more : Table) (place : Place) (said : List Text)
+canned_told : (node : Node) (part : ℕ) (more : Macros) (place : Place) (said : List Text)
     → expansion (setting_of (with_shell (deferred (codes "go") (codes "@echo one\n-false") ∷ more)) (automatic_in node part) 9 place) (codes "$(go)") said ≡ Gave said (codes "@echo one\n-false")
 unfolding expanding
 canned_told node part more place said = rw (terms_are (codes "$(go)")) (rw (terms_are (codes "@echo one\n-false")) refl)
 
-lines_told : (node : Node) (part : ℕ) (more : Table) (place : Place) (said : List Text)
+lines_told : (node : Node) (part : ℕ) (more : Macros) (place : Place) (said : List Text)
     → expansion (setting_of (with_shell (deferred (codes "X") (codes "a\n @- \nb") ∷ more)) (automatic_in node part) 9 place) (codes "$(X)") said ≡ Gave said (codes "a\n @- \nb")
 unfolding expanding
 lines_told node part more place said = rw (terms_are (codes "$(X)")) (rw (terms_are (codes "a\n @- \nb")) refl)
 
-one_told : (table : Table) (place : Place) (said : List Text)
-    → expansion (setting_of table (automatic_in doubled 0) 9 place) (codes "one $<") said ≡ Gave said (codes "one b")
+one_told : (table : Macros) (place : Place) (said : List Text)
+    → expansion (setting_of table (automatic_in node_of_two_rules 0) 9 place) (codes "one $<") said ≡ Gave said (codes "one b")
 unfolding expanding
 one_told table place said = rw (terms_are (codes "one $<")) refl
 
-two_told : (table : Table) (place : Place) (said : List Text)
-    → expansion (setting_of table (automatic_in doubled 1) 9 place) (codes "two $<") said ≡ Gave said (codes "two c")
+two_told : (table : Macros) (place : Place) (said : List Text)
+    → expansion (setting_of table (automatic_in node_of_two_rules 1) 9 place) (codes "two $<") said ≡ Gave said (codes "two c")
 unfolding expanding
 two_told table place said = rw (terms_are (codes "two $<")) refl
 
-hidden_told : (lines : List RecipeLine) (table : Table) (place : Place) (said : List Text)
+hidden_told : (lines : List RecipeLine) (table : Macros) (place : Place) (said : List Text)
     → expansion (setting_of table (automatic_in (simple lines) 0) 9 place) (codes "$(foreach @,a b,$@) $@") said ≡ Gave said (codes "a b t")
 unfolding expanding
 hidden_told lines table place said = grind (arith, hidden_terms, terms_are, codes, target_terms)
 
 -- ---- commands
 
-pub quotes : comes_to (with_shell []) (simple (line 1 (codes "echo \"it's $$HOME\"") ∷ [])) ≡ Gave [] (Some (codes "/bin/sh -c 'echo \"it'\\''s $HOME\"'"))
+pub quotes : command_from (with_shell []) (simple (line_of_recipe 1 (codes "echo \"it's $$HOME\"") ∷ [])) ≡ Gave [] (Some (codes "/bin/sh -c 'echo \"it'\\''s $HOME\"'"))
 unfolding making
 quotes = rw quotes_told (rw shell_told refl)
 
-pub canned : comes_to (with_shell (deferred (codes "go") (codes "@echo one\n-false") ∷ [])) (simple (line 1 (codes "$(go)") ∷ [])) ≡ Gave [] (Some (codes "/bin/sh -c 'echo one' && { /bin/sh -c 'false' || :; }"))
+pub canned : command_from (with_shell (deferred (codes "go") (codes "@echo one\n-false") ∷ [])) (simple (line_of_recipe 1 (codes "$(go)") ∷ [])) ≡ Gave [] (Some (codes "/bin/sh -c 'echo one' && { /bin/sh -c 'false' || :; }"))
 unfolding making
 canned = rw canned_told (rw shell_told (rw shell_told refl))
 
-pub marked : comes_to (with_shell []) (simple (line 1 (codes "@-a") ∷ [])) ≡ Gave [] (Some (codes "{ /bin/sh -c 'a' || :; }"))
+pub marked : command_from (with_shell []) (simple (line_of_recipe 1 (codes "@-a") ∷ [])) ≡ Gave [] (Some (codes "{ /bin/sh -c 'a' || :; }"))
 unfolding making
 marked = rw a_told (rw shell_told refl)
 
-pub marked_line : comes_to (with_shell (deferred (codes "X") (codes "a\n @- \nb") ∷ [])) (simple (line 1 (codes "-$(X)") ∷ [])) ≡ Gave [] (Some (codes "{ /bin/sh -c 'a' || :; } && { /bin/sh -c 'b' || :; }"))
+pub marked_line : command_from (with_shell (deferred (codes "X") (codes "a\n @- \nb") ∷ [])) (simple (line_of_recipe 1 (codes "-$(X)") ∷ [])) ≡ Gave [] (Some (codes "{ /bin/sh -c 'a' || :; } && { /bin/sh -c 'b' || :; }"))
 unfolding making
 marked_line = rw lines_told (rw shell_told (rw shell_told refl))
 
-pub three_pieces : comes_to (with_shell (deferred (codes "go") (codes "@echo one\n-false") ∷ [])) (simple (line 1 (codes "-a") ∷ line 2 (codes "$(go)") ∷ [])) ≡ Gave [] (Some (codes "{ /bin/sh -c 'a' || :; } && /bin/sh -c 'echo one' && { /bin/sh -c 'false' || :; }"))
+pub three_pieces : command_from (with_shell (deferred (codes "go") (codes "@echo one\n-false") ∷ [])) (simple (line_of_recipe 1 (codes "-a") ∷ line_of_recipe 2 (codes "$(go)") ∷ [])) ≡ Gave [] (Some (codes "{ /bin/sh -c 'a' || :; } && /bin/sh -c 'echo one' && { /bin/sh -c 'false' || :; }"))
 unfolding making
 three_pieces = rw a_told (rw shell_told (rw canned_told (rw shell_told (rw shell_told refl))))
 
-pub trailing_blank : comes_to (with_shell []) (simple (line 1 (codes "a ") ∷ line 2 (codes " @ ") ∷ [])) ≡ Gave [] (Some (codes "/bin/sh -c 'a '"))
+pub trailing_blank : command_from (with_shell []) (simple (line_of_recipe 1 (codes "a ") ∷ line_of_recipe 2 (codes " @ ") ∷ [])) ≡ Gave [] (Some (codes "/bin/sh -c 'a '"))
 unfolding making
 trailing_blank = rw blank_told (rw shell_told (rw nothing_told refl))
 
-pub no_piece : comes_to (with_shell []) (simple (line 1 (codes "$(X)") ∷ [])) ≡ Gave [] None
+pub no_piece : command_from (with_shell []) (simple (line_of_recipe 1 (codes "$(X)") ∷ [])) ≡ Gave [] None
 unfolding making
 no_piece = rw undefined_told refl
 
-pub double_colon : comes_to (with_shell []) (doubled) ≡ Gave [] (Some (codes "/bin/sh -c 'one b' && /bin/sh -c 'two c'"))
+pub double_colon : command_from (with_shell []) (node_of_two_rules) ≡ Gave [] (Some (codes "/bin/sh -c 'one b' && /bin/sh -c 'two c'"))
 unfolding making
 double_colon = rw one_told (rw shell_told (rw two_told (rw shell_told refl)))
 
-pub message : comes_to (with_shell []) (simple (line 1 (codes "a$(info hi)") ∷ [])) ≡ Gave (codes "hi" ∷ []) (Some (codes "/bin/sh -c 'a'"))
+pub message : command_from (with_shell []) (simple (line_of_recipe 1 (codes "a$(info hi)") ∷ [])) ≡ Gave (codes "hi" ∷ []) (Some (codes "/bin/sh -c 'a'"))
 unfolding making
 message = rw info_told (rw shell_told refl)
 
-pub shell_anew : comes_to (deferred (codes "SHELL") (codes "$(info s)sh") ∷ deferred (codes ".SHELLFLAGS") (codes "-c") ∷ []) (simple (line 1 (codes "$(info 1)a") ∷ line 2 (codes "$(info 2)b") ∷ [])) ≡ Gave (codes "1" ∷ codes "s" ∷ codes "2" ∷ codes "s" ∷ []) (Some (codes "sh -c 'a' && sh -c 'b'"))
+pub shell_anew : command_from (deferred (codes "SHELL") (codes "$(info s)sh") ∷ deferred (codes ".SHELLFLAGS") (codes "-c") ∷ []) (simple (line_of_recipe 1 (codes "$(info 1)a") ∷ line_of_recipe 2 (codes "$(info 2)b") ∷ [])) ≡ Gave (codes "1" ∷ codes "s" ∷ codes "2" ∷ codes "s" ∷ []) (Some (codes "sh -c 'a' && sh -c 'b'"))
 unfolding making
 shell_anew = rw first_told (rw telling_shell (rw second_told (rw telling_shell refl)))
 
-pub fault_in_shell : comes_to (deferred (codes "SHELL") (codes "$(error $@)") ∷ []) (simple (line 3 (codes "a") ∷ [])) ≡ Stopped [] (fault_at (at_m 3) 19 (codes "t"))
+pub fault_in_shell : command_from (deferred (codes "SHELL") (codes "$(error $@)") ∷ []) (simple (line_of_recipe 3 (codes "a") ∷ [])) ≡ Stopped [] (fault_at (at_m 3) 19 (codes "t"))
 unfolding making
 fault_in_shell = rw a_told (rw refusing_shell refl)
 
-pub eval_refused : comes_to (with_shell []) (simple (line 1 (codes "$(eval A = 1)") ∷ [])) ≡ Stopped [] (fault_at (at_m 1) 32 (codes "eval in a recipe"))
+pub eval_refused : command_from (with_shell []) (simple (line_of_recipe 1 (codes "$(eval A = 1)") ∷ [])) ≡ Stopped [] (fault_at (at_m 1) 32 (codes "eval in a recipe"))
 unfolding making
 eval_refused = rw eval_told refl
 
-pub first_fault : comes_to (with_shell []) (simple (line 2 (codes "$(info 1)a") ∷ line 3 (codes "$(x") ∷ [])) ≡ Stopped (codes "1" ∷ []) (fault_at (at_m 3) 7 (codes "unterminated reference"))
+pub first_fault : command_from (with_shell []) (simple (line_of_recipe 2 (codes "$(info 1)a") ∷ line_of_recipe 3 (codes "$(x") ∷ [])) ≡ Stopped (codes "1" ∷ []) (fault_at (at_m 3) 7 (codes "unterminated reference"))
 unfolding making
 first_fault = rw first_told (rw shell_told (rw unclosed_told refl))
 
-pub hidden_table : comes_to (with_shell (deferred (codes "@") (codes "table") ∷ [])) (simple (line 1 (codes "$(foreach @,a b,$@) $@") ∷ [])) ≡ Gave [] (Some (codes "/bin/sh -c 'a b t'"))
+pub hidden_table : command_from (with_shell (deferred (codes "@") (codes "table") ∷ [])) (simple (line_of_recipe 1 (codes "$(foreach @,a b,$@) $@") ∷ [])) ≡ Gave [] (Some (codes "/bin/sh -c 'a b t'"))
 unfolding making
 hidden_table = rw hidden_told (rw shell_told refl)

@@ -16,9 +16,9 @@ abbrev pub after_run : Text → Text
 after_run text = drop (prefix_len is_prefix text) text
 
 -- whether a failure of the command is ignored: there is a `-` in its run ["Errors in Recipes"]
-unfoldable pub is_marked : Text → Bool
-is_marked text = list_any (λ byte. byte == 45) (run_of text)
+unfoldable pub ignores_failure : Text → Bool
+ignores_failure text = list_any (λ byte. byte == 45) (run_of text)
 
 -- the pieces of an expanded line, cut at its newlines ["Defining Canned Recipes"]
-unfoldable pub pieces_of : Text → List Text
-pieces_of text = slice_split (λ byte. byte == 10) text
+unfoldable pub pieces_of_line : Text → List Text
+pieces_of_line text = slice_split (λ byte. byte == 10) text

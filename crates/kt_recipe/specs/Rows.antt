@@ -1,13 +1,13 @@
 -- Worked values of automatic macros and of commands, as facts that compute.
 use Rattle.std.specs.Prelude.{◌≡◌, ℕ, List, [], ◌∷◌, Option, Some, None, codes}
-use Rattle.kt_recipe.specs.Prelude.{Text, RecipeLine, look, Outcome, Gave, Stopped, fault_at, Table, Node, Part}
+use Rattle.kt_recipe.specs.Prelude.{Text, RecipeLine, look, StepEnd, Gave, Stopped, fault_at, Macros, Node, Part}
 use Rattle.kt_eval.specs.Rows.{at_m, deferred}
 use Rattle.kt_graph.specs.declared.nodes.node.NodeKind.TheVariants.{DoubleColon, Explicit}
 use Rattle.kt_recipe.specs.Automatic.{automatic_in}
 use Rattle.kt_recipe.specs.Shell.{shell_of}
 
-abbrev pub line : ℕ → Text → RecipeLine
-line number text = record { text = text; place = record { file = codes "m"; line = number } }
+abbrev pub line_of_recipe : ℕ → Text → RecipeLine
+line_of_recipe number text = record { text = text; place = record { file = codes "m"; line = number } }
 
 abbrev pub part : List RecipeLine → Text → List Text → List Text → Part
 part lines stem prerequisites order_only =
@@ -36,11 +36,12 @@ abbrev pub simple : List RecipeLine → Node
 simple lines = record { name = codes "t"; kind = Explicit; parts = part lines [] [] [] ∷ []; made_with = None }
 
 -- a target of two rules with two colons
-abbrev pub doubled : Node
-doubled = record {
+abbrev pub node_of_two_rules : Node
+node_of_two_rules = record {
   name = codes "a";
   kind = DoubleColon;
-  parts = part (line 1 (codes "one $<") ∷ []) [] (codes "b" ∷ []) [] ∷ part (line 2 (codes "two $<") ∷ []) []
+  parts = part (line_of_recipe 1 (codes "one $<") ∷ []) [] (codes "b" ∷ []) []
+      ∷ part (line_of_recipe 2 (codes "two $<") ∷ []) []
       (codes "c" ∷ []) [] ∷ [];
   made_with = None;
 }
@@ -50,12 +51,12 @@ abbrev pub told : Node → Text → Option Text
 told node name = look (automatic_in node 0) name
 
 -- the macros that a makefile begins with, before others
-abbrev pub with_shell : Table → Table
+abbrev pub with_shell : Macros → Macros
 with_shell more = deferred (codes "SHELL") (codes "/bin/sh") ∷ deferred (codes ".SHELLFLAGS") (codes "-c") ∷ more
 
 -- the command of a node, with 9 levels and no message before it
-abbrev pub comes_to : Table → Node → Outcome (List Text) (Option Text)
-comes_to table node = shell_of table 9 node []
+abbrev pub command_from : Macros → Node → StepEnd (List Text) (Option Text)
+command_from table node = shell_of table 9 node []
 
 -- automatic macros
 pub record RowsOfMacros : Type 0 where
@@ -79,35 +80,38 @@ pub record RowsOfMacros : Type 0 where
 
 -- commands
 pub record RowsOfCommands : Type 0 where
-  pub quotes : comes_to (with_shell []) (simple (line 1 (codes "echo \"it's $$HOME\"") ∷ []))
+  pub quotes : command_from (with_shell []) (simple (line_of_recipe 1 (codes "echo \"it's $$HOME\"") ∷ []))
       ≡ Gave [] (Some (codes "/bin/sh -c 'echo \"it'\\''s $HOME\"'"))
-  pub canned : comes_to (with_shell (deferred (codes "go") (codes "@echo one\n-false") ∷ []))
-      (simple (line 1 (codes "$(go)") ∷ []))
+  pub canned : command_from (with_shell (deferred (codes "go") (codes "@echo one\n-false") ∷ []))
+      (simple (line_of_recipe 1 (codes "$(go)") ∷ []))
       ≡ Gave [] (Some (codes "/bin/sh -c 'echo one' && { /bin/sh -c 'false' || :; }"))
-  pub marked : comes_to (with_shell []) (simple (line 1 (codes "@-a") ∷ []))
+  pub marked : command_from (with_shell []) (simple (line_of_recipe 1 (codes "@-a") ∷ []))
       ≡ Gave [] (Some (codes "{ /bin/sh -c 'a' || :; }"))
-  pub marked_line : comes_to (with_shell (deferred (codes "X") (codes "a\n @- \nb") ∷ []))
-      (simple (line 1 (codes "-$(X)") ∷ []))
+  pub marked_line : command_from (with_shell (deferred (codes "X") (codes "a\n @- \nb") ∷ []))
+      (simple (line_of_recipe 1 (codes "-$(X)") ∷ []))
       ≡ Gave [] (Some (codes "{ /bin/sh -c 'a' || :; } && { /bin/sh -c 'b' || :; }"))
-  pub three_pieces : comes_to (with_shell (deferred (codes "go") (codes "@echo one\n-false") ∷ []))
-      (simple (line 1 (codes "-a") ∷ line 2 (codes "$(go)") ∷ []))
+  pub three_pieces : command_from (with_shell (deferred (codes "go") (codes "@echo one\n-false") ∷ []))
+      (simple (line_of_recipe 1 (codes "-a") ∷ line_of_recipe 2 (codes "$(go)") ∷ []))
       ≡ Gave [] (Some (codes "{ /bin/sh -c 'a' || :; } && /bin/sh -c 'echo one' && { /bin/sh -c 'false' || :; }"))
-  pub trailing_blank : comes_to (with_shell []) (simple (line 1 (codes "a ") ∷ line 2 (codes " @ ") ∷ []))
+  pub trailing_blank : command_from (with_shell []) (simple (line_of_recipe 1 (codes "a ")
+      ∷ line_of_recipe 2 (codes " @ ") ∷ []))
       ≡ Gave [] (Some (codes "/bin/sh -c 'a '"))
-  pub no_piece : comes_to (with_shell []) (simple (line 1 (codes "$(X)") ∷ [])) ≡ Gave [] None
-  pub double_colon : comes_to (with_shell []) doubled
+  pub no_piece : command_from (with_shell []) (simple (line_of_recipe 1 (codes "$(X)") ∷ [])) ≡ Gave [] None
+  pub double_colon : command_from (with_shell []) node_of_two_rules
       ≡ Gave [] (Some (codes "/bin/sh -c 'one b' && /bin/sh -c 'two c'"))
-  pub message : comes_to (with_shell []) (simple (line 1 (codes "a$(info hi)") ∷ []))
+  pub message : command_from (with_shell []) (simple (line_of_recipe 1 (codes "a$(info hi)") ∷ []))
       ≡ Gave (codes "hi" ∷ []) (Some (codes "/bin/sh -c 'a'"))
   pub shell_anew :
-      comes_to (deferred (codes "SHELL") (codes "$(info s)sh") ∷ deferred (codes ".SHELLFLAGS") (codes "-c") ∷ [])
-      (simple (line 1 (codes "$(info 1)a") ∷ line 2 (codes "$(info 2)b") ∷ []))
+      command_from (deferred (codes "SHELL") (codes "$(info s)sh") ∷ deferred (codes ".SHELLFLAGS") (codes "-c") ∷ [])
+      (simple (line_of_recipe 1 (codes "$(info 1)a") ∷ line_of_recipe 2 (codes "$(info 2)b") ∷ []))
       ≡ Gave (codes "1" ∷ codes "s" ∷ codes "2" ∷ codes "s" ∷ []) (Some (codes "sh -c 'a' && sh -c 'b'"))
-  pub fault_in_shell : comes_to (deferred (codes "SHELL") (codes "$(error $@)") ∷ []) (simple (line 3 (codes "a") ∷ []))
+  pub fault_in_shell : command_from (deferred (codes "SHELL") (codes "$(error $@)") ∷ [])
+      (simple (line_of_recipe 3 (codes "a") ∷ []))
       ≡ Stopped [] (fault_at (at_m 3) 19 (codes "t"))
-  pub eval_refused : comes_to (with_shell []) (simple (line 1 (codes "$(eval A = 1)") ∷ []))
+  pub eval_refused : command_from (with_shell []) (simple (line_of_recipe 1 (codes "$(eval A = 1)") ∷ []))
       ≡ Stopped [] (fault_at (at_m 1) 32 (codes "eval in a recipe"))
-  pub first_fault : comes_to (with_shell []) (simple (line 2 (codes "$(info 1)a") ∷ line 3 (codes "$(x") ∷ []))
+  pub first_fault : command_from (with_shell []) (simple (line_of_recipe 2 (codes "$(info 1)a")
+      ∷ line_of_recipe 3 (codes "$(x") ∷ []))
       ≡ Stopped (codes "1" ∷ []) (fault_at (at_m 3) 7 (codes "unterminated reference"))
-  pub hidden_table : comes_to (with_shell (deferred (codes "@") (codes "table") ∷ []))
-      (simple (line 1 (codes "$(foreach @,a b,$@) $@") ∷ [])) ≡ Gave [] (Some (codes "/bin/sh -c 'a b t'"))
+  pub hidden_table : command_from (with_shell (deferred (codes "@") (codes "table") ∷ []))
+      (simple (line_of_recipe 1 (codes "$(foreach @,a b,$@) $@") ∷ [])) ≡ Gave [] (Some (codes "/bin/sh -c 'a b t'"))

@@ -3,11 +3,11 @@
 -- own).
 use Rattle.std.specs.Prelude.{ℕ, Bool, true, false, ◌||◌, List, [], ◌∷◌, ◌++◌, length, Option, Some, None, unwrap_or}
 use Rattle.std.specs.Prelude.{slice_get, codes, if◌then◌else◌}
-use Rattle.kt_recipe.specs.Prelude.{range_with_len, RecipeLine, Place, Store, Table, Node, part_lines, automatic_in}
+use Rattle.kt_recipe.specs.Prelude.{range_with_len, RecipeLine, Place, Store, Macros, Node, part_lines, automatic_in}
 use Rattle.kt_text.specs.Words.{Text, is_nonempty}
 use Rattle.kt_eval.specs.Outcome.{StepOver, ◌>>=◌, done}
 use Rattle.kt_eval.specs.expanding.Pure.{expanded_pure}
-use Rattle.kt_recipe.specs.Lines.{after_run, is_marked, pieces_of}
+use Rattle.kt_recipe.specs.Lines.{after_run, ignores_failure, pieces_of_line}
 use Rattle.kt_recipe.specs.Quoting.{quoted}
 
 -- ---- a command and its pieces
@@ -32,7 +32,7 @@ joined (Some command) call = command ++ (codes " && " ++ call)
 
 -- what a line of a recipe is expanded with: the macros, the automatic ones, its place, and a limit of levels
 pub record Setting : Type 0 where
-  pub table : Table
+  pub table : Macros
   pub automatic : Store
   pub place : Option Place
   pub limit : ℕ
@@ -50,7 +50,7 @@ put_piece at marked piece command =
     if is_nonempty (after_run piece)
     then (do
       shell ← expansion at shell_text
-      done (Some (joined command (wrapped (marked || is_marked piece) shell (after_run piece)))))
+      done (Some (joined command (wrapped (marked || ignores_failure piece) shell (after_run piece)))))
     else done command
 
 unfoldable pub put_pieces : Setting → Bool → List Text → Option Text → StepOver (List Text) (Option Text)
@@ -63,34 +63,34 @@ put_pieces at marked (piece ∷ pieces) command = do
 unfoldable pub put_line : Setting → Text → Option Text → StepOver (List Text) (Option Text)
 put_line at line command = do
   text ← expansion at (after_run line)
-  put_pieces at (is_marked line) (pieces_of text) command
+  put_pieces at (ignores_failure line) (pieces_of_line text) command
 
-abbrev pub setting_of : Table → Store → ℕ → Place → Setting
+abbrev pub setting_of : Macros → Store → ℕ → Place → Setting
 setting_of table automatic limit place =
     record { table = table; automatic = automatic; place = Some place; limit = limit }
 
-unfoldable pub put_lines : Table → Store → ℕ → List RecipeLine → Option Text → StepOver (List Text) (Option Text)
+unfoldable pub put_lines : Macros → Store → ℕ → List RecipeLine → Option Text → StepOver (List Text) (Option Text)
 put_lines table automatic limit [] command = done command
 put_lines table automatic limit (line ∷ lines) command = do
   longer ← put_line (setting_of table automatic limit line.place) line.text command
   put_lines table automatic limit lines longer
 
 -- a part of a node, with the automatic macros of that part
-unfoldable pub put_part : Table → ℕ → Node → ℕ → Option Text → StepOver (List Text) (Option Text)
+unfoldable pub put_part : Macros → ℕ → Node → ℕ → Option Text → StepOver (List Text) (Option Text)
 put_part table limit node part command =
     put_lines table (automatic_in node part) limit (unwrap_or (part_lines (slice_get node.parts part)) []) command
 
-unfoldable pub put_parts : Table → ℕ → Node → List ℕ → Option Text → StepOver (List Text) (Option Text)
+unfoldable pub put_parts : Macros → ℕ → Node → List ℕ → Option Text → StepOver (List Text) (Option Text)
 put_parts table limit node [] command = done command
 put_parts table limit node (part ∷ parts) command = do
   longer ← put_part table limit node part command
   put_parts table limit node parts longer
 
 -- the command of a node, if it has a piece: its parts in order
-unfoldable pub shell_of : Table → ℕ → Node → StepOver (List Text) (Option Text)
+unfoldable pub shell_of : Macros → ℕ → Node → StepOver (List Text) (Option Text)
 shell_of table limit node = put_parts table limit node (range_with_len 0 (length node.parts)) None
 
 -- the macros and the limit of levels that commands are made with
-pub record CommandsOf : Type 0 where
-  pub table : Table
+pub record Commands : Type 0 where
+  pub table : Macros
   pub limit : ℕ

@@ -8,10 +8,10 @@ ghost use Rattle.kt_text.specs.Words.{is_nonempty};
 ghost use Rattle.kt_rules.specs.Names.{is_among, with_name, without_repeats};
 ghost use Rattle.kt_graph.specs.nodes.Views.{part_needed, part_order_only, part_stem};
 ghost use Rattle.kt_recipe.specs.inner.Asking.{macro_in};
-ghost use Rattle.kt_recipe.specs.Automatic.{names_in};
-ghost use Rattle.kt_recipe.specs.Forms.{text_of};
+ghost use Rattle.kt_recipe.specs.Automatic.{subject_names_in};
+ghost use Rattle.kt_recipe.specs.Forms.{names_text_in};
 
-use crate::forms::{Form, alone, text};
+use crate::forms::{NamePart, alone, text};
 use crate::subjects::{Subject, asked_by};
 use indexmap::IndexSet;
 use kt_eval::Automatic;
@@ -34,9 +34,9 @@ pub struct PartMacros<'n, 'g> {
 }
 
 impl<'n, 'g> Model for PartMacros<'n, 'g> {
-    ghost use Rattle.kt_recipe.specs.Automatic.{MacrosOf};
+    ghost use Rattle.kt_recipe.specs.Automatic.{PartMacros};
 
-    ghost Value = { MacrosOf };
+    ghost Value = { PartMacros };
 
     ghost view = { λ macros. record { node = macros.node.now; part = macros.part } };
 }
@@ -80,9 +80,9 @@ fn told<'g>(
     node: &Node<'g>,
     part: usize,
     subject: Subject,
-    form: Form,
+    form: NamePart,
 ) -> Result<CowSlice<'g, u8>, AllocError>
-    ensures { IfOk result (λ told. cow_slice_items told ≡ text_of form (names_in node.now part subject)) }
+    ensures { IfOk result (λ told. cow_slice_items told ≡ names_text_in form (subject_names_in node.now part subject)) }
 {
     match only_name(node, part, subject) {
         Some(name) => Ok(CowSlice::Borrowed(alone(form, name))),
@@ -99,19 +99,20 @@ pub(crate) fn put_told(
     node: &Node<'_>,
     part: usize,
     subject: Subject,
-    form: Form,
+    form: NamePart,
     out: &mut Vec<u8>,
 ) -> Result<(), AllocError>
-    ensures { OnOk result (out.new.items ≡ out.old.items ++ text_of form (names_in node.now part subject)) }
+    ensures { OnOk result (out.new.items ≡ out.old.items ++ names_text_in form
+        (subject_names_in node.now part subject)) }
 {
     let told = told(alloc, node, part, subject, form)?;
     out.extend_from_slice(told.as_slice())
 }
 
 // The name of a subject that has only one name, which is then borrowed.
-#[tactic(auto, unfolding(crate::specs::Automatic::names_of))]
+#[tactic(auto, unfolding(crate::specs::Automatic::subject_names))]
 fn only_name<'g>(node: &Node<'g>, part: usize, subject: Subject) -> Option<&'g [u8]>
-    ensures { IfSome result (λ name. names_in node.now part subject ≡ name.now ∷ []) }
+    ensures { IfSome result (λ name. subject_names_in node.now part subject ≡ name.now ∷ []) }
 {
     match subject {
         Subject::Target => Some(node.name()),
@@ -121,14 +122,14 @@ fn only_name<'g>(node: &Node<'g>, part: usize, subject: Subject) -> Option<&'g [
 }
 
 // The names of a subject in a part of a node.
-#[tactic(auto, unfolding(crate::specs::Automatic::names_of))]
+#[tactic(auto, unfolding(crate::specs::Automatic::subject_names))]
 fn names_in<'g>(
     alloc: Global,
     node: &Node<'g>,
     part: usize,
     subject: Subject,
 ) -> Result<Vec<&'g [u8]>, AllocError>
-    ensures { IfOk result (λ names. map (λ name. name.now) names.items ≡ names_in node.now part subject) }
+    ensures { IfOk result (λ names. map (λ name. name.now) names.items ≡ subject_names_in node.now part subject) }
 {
     match subject {
         Subject::Target => one(alloc, node.name()),

@@ -22,10 +22,10 @@ pub(crate) struct Expander<'m> {
 
 impl<'m> Model for Expander<'m> {
     ghost use Rattle.std.specs.Prelude.{◌≡◌, option_map};
-    ghost use Rattle.kt_recipe.specs.Shell.{CommandsOf};
+    ghost use Rattle.kt_recipe.specs.Shell.{Commands};
     ghost use Rattle.kt_recipe.specs.inner.Plain.{plain_shell};
 
-    ghost Value = { CommandsOf };
+    ghost Value = { Commands };
 
     ghost view = { λ expander. record { table = expander.macros.now; limit = expander.limit } };
 
@@ -91,9 +91,9 @@ pub struct Commands<'m> {
 
 impl<'m> Model for Commands<'m> {
     ghost use Rattle.std.specs.Prelude.{◌≡◌};
-    ghost use Rattle.kt_recipe.specs.Shell.{CommandsOf};
+    ghost use Rattle.kt_recipe.specs.Shell.{Commands};
 
-    ghost Value = { CommandsOf };
+    ghost Value = { Commands };
 
     ghost view = { λ commands. commands.expander };
 

@@ -3,14 +3,14 @@ ghost use Rattle.std.specs.Prelude.{◌≡◌, ◌≤◌, ◌∷◌, [], IfOk, O
 ghost use Rattle.std.specs.List.{join_with_byte};
 ghost use Rattle.kt_text.specs.Functions.{name_part, name_place};
 ghost use Rattle.kt_text.specs.Words.{list_text, put_word};
-ghost use Rattle.kt_recipe.specs.Forms.{directory_of, text_of};
+ghost use Rattle.kt_recipe.specs.Forms.{directory_of, names_text_in};
 
 use memchr::memrchr;
 use std::alloc::{AllocError, Global};
 
 /// Which part of each name an automatic macro lists (GNU make manual, "Automatic Variables").
 #[derive(Clone, Copy)]
-pub(crate) enum Form {
+pub(crate) enum NamePart {
     Whole,
     /// With a `D` after the mark: the part before the last slash.
     Directory,
@@ -19,26 +19,26 @@ pub(crate) enum Form {
 }
 
 /// The names in this form, joined by spaces.
-#[tactic(auto, unfolding(crate::specs::Forms::text_of))]
-pub(crate) fn text(alloc: Global, form: Form, names: &[&[u8]]) -> Result<Vec<u8>, AllocError>
-    ensures { IfOk result (λ text. text.items ≡ text_of form (map (λ name. name.now) names.now)) }
+#[tactic(auto, unfolding(crate::specs::Forms::names_text_in))]
+pub(crate) fn text(alloc: Global, form: NamePart, names: &[&[u8]]) -> Result<Vec<u8>, AllocError>
+    ensures { IfOk result (λ text. text.items ≡ names_text_in form (map (λ name. name.now) names.now)) }
 {
     match form {
-        Form::Whole => whole(alloc, names),
-        Form::Directory => directories(alloc, names),
-        Form::File => files(alloc, names),
+        NamePart::Whole => whole(alloc, names),
+        NamePart::Directory => directories(alloc, names),
+        NamePart::File => files(alloc, names),
     }
 }
 
 /// One name in this form, borrowed.
-#[tactic(auto, using(crate::proofs::FormLemmas::list_of_one), unfolding(crate::specs::Forms::text_of))]
-pub(crate) fn alone(form: Form, name: &[u8]) -> &[u8]
-    ensures { result.now ≡ text_of form (name.now ∷ []) }
+#[tactic(auto, using(crate::proofs::FormLemmas::list_of_one), unfolding(crate::specs::Forms::names_text_in))]
+pub(crate) fn alone(form: NamePart, name: &[u8]) -> &[u8]
+    ensures { result.now ≡ names_text_in form (name.now ∷ []) }
 {
     match form {
-        Form::Whole => name,
-        Form::Directory => directory(name),
-        Form::File => file(name),
+        NamePart::Whole => name,
+        NamePart::Directory => directory(name),
+        NamePart::File => file(name),
     }
 }
 

@@ -4,7 +4,7 @@
 ghost use Rattle.std.specs.Prelude.{◌≡◌, IfOk, IfSome, MatchOption, false, true};
 ghost use Rattle.kt_recipe.specs.inner.Prepared.{IsFilled, IsRightLine, filled};
 
-use crate::prepared::Pieces;
+use crate::prepared::PreparedText;
 use kt_eval::Macros;
 use kt_graph::Node;
 use std::alloc::{AllocError, Global};
@@ -17,14 +17,14 @@ const MOST: usize = 64;
 #[derive(Drop)]
 pub(crate) struct KeptLine {
     text: Vec<u8>,
-    pieces: Option<Pieces>,
+    pieces: Option<PreparedText>,
 }
 
 impl KeptLine {
     fn of(alloc: Global, macros: &Macros, limit: u64, text: &[u8]) -> Result<KeptLine, AllocError>
         ensures { IfOk result (λ line. IsRightLine macros.now limit line × (line.text.items ≡ text.now)) }
     {
-        let pieces = Pieces::of(alloc, macros, limit, text)?;
+        let pieces = PreparedText::of(alloc, macros, limit, text)?;
         Ok(KeptLine {
             text: Vec::from_slice(alloc, text)?,
             pieces,
@@ -58,11 +58,11 @@ pub(crate) struct KeptLines<'m> {
 }
 
 impl<'m> Model for KeptLines<'m> {
-    ghost use Rattle.kt_recipe.specs.Shell.{CommandsOf};
+    ghost use Rattle.kt_recipe.specs.Shell.{Commands};
     ghost use Rattle.kt_recipe.specs.inner.Prepared.{IsRightLine};
     ghost use Rattle.std.specs.List.{All};
 
-    ghost Value = { CommandsOf };
+    ghost Value = { Commands };
 
     ghost view = { λ kept. record { table = kept.macros.now; limit = kept.limit } };
 

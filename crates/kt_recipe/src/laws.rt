@@ -3,10 +3,10 @@ ghost use Rattle.std.specs.Prelude.{◌≡◌, Some};
 ghost use Rattle.std.specs.List.{join_with_byte};
 ghost use Rattle.kt_text.specs.Words.{Text};
 ghost use Rattle.kt_eval.specs.Growing.{StaysOneDeeper};
-ghost use Rattle.kt_eval.specs.macros.Macros.{Table};
+ghost use Rattle.kt_eval.specs.macros.Macros.{Macros};
 ghost use Rattle.kt_graph.specs.nodes.Node.{Node};
 ghost use Rattle.kt_recipe.specs.Commands.{CommandLaw};
-ghost use Rattle.kt_recipe.specs.Lines.{pieces_of};
+ghost use Rattle.kt_recipe.specs.Lines.{pieces_of_line};
 ghost use Rattle.kt_recipe.specs.Quoting.{quoted, word_of_quotes};
 ghost use Rattle.kt_recipe.specs.Rows.{RowsOfCommands, RowsOfMacros};
 ghost use Rattle.kt_recipe.specs.Shell.{shell_of};
@@ -18,7 +18,7 @@ pub fn quotes_are_read_back()
 
 /// The pieces of a line, joined by newlines, are the line.
 pub fn pieces_are_the_line()
-    ensures { (text : Text) → join_with_byte 10 (pieces_of text) ≡ text }
+    ensures { (text : Text) → join_with_byte 10 (pieces_of_line text) ≡ text }
 {}
 
 /// The command of a node is exactly the calls of its pieces, in order and joined by ` && `: each nonempty piece of its
@@ -29,7 +29,7 @@ pub fn commands_are_calls()
 
 /// A command that isn't too deep (E08) with a given number of levels is the same with one more.
 pub fn one_deeper()
-    ensures { (table : Table) (node : Node) → StaysOneDeeper (λ limit. shell_of table limit node) }
+    ensures { (table : Macros) (node : Node) → StaysOneDeeper (λ limit. shell_of table limit node) }
 {}
 
 /// Worked values of automatic macros.

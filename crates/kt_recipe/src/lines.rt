@@ -1,7 +1,7 @@
 //! The lines of a recipe and their pieces.
 ghost use Rattle.std.specs.Prelude.{◌≡◌, ◌≤◌, ◌==◌, IfOk, length, map, not};
 ghost use Rattle.std.specs.List.{list_any, prefix_len};
-ghost use Rattle.kt_recipe.specs.Lines.{after_run, is_marked, is_prefix, pieces_of, run_of};
+ghost use Rattle.kt_recipe.specs.Lines.{after_run, ignores_failure, is_prefix, pieces_of_line, run_of};
 
 use std::alloc::{AllocError, Global};
 
@@ -14,9 +14,9 @@ pub(crate) fn after_run(text: &[u8]) -> &[u8]
 }
 
 /// Whether a failure is ignored: there is a `-` among them (GNU make manual, "Errors in Recipes").
-#[tactic(auto, unfolding(crate::specs::Lines::is_marked))]
+#[tactic(auto, unfolding(crate::specs::Lines::ignores_failure))]
 pub(crate) fn is_marked(text: &[u8]) -> bool
-    ensures { result ≡ is_marked text.now }
+    ensures { result ≡ ignores_failure text.now }
 {
     run_of(text).iter().any(|byte| *byte == b'-')
 }
@@ -55,9 +55,9 @@ fn has_newline(text: &[u8]) -> bool
 }
 
 /// The pieces of a line, cut at its newlines (GNU make manual, "Defining Canned Recipes").
-#[tactic(auto, unfolding(crate::specs::Lines::pieces_of))]
+#[tactic(auto, unfolding(crate::specs::Lines::pieces_of_line))]
 pub(crate) fn pieces(alloc: Global, text: &[u8]) -> Result<Vec<&[u8]>, AllocError>
-    ensures { IfOk result (λ pieces. map (λ piece. piece.now) pieces.items ≡ pieces_of text.now) }
+    ensures { IfOk result (λ pieces. map (λ piece. piece.now) pieces.items ≡ pieces_of_line text.now) }
 {
     text.split(|byte| *byte == b'\n').collect(alloc)
 }

@@ -4,7 +4,7 @@
 ghost use Rattle.std.specs.Prelude.{◌≡◌, ◌++◌, ◌==◌, IfOk, codes, option_map};
 ghost use Rattle.std.specs.List.{list_any};
 ghost use Rattle.kt_eval.specs.macros.Macros.{find};
-ghost use Rattle.kt_recipe.specs.inner.Plain.{is_plain, plain_shell, plain_value};
+ghost use Rattle.kt_recipe.specs.inner.Plain.{expands_to_itself, plain_shell, plain_value};
 
 use kt_eval::{Flavour, Macros};
 use std::alloc::{AllocError, Global};
@@ -44,7 +44,7 @@ fn plain_value<'a>(macros: &'a Macros, name: &[u8], limit: u64) -> Option<&'a [u
 
 // Whether a value expands to itself: it is immediate, or it has no dollar and a level is left.
 fn is_plain(flavour: Flavour, value: &[u8], limit: u64) -> bool
-    ensures { result ≡ is_plain limit flavour value.now }
+    ensures { result ≡ expands_to_itself limit flavour value.now }
 {
     match flavour {
         Flavour::Immediate => true,

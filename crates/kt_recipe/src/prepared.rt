@@ -12,9 +12,11 @@ ghost use Rattle.kt_recipe.specs.inner.Prepared.{Adds, AddsMacro, AddsResult, Ad
 ghost use Rattle.kt_recipe.specs.inner.Prepared.{filled};
 
 use crate::automatic::put_told;
-use crate::forms::Form;
+use crate::forms::NamePart;
 use crate::subjects::{Subject, asked_by};
-use kt_eval::{Asked, Flavour, Function, Macros, TextFunction, Value, names_plainly, text_result};
+use kt_eval::{
+    Flavour, Function, Macros, Request, TextFunction, Value, names_plainly, text_result,
+};
 use kt_graph::Node;
 use kt_syntax::{Mark, Term, Unterminated, terms};
 use kt_text::{TextFault, stripped};
@@ -25,18 +27,18 @@ use std::alloc::{AllocError, Global};
 pub(crate) struct Gap {
     before: Value,
     subject: Subject,
-    form: Form,
+    form: NamePart,
 }
 
 /// What a text expands to in the recipe of any node: what is known, with the automatic macros in between.
 #[derive(Drop)]
-pub(crate) struct Pieces {
+pub(crate) struct PreparedText {
     alloc: Global,
     gaps: Vec<Gap>,
     end: Vec<u8>,
 }
 
-impl Pieces {
+impl PreparedText {
     /// The pieces of a text, if all but automatic macros is known: it has only literals, plain names, text functions
     /// without an automatic macro in their arguments, and `if` without one in its condition, and so have the values of
     /// the names that are expanded at each use.
@@ -45,10 +47,10 @@ impl Pieces {
         macros: &Macros,
         limit: u64,
         text: &[u8],
-    ) -> Result<Option<Pieces>, AllocError>
+    ) -> Result<Option<PreparedText>, AllocError>
         ensures { IfOk result (λ found. IfSome found (λ pieces. IsPrepared macros.now limit text.now pieces)) }
     {
-        let mut pieces = Pieces::none(alloc);
+        let mut pieces = PreparedText::none(alloc);
         if put_text(macros, limit, text, &mut pieces)? {
             Ok(Some(pieces))
         } else {
@@ -56,11 +58,11 @@ impl Pieces {
         }
     }
 
-    fn none(alloc: Global) -> Pieces
+    fn none(alloc: Global) -> PreparedText
         ensures gaps { result.gaps.items ≡ [] }
         ensures end { result.end.items ≡ [] }
     {
-        Pieces {
+        PreparedText {
             alloc,
             gaps: Vec::new(alloc),
             end: Vec::new(alloc),
@@ -72,7 +74,7 @@ impl Pieces {
     fn whole(self) -> Option<Vec<u8>>
         ensures { IfSome result (λ text. AreText self text.items) }
     {
-        let Pieces {
+        let PreparedText {
             alloc: _alloc,
             gaps,
             end,
@@ -99,7 +101,7 @@ fn put_text(
     macros: &Macros,
     limit: u64,
     text: &[u8],
-    pieces: &mut Pieces,
+    pieces: &mut PreparedText,
 ) -> Result<bool, AllocError>
     ensures { IfOk result (λ known. known ≡ true
         → Adds macros.now (expanded (evaluator false [] limit) text.now) pieces.old pieces.new) }
@@ -118,7 +120,7 @@ fn put_term(
     macros: &Macros,
     limit: u64,
     term: Result<Term<'_>, Unterminated>,
-    pieces: &mut Pieces,
+    pieces: &mut PreparedText,
 ) -> Result<bool, AllocError>
     ensures { IfOk result (λ known. known ≡ true
         → Adds macros.now (term_of (evaluator false [] limit) (token_of term.entry)) pieces.old pieces.new) }
@@ -143,16 +145,16 @@ fn put_asked(
     limit: u64,
     mark: Mark,
     body: &[u8],
-    pieces: &mut Pieces,
+    pieces: &mut PreparedText,
 ) -> Result<bool, AllocError>
     ensures { IfOk result (λ known. known ≡ true
         → Adds macros.now (term_of (evaluator false [] limit) (reference mark body.now)) pieces.old pieces.new) }
 {
-    match Asked::by(pieces.alloc, mark, body)? {
-        Asked::Calls(function, arguments) => {
+    match Request::by(pieces.alloc, mark, body)? {
+        Request::Calls(function, arguments) => {
             put_call(macros, limit, function, &arguments, pieces)
         }
-        Asked::Refuses(_) | Asked::Refers(_) => Ok(false),
+        Request::Refuses(_) | Request::Refers(_) => Ok(false),
     }
 }
 
@@ -164,7 +166,7 @@ fn put_call(
     limit: u64,
     function: Function,
     arguments: &[&[u8]],
-    pieces: &mut Pieces,
+    pieces: &mut PreparedText,
 ) -> Result<bool, AllocError>
     ensures { IfOk result (λ known. known ≡ true
         → Adds macros.now (apply (evaluator false [] limit) function (map (λ a. a.now) arguments.now))
@@ -191,7 +193,7 @@ fn put_applied(
     limit: u64,
     function: TextFunction,
     texts: &[&[u8]],
-    pieces: &mut Pieces,
+    pieces: &mut PreparedText,
 ) -> Result<bool, AllocError>
     ensures { IfOk result (λ known. known ≡ true
         → Adds macros.now (apply_text (evaluator false [] limit) function (map (λ a. a.now) texts.now))
@@ -237,7 +239,7 @@ fn put_if(
     condition: &[u8],
     chosen: &[u8],
     other: Option<&[u8]>,
-    pieces: &mut Pieces,
+    pieces: &mut PreparedText,
 ) -> Result<bool, AllocError>
     ensures { IfOk result (λ known. known ≡ true
         → Adds macros.now (apply_if (evaluator false [] limit) condition.now chosen.now
@@ -268,7 +270,7 @@ fn known_text(
     ensures { IfOk result (λ found. IfSome found (λ bytes. IsKnown macros.now
         ((evaluator false [] limit).expand text.now) bytes.items)) }
 {
-    let mut pieces = Pieces::none(alloc);
+    let mut pieces = PreparedText::none(alloc);
     if put_deeper(macros, limit, text, &mut pieces)? {
         Ok(pieces.whole())
     } else {
@@ -282,7 +284,7 @@ fn put_name(
     macros: &Macros,
     limit: u64,
     name: &[u8],
-    pieces: &mut Pieces,
+    pieces: &mut PreparedText,
 ) -> Result<bool, AllocError>
     ensures { IfOk result (λ known. known ≡ true
         → Adds macros.now (λ w. value_of (evaluator false [] limit) (lookup name.now w) w) pieces.old pieces.new) }
@@ -302,7 +304,7 @@ fn put_value(
     limit: u64,
     flavour: Flavour,
     value: &[u8],
-    pieces: &mut Pieces,
+    pieces: &mut PreparedText,
 ) -> Result<bool, AllocError>
     ensures { IfOk result (λ known. known ≡ true
         → Adds macros.now (flavoured (evaluator false [] limit) flavour value.now) pieces.old pieces.new) }
@@ -319,7 +321,7 @@ fn put_deeper(
     macros: &Macros,
     limit: u64,
     text: &[u8],
-    pieces: &mut Pieces,
+    pieces: &mut PreparedText,
 ) -> Result<bool, AllocError>
     ensures { IfOk result (λ known. known ≡ true
         → Adds macros.now ((evaluator false [] limit).expand text.now) pieces.old pieces.new) }
@@ -330,7 +332,7 @@ fn put_deeper(
     put_text(macros, limit - 1, text, pieces)
 }
 
-fn put_known(pieces: &mut Pieces, bytes: &[u8]) -> Result<bool, AllocError>
+fn put_known(pieces: &mut PreparedText, bytes: &[u8]) -> Result<bool, AllocError>
     ensures { IfOk result (λ _. AddsText bytes.now pieces.old pieces.new) }
 {
     pieces.end.extend_from_slice(bytes)?;
@@ -341,7 +343,7 @@ fn put_known(pieces: &mut Pieces, bytes: &[u8]) -> Result<bool, AllocError>
 fn put_result(
     function: TextFunction,
     arguments: &[Value],
-    pieces: &mut Pieces,
+    pieces: &mut PreparedText,
 ) -> Result<bool, AllocError>
     ensures { IfOk result (λ known. known ≡ true → AddsResult function arguments.now pieces.old pieces.new) }
 {
@@ -353,7 +355,7 @@ fn put_result(
 }
 
 // Appends an automatic macro, which takes the text before it.
-fn put_gap(pieces: &mut Pieces, subject: Subject, form: Form) -> Result<bool, AllocError>
+fn put_gap(pieces: &mut PreparedText, subject: Subject, form: NamePart) -> Result<bool, AllocError>
     ensures { IfOk result (λ _. AddsMacro subject form pieces.old pieces.new) }
 {
     let before = Value::copied(pieces.alloc, &pieces.end)?;

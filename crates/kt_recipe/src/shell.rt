@@ -5,7 +5,7 @@ ghost use Rattle.std.specs.List.{range_with_len};
 ghost use Rattle.kt_eval.specs.expanding.Pure.{Says};
 ghost use Rattle.kt_graph.specs.nodes.Views.{part_lines};
 ghost use Rattle.kt_recipe.specs.Automatic.{automatic_in};
-ghost use Rattle.kt_recipe.specs.Lines.{pieces_of};
+ghost use Rattle.kt_recipe.specs.Lines.{pieces_of_line};
 ghost use Rattle.kt_recipe.specs.Shell.{expansion, put_line, put_lines, put_part, put_parts, put_piece, put_pieces};
 ghost use Rattle.kt_recipe.specs.Shell.{shell_of, shell_text};
 ghost use Rattle.kt_recipe.specs.Views.{command_in, setting_at};
@@ -228,7 +228,7 @@ impl<'a, 'm, 'g> Shell<'a, 'm, 'g> {
         messages: &mut Vec<Sequence<u8>>,
     ) -> Result<(), Stop>
         ensures { Says (λ _. command_in command.new.items)
-            (put_pieces (setting_at self.now place.now) marked (pieces_of text.now) (command_in command.old.items))
+            (put_pieces (setting_at self.now place.now) marked (pieces_of_line text.now) (command_in command.old.items))
             result messages.old.items messages.new.items }
     {
         if is_one_piece(text) {

@@ -1,9 +1,9 @@
 //! What the names of automatic macros ask for.
 ghost use Rattle.std.specs.Prelude.{◌≡◌};
-ghost use Rattle.kt_recipe.specs.inner.Asking.{asked_by, form_of, parted, subject_of};
+ghost use Rattle.kt_recipe.specs.inner.Asking.{letter_part, parted, subject_and_part, subject_of};
 ghost use Rattle.kt_recipe.specs.Automatic.{has_parts};
 
-use crate::forms::Form;
+use crate::forms::NamePart;
 
 /// Which names an automatic macro lists (GNU make manual, "Automatic Variables").
 #[derive(Clone, Copy)]
@@ -25,19 +25,19 @@ pub(crate) enum Subject {
 }
 
 /// The subject and form of the automatic macro with this name, if there is one.
-#[tactic(auto, unfolding(crate::specs::inner::Asking::asked_by))]
-pub(crate) fn asked_by(name: &[u8]) -> Option<(Subject, Form)>
-    ensures { result ≡ asked_by name.now }
+#[tactic(auto, unfolding(crate::specs::inner::Asking::subject_and_part))]
+pub(crate) fn asked_by(name: &[u8]) -> Option<(Subject, NamePart)>
+    ensures { result ≡ subject_and_part name.now }
 {
     match name {
-        [mark] => Some((subject_of(*mark)?, Form::Whole)),
+        [mark] => Some((subject_of(*mark)?, NamePart::Whole)),
         [mark, letter] => parted(subject_of(*mark)?, *letter),
         _ => None,
     }
 }
 
 // The subject and form of a mark with a letter after it.
-fn parted(subject: Subject, letter: u8) -> Option<(Subject, Form)>
+fn parted(subject: Subject, letter: u8) -> Option<(Subject, NamePart)>
     ensures { result ≡ parted subject letter }
 {
     if has_parts(subject) {
@@ -70,12 +70,12 @@ fn has_parts(subject: Subject) -> bool
     !matches!(subject, Subject::OrderOnly | Subject::Member)
 }
 
-fn form_of(letter: u8) -> Option<Form>
-    ensures { result ≡ form_of letter }
+fn form_of(letter: u8) -> Option<NamePart>
+    ensures { result ≡ letter_part letter }
 {
     match letter {
-        b'D' => Some(Form::Directory),
-        b'F' => Some(Form::File),
+        b'D' => Some(NamePart::Directory),
+        b'F' => Some(NamePart::File),
         _ => None,
     }
 }

@@ -1,6 +1,6 @@
 -- What a book keeps beside its rules, as rules are added.
 use Rattle.std.proofs.Common.{rules, ◌≡◌, ℕ, ◌+◌, Bool, true, false, cond, ◌||◌, if◌then◌else◌, List, [], ◌∷◌, ◌++◌, length, map, filter, fold, find, drop, take, slice_get, ◌≤◌, Option, Some, None, refl, sym, ap, ◌∙◌, arith, subst, is_some, ◌⊎◌, inl, ⊎_elim, length-append, true≢false}
-use Rattle.kt_rules.proofs.Common.{option_map, take-append_seam, option_and_then, option_or, option_map_or, list_any, bytes_eq, or_parts, append-nil, length_push, filter-append, list_any-append, flat_map-append, fold-append, bytes_eq-Decides, or_nothing, Text, Target, Spot, HoldsAll, Rule, is_among, with_name, suffixes_after, start_suffixes, AreApart, is_made, made_targets, target_rules, rules_of, recipes_of, has_recipe, is_double, is_group, phony_of, is_phony, xor, differ_in_colons, is_beside_group, both_colons_in, beside_group_in, two_recipes_in, refusal_of, spots_at, target_rule, spot_rule, found, first_of, spot_at, target_spots, spots_from, spots_for, AreBefore, AreIn, ForgotFrom, GrewIn, GotSpots, GotRecipes, AreAlike, IsIndexOf, IsKept}
+use Rattle.kt_rules.proofs.Common.{option_map, take-append_seam, option_and_then, option_or, option_map_or, list_any, bytes_eq, or_parts, append-nil, length_push, filter-append, list_any-append, flat_map-append, fold-append, bytes_eq-Decides, or_nothing, Text, Target, Spot, HoldsAll, Entry, is_among, with_name, suffixes_after, start_suffixes, AreApart, is_made, made_targets, target_rules, rules_of, recipes_of, has_recipe, is_double, is_group, phony_of, is_phony, xor, differ_in_colons, is_beside_group, both_colons_in, beside_group_in, two_recipes_in, refusal_of, spots_at, target_rule, spot_rule, found, first_of, spot_at, target_spots, spots_from, spots_for, AreBefore, AreIn, ForgotFrom, GrewIn, GotSpots, GotRecipes, AllAgree, IsIndexOf, IsKept}
 use Rattle.kt_list.specs.Prefixes.{HasMore}
 use Rattle.std.proofs.lemmas.List.Quantifiers.{all_pairs_push}
 use Rattle.kt_rules.specs.inner.Lists.{Notes}
@@ -10,26 +10,26 @@ use Rattle.kt_rules.proofs.NoteLemmas.{names_after}
 use Rattle.kt_rules.proofs.SpotLemmas.{found-before, found-append, before_more, before_in, before_append, in_spots_from, first_target, rule_last, taken_back}
 
 -- the rules of a name among those of one rule
-abbrev of_name : Rule → Text → List (Rule × Target)
-of_name rule name = filter (λ (made : Rule × Target). bytes_eq name made.1.name) (target_rules rule)
+abbrev of_name : Entry → Text → List (Entry × Target)
+of_name rule name = filter (λ (made : Entry × Target). bytes_eq name made.1.name) (target_rules rule)
 
-rules_of-more : (rules : List Rule) (rule : Rule) (name : Text) → rules_of (rules ++ rule ∷ []) name ≡ rules_of rules name ++ of_name rule name
+rules_of-more : (rules : List Entry) (rule : Entry) (name : Text) → rules_of (rules ++ rule ∷ []) name ≡ rules_of rules name ++ of_name rule name
 unfolding rules_of
 rules_of-more rules rule name = grind (arith, flat_map-append, append-nil, filter-append)
 
-own_step : (rule : Rule) (target : Target) (rest : List (Rule × Target)) (b c : Bool) → is_some rule.recipe ≡ b → filter has_recipe rest ≡ (if b then rest else [])
+own_step : (rule : Entry) (target : Target) (rest : List (Entry × Target)) (b c : Bool) → is_some rule.recipe ≡ b → filter has_recipe rest ≡ (if b then rest else [])
     → filter has_recipe (cond c ((rule, target) ∷ rest) rest) ≡ (if b then cond c ((rule, target) ∷ rest) rest else [])
 own_step rule target rest b c e h = grind (arith, cond)
 
 -- a rule's own recipe
-own_recipes : (rule : Rule) (name : Text) (targets : List Target) (b : Bool) → is_some rule.recipe ≡ b
-    → filter has_recipe (filter (λ (made : Rule × Target). bytes_eq name made.1.name) (map (λ target. (rule, target)) targets))
-    ≡ (if b then filter (λ (made : Rule × Target). bytes_eq name made.1.name) (map (λ target. (rule, target)) targets) else [])
+own_recipes : (rule : Entry) (name : Text) (targets : List Target) (b : Bool) → is_some rule.recipe ≡ b
+    → filter has_recipe (filter (λ (made : Entry × Target). bytes_eq name made.1.name) (map (λ target. (rule, target)) targets))
+    ≡ (if b then filter (λ (made : Entry × Target). bytes_eq name made.1.name) (map (λ target. (rule, target)) targets) else [])
 own_recipes rule name [] true e = refl
 own_recipes rule name [] false e = refl
 own_recipes rule name (target ∷ targets) b e = grind (arith, own_step, own_recipes rule name targets b e)
 
-recipes_of-more : (rules : List Rule) (rule : Rule) (name : Text)
+recipes_of-more : (rules : List Entry) (rule : Entry) (name : Text)
     → recipes_of (rules ++ rule ∷ []) name ≡ recipes_of rules name ++ (if is_some rule.recipe then of_name rule name else [])
 unfolding recipes_of
 recipes_of-more rules rule name =
@@ -39,18 +39,18 @@ recipes_of-more rules rule name =
 
 -- ---- what the spots of a new rule find
 
-one_found : (rules : List Rule) (spot : Spot) (rule : Rule) (target : Target) (name : Text) (rest : List (Rule × Target)) (others : List Target)
+one_found : (rules : List Entry) (spot : Spot) (rule : Entry) (target : Target) (name : Text) (rest : List (Entry × Target)) (others : List Target)
     → spot_rule rules spot ≡ Some (rule, target)
-    → rest ≡ filter (λ (made : Rule × Target). bytes_eq name made.1.name) (map (λ t. (rule, t)) others)
+    → rest ≡ filter (λ (made : Entry × Target). bytes_eq name made.1.name) (map (λ t. (rule, t)) others)
     → (b c : Bool) → bytes_eq name target.name ≡ c
     → found rules (if b then (if c then spot ∷ [] else []) else []) ++ rest
-    ≡ filter (λ (made : Rule × Target). bytes_eq name made.1.name) (map (λ t. (rule, t)) (cond b (target ∷ others) others))
+    ≡ filter (λ (made : Entry × Target). bytes_eq name made.1.name) (map (λ t. (rule, t)) (cond b (target ∷ others) others))
 unfolding found
 one_found rules spot rule target name rest others at tail b c e = grind (arith, cond)
 
-found-own : (rules : List Rule) (rule : Rule) (name : Text) (number : ℕ) (targets : List Target) → targets ≡ drop number rule.targets
+found-own : (rules : List Entry) (rule : Entry) (name : Text) (number : ℕ) (targets : List Target) → targets ≡ drop number rule.targets
     → found (rules ++ rule ∷ []) (spots_from rule (length rules) number targets name)
-    ≡ filter (λ (made : Rule × Target). bytes_eq name made.1.name) (map (λ t. (rule, t)) (filter (is_made rule) targets))
+    ≡ filter (λ (made : Entry × Target). bytes_eq name made.1.name) (map (λ t. (rule, t)) (filter (is_made rule) targets))
 unfolding spots_from found
 found-own rules rule name number [] h = refl
 found-own rules rule name number (target ∷ targets) h =
@@ -61,22 +61,22 @@ found-own rules rule name number (target ∷ targets) h =
     ∙ one_found (rules ++ rule ∷ []) (spot_at (length rules) number) rule target name _ (filter (is_made rule) targets) here
     (found-own rules rule name (number + 1) targets at.1) (is_made rule target) (bytes_eq name target.name) refl
 
-found-for : (rules : List Rule) (rule : Rule) (name : Text) (b : Bool)
+found-for : (rules : List Entry) (rule : Entry) (name : Text) (b : Bool)
     → found (rules ++ rule ∷ []) (if b then spots_for rule (length rules) name else []) ≡ (if b then of_name rule name else [])
 unfolding found
 found-for rules rule name b = grind (arith, found-own)
 
 -- ---- what an index finds
 
-before_new : (rules : List Rule) (rule : Rule) (spots more : List Spot) → AreBefore (length rules) spots → AreIn (length rules) more
+before_new : (rules : List Entry) (rule : Entry) (spots more : List Spot) → AreBefore (length rules) spots → AreIn (length rules) more
     → AreBefore (length (rules ++ rule ∷ [])) (spots ++ more)
 before_new rules rule spots more h k = grind (arith, length_push, before_append, length, before_more, before_in)
 
-in_if_spots : (rule : Rule) (place : ℕ) (name : Text) (b : Bool) → AreIn place (if b then spots_for rule place name else [])
+in_if_spots : (rule : Entry) (place : ℕ) (name : Text) (b : Bool) → AreIn place (if b then spots_for rule place name else [])
 in_if_spots rule place name b = grind (arith, in_spots_from)
 
 -- one more rule is found
-pub tells_more : (rules : List Rule) (rule : Rule) (old new : Notes) (first later : Text → List (Rule × Target)) (b : Bool)
+pub tells_more : (rules : List Entry) (rule : Entry) (old new : Notes) (first later : Text → List (Entry × Target)) (b : Bool)
     → IsIndexOf rules old first
     → ((name : Text) → spots_at new name ≡ spots_at old name ++ (if b then spots_for rule (length rules) name else []))
     → ((name : Text) → later name ≡ first name ++ (if b then of_name rule name else []))
@@ -112,7 +112,7 @@ all_same f test t (y ∷ ys) h =
     ∙ ap (λ c. f t || c) (all_same f test t ys one.1) ∙ or_same (f t)
 
 -- the first one decides for all
-pub alike_first : {A : Type 0} (f : Bool → Bool) (test : A → Bool) (xs : List A) → AreAlike test xs
+pub alike_first : {A : Type 0} (f : Bool → Bool) (test : A → Bool) (xs : List A) → AllAgree test xs
     → list_any (λ x. f (test x)) xs ≡ option_map_or (λ x. f (test x)) (first_of xs) false
 alike_first f test xs h = grind (arith, xor_split, all_same)
 
@@ -121,36 +121,36 @@ refused_step : {A : Type 0} (one : A) (rest : List A) (test : Text → Bool) (na
 refused_step one rest test name other b e clean others = grind (arith, bytes_eq-Decides)
 
 -- where no target fails a test, a name that passes is none of them
-none_refused : (rule : Rule) (name : Text) (test : Text → Bool) (targets : List Target) → find (λ (target : Target). test target.name) targets ≡ None
-    → (filter (λ (made : Rule × Target). bytes_eq name made.1.name) (map (λ target. (rule, target)) targets) ≡ []) ⊎ (test name ≡ false)
+none_refused : (rule : Entry) (name : Text) (test : Text → Bool) (targets : List Target) → find (λ (target : Target). test target.name) targets ≡ None
+    → (filter (λ (made : Entry × Target). bytes_eq name made.1.name) (map (λ target. (rule, target)) targets) ≡ []) ⊎ (test name ≡ false)
 none_refused rule name test [] h = inl refl
 none_refused rule name test (target ∷ targets) h =
     let one = find_none (test target.name) target (find (λ (t : Target). test t.name) targets) h in
-    refused_step (rule, target) (filter (λ (made : Rule × Target). bytes_eq name made.1.name) (map (λ t. (rule, t)) targets)) test name target.name
+    refused_step (rule, target) (filter (λ (made : Entry × Target). bytes_eq name made.1.name) (map (λ t. (rule, t)) targets)) test name target.name
     (bytes_eq name target.name) refl one.0 (none_refused rule name test targets one.1)
 
 alike_step : {A : Type 0} (test : A → Bool) (x : A) (rest : List A) (c : Bool) → test x ≡ false → list_any test rest ≡ false → list_any test (cond c (x ∷ rest) rest) ≡ false
 alike_step test x rest c h k = grind arith
 
-own_alike : (rule : Rule) (name : Text) (test : Rule → Bool) (targets : List Target)
-    → list_any (λ (made : Rule × Target). xor (test made.0) (test rule)) (filter (λ (made : Rule × Target). bytes_eq name made.1.name) (map (λ target. (rule, target)) targets)) ≡ false
+own_alike : (rule : Entry) (name : Text) (test : Entry → Bool) (targets : List Target)
+    → list_any (λ (made : Entry × Target). xor (test made.0) (test rule)) (filter (λ (made : Entry × Target). bytes_eq name made.1.name) (map (λ target. (rule, target)) targets)) ≡ false
 own_alike rule name test [] = refl
 own_alike rule name test (target ∷ targets) = grind (arith, alike_step, xor_same, own_alike rule name test targets)
 
-join_alike : (rule : Rule) (name : Text) (test : Rule → Bool) (old : List (Rule × Target))
-    → list_any (λ (made : Rule × Target). xor (test made.0) (test rule)) old ≡ false
-    → AreAlike (λ (made : Rule × Target). test made.0) (old ++ of_name rule name)
+join_alike : (rule : Entry) (name : Text) (test : Entry → Bool) (old : List (Entry × Target))
+    → list_any (λ (made : Entry × Target). xor (test made.0) (test rule)) old ≡ false
+    → AllAgree (λ (made : Entry × Target). test made.0) (old ++ of_name rule name)
 join_alike rule name test old h = (
   test rule,
-  list_any-append (λ (made : Rule × Target). xor (test made.0) (test rule)) old (of_name rule name)
-      ∙ ap (λ c. c || list_any (λ (made : Rule × Target). xor (test made.0) (test rule)) (of_name rule name)) h
+  list_any-append (λ (made : Entry × Target). xor (test made.0) (test rule)) old (of_name rule name)
+      ∙ ap (λ c. c || list_any (λ (made : Entry × Target). xor (test made.0) (test rule)) (of_name rule name)) h
       ∙ own_alike rule name test (made_targets rule),
 )
 
-colons_more : (rules : List Rule) (rule : Rule) (name : Text) → AreAlike (λ (made : Rule × Target). is_double made.0.kind) (rules_of rules name)
-    → both_colons_in rules rule ≡ None → AreAlike (λ (made : Rule × Target). is_double made.0.kind) (rules_of (rules ++ rule ∷ []) name)
+colons_more : (rules : List Entry) (rule : Entry) (name : Text) → AllAgree (λ (made : Entry × Target). is_double made.0.kind) (rules_of rules name)
+    → both_colons_in rules rule ≡ None → AllAgree (λ (made : Entry × Target). is_double made.0.kind) (rules_of (rules ++ rule ∷ []) name)
 colons_more rules rule name alike h =
-    let P : List (Rule × Target) → Type 0 = AreAlike (λ (made : Rule × Target). is_double made.0.kind) in
+    let P : List (Entry × Target) → Type 0 = AllAgree (λ (made : Entry × Target). is_double made.0.kind) in
     subst P (sym (rules_of-more rules rule name))
     (⊎_elim (λ none. subst P (sym (ap (λ xs. rules_of rules name ++ xs) none ∙ append-nil (rules_of rules name))) alike)
     (λ clean. join_alike rule name (λ r. is_double r.kind) (rules_of rules name) clean)
@@ -162,16 +162,16 @@ beside_alike true test (x ∷ xs) h = absurd (true≢false h)
 beside_alike false test [] h = refl
 beside_alike false test (x ∷ xs) h = grind (arith, or_parts)
 
-groups_more : (rules : List Rule) (rule : Rule) (name : Text) (b : Bool) → is_some rule.recipe ≡ b
-    → AreAlike (λ (made : Rule × Target). is_group made.0.kind) (recipes_of rules name)
+groups_more : (rules : List Entry) (rule : Entry) (name : Text) (b : Bool) → is_some rule.recipe ≡ b
+    → AllAgree (λ (made : Entry × Target). is_group made.0.kind) (recipes_of rules name)
     → (if b then beside_group_in rules rule else None) ≡ None
-    → AreAlike (λ (made : Rule × Target). is_group made.0.kind) (recipes_of rules name ++ (if b then of_name rule name else []))
+    → AllAgree (λ (made : Entry × Target). is_group made.0.kind) (recipes_of rules name ++ (if b then of_name rule name else []))
 groups_more rules rule name false e alike h = grind (arith, append-nil)
 groups_more rules rule name true e alike h =
-    let P : List (Rule × Target) → Type 0 = AreAlike (λ (made : Rule × Target). is_group made.0.kind) in
+    let P : List (Entry × Target) → Type 0 = AllAgree (λ (made : Entry × Target). is_group made.0.kind) in
     ⊎_elim (λ none. subst P (sym (ap (λ xs. recipes_of rules name ++ xs) none ∙ append-nil (recipes_of rules name))) alike)
     (λ clean. join_alike rule name (λ r. is_group r.kind) (recipes_of rules name)
-    (beside_alike (is_group rule.kind) (λ (made : Rule × Target). is_group made.0.kind) (recipes_of rules name) clean))
+    (beside_alike (is_group rule.kind) (λ (made : Entry × Target). is_group made.0.kind) (recipes_of rules name) clean))
     (none_refused rule name (λ n. list_any (is_beside_group rule) (recipes_of rules n)) (made_targets rule) h)
 
 -- ---- what isn't refused
@@ -182,7 +182,7 @@ both_none f g a b h = grind (arith, some_none)
 else_none : {A : Type 0} (b : Bool) (x : A) (rest : Option A) → (if b then Some x else rest) ≡ None → rest ≡ None
 else_none b x rest h = grind (arith, some_none)
 
-refused_none : (rules : List Rule) (rule : Rule) → refusal_of rules rule ≡ None → (both_colons_in rules rule ≡ None) × (two_recipes_in rules rule ≡ None)
+refused_none : (rules : List Entry) (rule : Entry) → refusal_of rules rule ≡ None → (both_colons_in rules rule ≡ None) × (two_recipes_in rules rule ≡ None)
 unfolding refusal_of
 refused_none rules rule h = grind (arith, both_none, else_none)
 
@@ -195,7 +195,7 @@ pub among_fold : (names added : List Text) (other : Text) → is_among (fold wit
 among_fold names [] other = sym (or_nothing (is_among names other))
 among_fold names (name ∷ added) other = grind (arith, among_with, or_assoc, among_fold (with_name names name) added other)
 
-phony_more : (rules : List Rule) (rule : Rule) (name : Text) → is_phony (rules ++ rule ∷ []) name ≡ (is_phony rules name || is_among (phony_of rule) name)
+phony_more : (rules : List Entry) (rule : Entry) (name : Text) → is_phony (rules ++ rule ∷ []) name ≡ (is_phony rules name || is_among (phony_of rule) name)
 unfolding is_phony
 phony_more rules rule name = grind (arith, flat_map-append, append-nil, list_any-append)
 
@@ -222,7 +222,7 @@ kept_new targets recipes t r = record {
 }
 
 -- without rules, as the parts are made
-pub kept_made : (rules : List Rule) (targets recipes : Notes) (phony suffixes : List Text)
+pub kept_made : (rules : List Entry) (targets recipes : Notes) (phony suffixes : List Text)
     → rules ≡ [] → ((name : Text) → spots_at targets name ≡ []) → ((name : Text) → spots_at recipes name ≡ []) → phony ≡ [] → suffixes ≡ start_suffixes
     → IsKept rules targets recipes phony suffixes
 kept_made rules targets recipes phony suffixes s t r p f =
@@ -231,14 +231,14 @@ kept_made rules targets recipes phony suffixes s t r p f =
     (subst (λ xs. IsKept [] targets recipes [] xs) (sym f) (kept_new targets recipes t r)))
 
 -- names that are added at the end change nothing
-tells_same : (rules : List Rule) (old new : Notes) (own : Text → List (Rule × Target)) → ((name : Text) → spots_at new name ≡ spots_at old name)
+tells_same : (rules : List Entry) (old new : Notes) (own : Text → List (Entry × Target)) → ((name : Text) → spots_at new name ≡ spots_at old name)
     → IsIndexOf rules old own → IsIndexOf rules new own
 tells_same rules old new own same told = record {
   all = λ name. ap (found rules) (same name) ∙ told.all name;
   before = λ name. subst (AreBefore (length rules)) (sym (same name)) (told.before name);
 }
 
-pub holds_grown : (old new : List Text × List Rule) (targets recipes : List (List Spot)) (phony suffixes : List Text)
+pub holds_grown : (old new : List Text × List Entry) (targets recipes : List (List Spot)) (phony suffixes : List Text)
     → HasMore old.0 new.0 → new.1 ≡ old.1 → HoldsAll old targets recipes phony suffixes → HoldsAll new targets recipes phony suffixes
 holds_grown old new targets recipes phony suffixes got same holds =
     let longer : length new.0 ≡ length old.0 + length got.0 = ap length got.1 ∙ length-append old.0 got.0 in
@@ -262,7 +262,7 @@ holds_grown old new targets recipes phony suffixes got same holds =
     }
 
 -- one more rule
-pub kept_some : (rules : List Rule) (rule : Rule) (targets targets' recipes recipes' : Notes) (phony phony' suffixes suffixes' : List Text)
+pub kept_some : (rules : List Entry) (rule : Entry) (targets targets' recipes recipes' : Notes) (phony phony' suffixes suffixes' : List Text)
     → IsKept rules targets recipes phony suffixes → refusal_of rules rule ≡ None
     → GotSpots rule (length rules) targets targets' → GotRecipes rule (length rules) recipes recipes'
     → phony' ≡ fold with_name phony (phony_of rule) → suffixes' ≡ suffixes_after suffixes rule
@@ -276,14 +276,14 @@ kept_some rules rule targets targets' recipes recipes' phony phony' suffixes suf
       suffixes_told = s ∙ ap (λ names. suffixes_after names rule) kept.suffixes_told ∙ sym (fold-append suffixes_after start_suffixes rules (rule ∷ []));
       colons = λ name. colons_more rules rule name (kept.colons name) none.0;
       groups = λ name.
-          subst (AreAlike (λ (made : Rule × Target). is_group made.0.kind)) (sym (recipes_of-more rules rule name))
+          subst (AllAgree (λ (made : Entry × Target). is_group made.0.kind)) (sym (recipes_of-more rules rule name))
           (groups_more rules rule name (is_some rule.recipe) refl (kept.groups name) none.1);
       apart = all_pairs_push AreApart rules rule kept.apart (apart_last rules rule none.1);
     }
 
 -- ---- a rule that a book got, with its names
 
-module _ (old pushed : List Text × List Rule) (entry : Rule) (place : ℕ) (targets targets' recipes recipes' : List (List Spot))
+module _ (old pushed : List Text × List Entry) (entry : Entry) (place : ℕ) (targets targets' recipes recipes' : List (List Spot))
     (phony phony' suffixes suffixes' : List Text) (holds : HoldsAll old targets recipes phony suffixes) (got : HasMore old.0 pushed.0)
     (is : pushed.1 ≡ old.1 ++ entry ∷ []) (at : place ≡ length old.1) where
   -- it is at its place
@@ -309,11 +309,11 @@ module _ (old pushed : List Text × List Rule) (entry : Rule) (place : ℕ) (tar
   }
 
   -- the rules are as they were
-  pub rules_back : (new : List Rule) → new ≡ take place pushed.1 → new ≡ old.1
+  pub rules_back : (new : List Entry) → new ≡ take place pushed.1 → new ≡ old.1
   rules_back new taken = taken ∙ (λ j. take (at j) (is j)) ∙ take-append_seam old.1 (entry ∷ [])
 
   -- it was taken back, with its spots
-  pub holds_back : (new : List Text × List Rule) (targets'' recipes'' : List (List Spot)) → new.0 ≡ pushed.0 → new.1 ≡ take place pushed.1
+  pub holds_back : (new : List Text × List Entry) (targets'' recipes'' : List (List Spot)) → new.0 ≡ pushed.0 → new.1 ≡ take place pushed.1
       → GrewIn place (pushed.0, targets) (pushed.0, targets') → GrewIn place (pushed.0, recipes) (pushed.0, recipes')
       → ForgotFrom place targets' targets'' → ForgotFrom place recipes' recipes''
       → length targets'' ≡ length targets' → length recipes'' ≡ length recipes' → phony' ≡ phony → suffixes' ≡ suffixes
@@ -341,4 +341,4 @@ module _ (old pushed : List Text × List Rule) (entry : Rule) (place : ℕ) (tar
         recipes_within = subst (λ n. n ≤ length pushed.0) (sym r_many) (recipes_in named.recipes_within);
       } in
       subst (λ (names : List Text). HoldsAll (names, new.1) targets'' recipes'' phony' suffixes') (sym same)
-      (subst (λ (rules : List Rule). HoldsAll (pushed.0, rules) targets'' recipes'' phony' suffixes') (sym (rules_back new.1 taken)) held)
+      (subst (λ (rules : List Entry). HoldsAll (pushed.0, rules) targets'' recipes'' phony' suffixes') (sym (rules_back new.1 taken)) held)

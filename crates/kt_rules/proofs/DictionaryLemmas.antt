@@ -1,6 +1,6 @@
 -- Names and lists of names by numbers.
 use Rattle.std.proofs.Common.{rules, ◌≡◌, ℕ, ◌<◌, Bool, true, false, if◌then◌else◌, List, [], ◌∷◌, ◌++◌, length, slice_get, get_or, Option, Some, option_map, sym, ap, ◌∙◌, subst, arith, length-append}
-use Rattle.kt_rules.proofs.Common.{All, append-nil, append_assoc, get_or_append_left, All-push, All-weaker, get_or_from_slice_get, slice_get_within, number_found, IfSome, Text, is_among, with_name, place_of, AreBelow, AreNumbersOf, name_at, name_read, number_stays, numbers_below, numbers_stay, Grows, IsListOf, IsNumberOf}
+use Rattle.kt_rules.proofs.Common.{All, append-nil, append_assoc, get_or_append_left, All-push, All-weaker, get_or_from_slice_get, slice_get_within, number_found, IfSome, Text, is_among, with_name, place_of, AreBelow, AreNumbersOf, name_at, name_read, number_stays, numbers_below, numbers_stay, GrowsDictionary, IsListOf, IsNumberOf}
 use Rattle.kt_list.specs.Prefixes.{HasMore}
 
 -- ---- lists that others begin with
@@ -14,7 +14,7 @@ more_twice xs mid new one two = grind (arith, append_assoc)
 pub more_name : (names new : List Text) (name : Text) → new ≡ with_name names name → HasMore names new
 more_name names new name is = search (rules, more_none)
 
-pub grows_twice : (old mid new : List Text × List (List ℕ)) → Grows old mid → Grows mid new → Grows old new
+pub grows_twice : (old mid new : List Text × List (List ℕ)) → GrowsDictionary old mid → GrowsDictionary mid new → GrowsDictionary old new
 grows_twice old mid new one two = (more_twice old.0 mid.0 new.0 one.0 two.0, more_twice old.1 mid.1 new.1 one.1 two.1)
 
 -- ---- numbers of names
@@ -30,7 +30,7 @@ number_within_if names number name is = grind (arith, slice_get_within)
 
 -- ---- numbers of lists
 
-pub list_stays : (old new : List Text × List (List ℕ)) (number : ℕ) (list : List Text) → Grows old new → IsListOf old number list → IsListOf new number list
+pub list_stays : (old new : List Text × List (List ℕ)) (number : ℕ) (list : List Text) → GrowsDictionary old new → IsListOf old number list → IsListOf new number list
 list_stays old new number list grew is =
     let same : get_or new.1 number [] ≡ get_or old.1 number []
     = ap (λ (lists : List (List ℕ)). get_or lists number []) grew.1.1 ∙ get_or_append_left old.1 grew.1.0 [] number is.within in

@@ -1,6 +1,6 @@
 -- The words of a head: each text is cut into words and separators, in one way.
 use Rattle.std.proofs.Common.{rules, ◌≡◌, ℕ, suc, Bool, true, false, List, [], ◌∷◌, ◌++◌, length, take, map, filter, flat_map, All, refl, sym, ap, subst, ◌∙◌, true≢false, arith, ⊎_elim, ◌⊎◌, inl, inr, append_assoc, append-nil, ◌==◌}
-use Rattle.kt_rules.proofs.Common.{onto_first, All-cons, All-head, All-nil, All-tail, less_one, none_in, and_nothing, Text, is_nonempty, is_separator, Separator, pieces_of, written_words}
+use Rattle.kt_rules.proofs.Common.{onto_first, All-cons, All-head, All-nil, All-tail, less_one, none_in, and_nothing, Text, is_nonempty, is_separator, Separator, cut_pieces, written_words}
 use Rattle.kt_rules.specs.Cuts.{ends_in_backslash}
 use Rattle.kt_rules.specs.HeadWords.{separates, HoldsNoSeparator, HeadWord, part_text, part_word, IsPart, HasGap, AreSeparated, AreWords, WrittenWordsLaw}
 use Rattle.kt_rules.proofs.PartLemmas.{AreSeparators, QuotesNone, first_is, others_are, one_more_is, no_backslash, cuts_is, is_one, not_quoted, separates_too, holds_less, holds_none, holds_more}
@@ -8,16 +8,16 @@ use Rattle.kt_rules.proofs.PartLemmas.{AreSeparators, QuotesNone, first_is, othe
 -- a word ends at the first byte that separates
 word_ends : (before : Bool) (word rest : Text) (byte : ℕ) → HoldsNoSeparator before word
     → separates (ends_in_backslash before word) byte ≡ true
-    → pieces_of Separator before (word ++ byte ∷ rest) ≡ word ∷ pieces_of Separator false rest
-unfolding pieces_of
+    → cut_pieces Separator before (word ++ byte ∷ rest) ≡ word ∷ cut_pieces Separator false rest
+unfolding cut_pieces
 word_ends before [] rest byte h s = rw (cuts_is before byte ∙ s) refl
 word_ends before (first ∷ word) rest byte h s =
     rw (cuts_is before first ∙ h [] word first refl)
     (ap (onto_first first) (word_ends (first == 92) word rest byte (holds_less before first word h) s))
 
 -- or at the end of the text
-word_alone : (before : Bool) (word : Text) → HoldsNoSeparator before word → pieces_of Separator before word ≡ word ∷ []
-unfolding pieces_of
+word_alone : (before : Bool) (word : Text) → HoldsNoSeparator before word → cut_pieces Separator before word ≡ word ∷ []
+unfolding cut_pieces
 word_alone before [] h = refl
 word_alone before (first ∷ word) h =
     rw (cuts_is before first ∙ h [] word first refl)
@@ -25,7 +25,7 @@ word_alone before (first ∷ word) h =
 
 -- separators make no word
 one_skipped : (byte : ℕ) (text : Text) → is_separator byte ≡ true → written_words (byte ∷ text) ≡ written_words text
-unfolding pieces_of written_words
+unfolding cut_pieces written_words
 one_skipped byte text h = rw h refl
 
 gap_skipped : (gap rest : Text) → AreSeparators gap → written_words (gap ++ rest) ≡ written_words rest
@@ -44,7 +44,7 @@ Goes gap rest = (is_nonempty gap ≡ true) ⊎ (rest ≡ [])
 one_word : (word gap rest : Text) → is_nonempty word ≡ true → HoldsNoSeparator false word → AreSeparators gap
     → QuotesNone false word gap → Goes gap rest
     → written_words ((word ++ gap) ++ rest) ≡ word ∷ written_words rest
-unfolding pieces_of written_words
+unfolding cut_pieces written_words
 one_word word [] rest some holds gaps q end = grind (arith, ⊎_elim, true≢false, append-nil, word_alone, word_kept)
 one_word word (byte ∷ gap) rest some holds gaps q end = grind (arith, first_is, append_assoc, word_ends, separates_too, word_kept, gap_skipped, others_are)
 
@@ -66,7 +66,7 @@ apart_more part parts g h = grind (arith, take, less_one, All-nil, ⊎_elim, non
 -- parts that are put together are cut again
 words_of_parts : (parts : List HeadWord) → All IsPart parts → AreSeparated parts
     → written_words (flat_map part_text parts) ≡ map part_word parts
-unfolding written_words pieces_of
+unfolding written_words cut_pieces
 words_of_parts [] each apart = refl
 words_of_parts (part ∷ []) each apart = search (rules, All-head, one_word)
 words_of_parts (part ∷ next ∷ parts) each apart =

@@ -1,6 +1,6 @@
 -- Rules whose names are held as numbers.
 use Rattle.std.proofs.Common.{rules, ◌≡◌, ℕ, zero, suc, ◌+◌, min, Bool, true, false, if◌then◌else◌, List, [], ◌∷◌, ◌++◌, length, take, get_or, slice_get, Option, Some, None, is_some, option_map, unwrap_or, refl, sym, ap, ◌∙◌, subst, arith, length-append}
-use Rattle.kt_rules.proofs.Common.{names_read, All, length-take, All-cons, All-head, All-nil, All-push, All-tail, All-take, All-weaker, Text, Kinds, Kind, Needs, RecipeLine, Rule, rule_by, is_double, is_group, AreHeld, AreNeeds, AreRuleNumbers, Grows, IsKnown, IsLast, needs_held, rule_held, rules_held, sees}
+use Rattle.kt_rules.proofs.Common.{names_read, All, length-take, All-cons, All-head, All-nil, All-push, All-tail, All-take, All-weaker, Text, Kinds, Kind, Needs, RecipeLine, Entry, rule_by, is_double, is_group, AreHeld, AreNeeds, AreRuleNumbers, GrowsDictionary, IsKnownRow, IsLast, needs_held, rule_held, rules_held, sees}
 use Rattle.kt_rules.proofs.DictionaryLemmas.{list_stays, number_named_if, number_stays_if}
 use Rattle.kt_rules.specs.declared.book.row.NeedsNumbers.{NeedsNumbers}
 use Rattle.kt_rules.specs.declared.book.row.Row.{Row}
@@ -25,18 +25,18 @@ rule_named d lines row targets pattern needs are =
 
 -- ---- what is held, when the dictionary grows
 
-pub needs_stay : (old new : List Text × List (List ℕ)) (needs : Needs) (numbers : NeedsNumbers) → Grows old new → AreNeeds old needs numbers → AreNeeds new needs numbers
+pub needs_stay : (old new : List Text × List (List ℕ)) (needs : Needs) (numbers : NeedsNumbers) → GrowsDictionary old new → AreNeeds old needs numbers → AreNeeds new needs numbers
 needs_stay old new needs numbers grew are = search (rules, list_stays)
 
-rule_stays : (old new : List Text × List (List ℕ)) (targets : List Text) (pattern : Option Text) (needs : Needs) (numbers : RuleNumbers) → Grows old new
+rule_stays : (old new : List Text × List (List ℕ)) (targets : List Text) (pattern : Option Text) (needs : Needs) (numbers : RuleNumbers) → GrowsDictionary old new
     → AreRuleNumbers old targets pattern needs numbers → AreRuleNumbers new targets pattern needs numbers
 rule_stays old new targets pattern needs numbers grew are = search (rules, list_stays, number_stays_if, needs_stay)
 
-pub last_stays : (old new : List Text × List (List ℕ)) (last : Option LastNeeds) → Grows old new → IsLast old last → IsLast new last
+pub last_stays : (old new : List Text × List (List ℕ)) (last : Option LastNeeds) → GrowsDictionary old new → IsLast old last → IsLast new last
 last_stays old new last grew is = grind (arith, needs_stay)
 
-known_more : (old new : List Text × List (List ℕ)) (kinds kinds' : Kinds) → Grows old new → ((other : Kind) → sees kinds other ≡ true → sees kinds' other ≡ true)
-    → (row : Row) → IsKnown kinds old row → IsKnown kinds' new row
+known_more : (old new : List Text × List (List ℕ)) (kinds kinds' : Kinds) → GrowsDictionary old new → ((other : Kind) → sees kinds other ≡ true → sees kinds' other ≡ true)
+    → (row : Row) → IsKnownRow kinds old row → IsKnownRow kinds' new row
 known_more old new kinds kinds' grew kept row known = record {
   seen = kept row.kind known.seen;
   targets = known.targets;
@@ -45,22 +45,22 @@ known_more old new kinds kinds' grew kept row known = record {
   told = rule_stays old new known.targets known.pattern known.needs row.numbers grew known.told;
 }
 
-module _ (old new : List Text × List (List ℕ)) (grew : Grows old new) (kinds : Kinds) where
-  row_more : (lines : List RecipeLine) (row : Row) → IsKnown kinds old row → rule_held new lines row ≡ rule_held old lines row
+module _ (old new : List Text × List (List ℕ)) (grew : GrowsDictionary old new) (kinds : Kinds) where
+  row_more : (lines : List RecipeLine) (row : Row) → IsKnownRow kinds old row → rule_held new lines row ≡ rule_held old lines row
   row_more lines row known =
       rule_named new lines row known.targets known.pattern known.needs (rule_stays old new known.targets known.pattern known.needs row.numbers grew known.told)
       ∙ sym (rule_named old lines row known.targets known.pattern known.needs known.told)
 
-  rules_more : (recipes : List (List RecipeLine)) (rows : List Row) → All (IsKnown kinds old) rows → rules_held new recipes rows ≡ rules_held old recipes rows
+  rules_more : (recipes : List (List RecipeLine)) (rows : List Row) → All (IsKnownRow kinds old) rows → rules_held new recipes rows ≡ rules_held old recipes rows
   rules_more [] rows known = refl
   rules_more (lines ∷ recipes) [] known = refl
   rules_more (lines ∷ recipes) (row ∷ rows) known =
-      let first = row_more lines row (All-head (IsKnown kinds old) row rows known) in
-      let others = rules_more recipes rows (All-tail (IsKnown kinds old) row rows known) in
+      let first = row_more lines row (All-head (IsKnownRow kinds old) row rows known) in
+      let others = rules_more recipes rows (All-tail (IsKnownRow kinds old) row rows known) in
       λ j. first j ∷ others j
 
 module _ (old new : List Text × List (List ℕ)) (recipes : List (List RecipeLine)) (rows : List Row) (kinds : Kinds) (last : Option LastNeeds)
-    (grew : Grows old new) (held : AreHeld old recipes rows kinds last) where
+    (grew : GrowsDictionary old new) (held : AreHeld old recipes rows kinds last) where
   pub grown_rules : rules_held new recipes rows ≡ rules_held old recipes rows
   grown_rules = rules_more old new grew kinds recipes rows held.known
 
@@ -85,7 +85,7 @@ rules_many d (lines ∷ recipes) [] many = refl
 rules_many d (lines ∷ recipes) (row ∷ rows) many = let others = rules_many d recipes rows (omega (arith, many)) in omega (arith, others)
 
 -- the same as a book's rules have it
-pub rule_told : (told : List Text × List Rule) (d : List Text × List (List ℕ)) (recipes : List (List RecipeLine)) (rows : List Row) (place : ℕ) (row : Option Row)
+pub rule_told : (told : List Text × List Entry) (d : List Text × List (List ℕ)) (recipes : List (List RecipeLine)) (rows : List Row) (place : ℕ) (row : Option Row)
     → (d.0, rules_held d recipes rows) ≡ told → length recipes ≡ length rows → row ≡ slice_get rows place
     → option_map (rule_held d (get_or recipes place [])) row ≡ slice_get told.1 place
 rule_told told d recipes rows place row view many is = grind (arith, get_or, rule_found)
@@ -114,7 +114,7 @@ pub first_held : (d : List Text × List (List ℕ)) (recipes recipes' : List (Li
     → recipes' ≡ take count recipes → rows' ≡ take count rows → AreHeld d recipes rows kinds last → AreHeld d recipes' rows' kinds last
 first_held d recipes recipes' rows rows' kinds last count lines is held = record {
   many = ap length lines ∙ length-take count recipes ∙ ap (min count) held.many ∙ sym (length-take count rows) ∙ sym (ap length is);
-  known = subst (All (IsKnown kinds d)) (sym is) (All-take (IsKnown kinds d) count rows held.known);
+  known = subst (All (IsKnownRow kinds d)) (sym is) (All-take (IsKnownRow kinds d) count rows held.known);
   remembered = held.remembered;
 }
 
@@ -122,17 +122,17 @@ first_held d recipes recipes' rows rows' kinds last count lines is held = record
 
 -- no rule is of a kind that there can't be
 none_held : (test : Kind → Bool) (d : List Text × List (List ℕ)) (recipes : List (List RecipeLine)) (rows : List Row) (kinds : Kinds)
-    → ((kind : Kind) → sees kinds kind ≡ true → test kind ≡ false) → All (IsKnown kinds d) rows
+    → ((kind : Kind) → sees kinds kind ≡ true → test kind ≡ false) → All (IsKnownRow kinds d) rows
     → All (λ rule. test rule.kind ≡ false) (rules_held d recipes rows)
 none_held test d [] rows kinds none known = All-nil (λ rule. test rule.kind ≡ false)
 none_held test d (lines ∷ recipes) [] kinds none known = All-nil (λ rule. test rule.kind ≡ false)
-none_held test d (lines ∷ recipes) (row ∷ rows) kinds none known = grind (arith, All-cons, All-head, All-tail, none_held test d recipes rows kinds none (All-tail (IsKnown kinds d) row rows known))
+none_held test d (lines ∷ recipes) (row ∷ rows) kinds none known = grind (arith, All-cons, All-head, All-tail, none_held test d recipes rows kinds none (All-tail (IsKnownRow kinds d) row rows known))
 
-module _ (told : List Text × List Rule) (d : List Text × List (List ℕ)) (recipes : List (List RecipeLine)) (rows : List Row)
+module _ (told : List Text × List Entry) (d : List Text × List (List ℕ)) (recipes : List (List RecipeLine)) (rows : List Row)
     (kinds : Kinds) (last : Option LastNeeds) (view : (d.0, rules_held d recipes rows) ≡ told) (held : AreHeld d recipes rows kinds last) where
   none_told : (test : Kind → Bool) → ((kind : Kind) → sees kinds kind ≡ true → test kind ≡ false) → All (λ rule. test rule.kind ≡ false) told.1
   none_told test none =
-      subst (λ (all : List Text × List Rule). All (λ rule. test rule.kind ≡ false) all.1) view
+      subst (λ (all : List Text × List Entry). All (λ rule. test rule.kind ≡ false) all.1) view
       (none_held test d recipes rows kinds none held.known)
 
   pub none_double : kinds.double ≡ false → All (λ rule. is_double rule.kind ≡ false) told.1
@@ -162,7 +162,7 @@ recipe_back recipe = grind arith
 
 module _ (old new : List Text × List (List ℕ)) (recipes recipes' : List (List RecipeLine)) (rows rows' : List Row)
     (kinds : Kinds) (last : Option LastNeeds) (lines : List RecipeLine) (row : Row) (targets : List Text) (pattern : Option Text) (needs : Needs)
-    (grew : Grows old new) (held : AreHeld old recipes rows kinds last) (are : AreRuleNumbers new targets pattern needs row.numbers) (lined : recipes' ≡ recipes ++ lines ∷ []) (is : rows' ≡ rows ++ row ∷ []) where
+    (grew : GrowsDictionary old new) (held : AreHeld old recipes rows kinds last) (are : AreRuleNumbers new targets pattern needs row.numbers) (lined : recipes' ≡ recipes ++ lines ∷ []) (is : rows' ≡ rows ++ row ∷ []) where
   pub pushed_held : (kinds' : Kinds) (last' : Option LastNeeds) → ((other : Kind) → sees kinds other ≡ true → sees kinds' other ≡ true) → sees kinds' row.kind ≡ true
       → (IsLast new last → IsLast new last') → AreHeld new recipes' rows' kinds' last'
   pushed_held kinds' last' kept seen next =
@@ -170,8 +170,8 @@ module _ (old new : List Text × List (List ℕ)) (recipes recipes' : List (List
       let many_recipes : length recipes' ≡ length recipes + 1 = ap length lined ∙ length-append recipes (lines ∷ []) in
       record {
         many = omega (arith, many, many_recipes, held.many);
-        known = subst (All (IsKnown kinds' new)) (sym is)
-            (All-push (IsKnown kinds' new) rows row (All-weaker (IsKnown kinds old) (IsKnown kinds' new) (known_more old new kinds kinds' grew kept) rows held.known)
+        known = subst (All (IsKnownRow kinds' new)) (sym is)
+            (All-push (IsKnownRow kinds' new) rows row (All-weaker (IsKnownRow kinds old) (IsKnownRow kinds' new) (known_more old new kinds kinds' grew kept) rows held.known)
             (record {
               seen = seen;
               targets = targets;

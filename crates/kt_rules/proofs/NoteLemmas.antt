@@ -1,6 +1,6 @@
 -- Spots of names, by the names' places in a list.
 use Rattle.std.proofs.Common.{◌≡◌, ℕ, zero, suc, ◌+◌, ◌<◌, ◌≤◌, Bool, true, false, nat_eq, if◌then◌else◌, List, [], ◌∷◌, ◌++◌, length, map, drop, get_or, Option, Some, None, slice_get, refl, sym, ap, ◌∙◌, subst, arith, length-append}
-use Rattle.kt_rules.proofs.Common.{bytes_eq, AllByRecursion, IsDistinct, position_from, option_or, eqb-true, eq-eqb, nat_list_eq_equiv, append-nil, append_assoc, get_or_past, drop_all, position_from-zero, bytes_eq-Decides, place_of, number_found, Text, Target, Spot, is_made, Rule, list_of, spots_at, spot_at, target_spots, spots_from, spots_for, AreIn, GrewAt, GrewIn}
+use Rattle.kt_rules.proofs.Common.{bytes_eq, AllByRecursion, IsDistinct, position_from, option_or, eqb-true, eq-eqb, nat_list_eq_equiv, append-nil, append_assoc, get_or_past, drop_all, position_from-zero, bytes_eq-Decides, place_of, number_found, Text, Target, Spot, is_made, Entry, list_of, spots_at, spot_at, target_spots, spots_from, spots_for, AreIn, GrewAt, GrewIn}
 use Rattle.std.proofs.lemmas.Map.Keys.{IsDistinct-head, IsDistinct-tail}
 use Rattle.kt_rules.specs.inner.Lists.{Notes, list_at}
 use Rattle.kt_rules.proofs.SpotLemmas.{in_append, in_target_spots}
@@ -120,7 +120,7 @@ grew_at_names names place old new grew = λ name. by (place_of names name)
     by (Some number) = grew number
 
 -- the spot of a target that is made
-pub target_noted : (names : List Text) (rule : Rule) (target : Target) (number : ℕ) (spot : Spot) (b : Bool) (old new : List (List Spot)) → IsDistinct bytes_eq names
+pub target_noted : (names : List Text) (rule : Entry) (target : Target) (number : ℕ) (spot : Spot) (b : Bool) (old new : List (List Spot)) → IsDistinct bytes_eq names
     → slice_get names number ≡ Some target.name → is_made rule target ≡ true
     → ((other : ℕ) → list_at new other ≡ list_at old other ++ (if b then (if nat_eq other number then spot ∷ [] else []) else []))
     → (name : Text) → spots_at (names, new) name ≡ spots_at (names, old) name ++ (if b then target_spots rule target spot name else [])
@@ -140,17 +140,17 @@ grew_both place old now new first later = λ name.
     (one.0 ++ two.0, two.1 ∙ ap (λ xs. xs ++ two.0) one.1 ∙ append_assoc (spots_at old name) one.0 two.0, in_append place one.0 two.0 one.2 two.2)
 
 -- the spots of the remaining targets are still to be noted, if any are noted
-abbrev pub IsNotedFrom : Bool → Rule → ℕ → ℕ → List Target → Notes → Notes → Type 0
+abbrev pub IsNotedFrom : Bool → Entry → ℕ → ℕ → List Target → Notes → Notes → Type 0
 IsNotedFrom b rule place number left old now =
     (name : Text) → spots_at now name ++ (if b then spots_from rule place number left name else [])
     ≡ spots_at old name ++ (if b then spots_for rule place name else [])
 
-pub noted_start : (b : Bool) (rule : Rule) (place number : ℕ) (left : List Target) (notes : Notes) → number ≡ 0 → left ≡ rule.targets
+pub noted_start : (b : Bool) (rule : Entry) (place number : ℕ) (left : List Target) (notes : Notes) → number ≡ 0 → left ≡ rule.targets
     → IsNotedFrom b rule place number left notes notes
 noted_start b rule place number left notes none all = grind arith
 
 -- one target's spots, and then those of the targets after it
-pub noted_step : (b : Bool) (rule : Rule) (place number next : ℕ) (target : Target) (left rest : List Target) (old now new : Notes)
+pub noted_step : (b : Bool) (rule : Entry) (place number next : ℕ) (target : Target) (left rest : List Target) (old now new : Notes)
     → left ≡ target ∷ rest → next ≡ number + 1
     → ((name : Text) → spots_at new name ≡ spots_at now name ++ (if b then target_spots rule target (spot_at place number) name else []))
     → IsNotedFrom b rule place number left old now → IsNotedFrom b rule place next rest old new
@@ -158,13 +158,13 @@ unfolding spots_from
 noted_step b rule place number next target left rest old now new is more step before = grind (arith, append_assoc, append-nil)
 
 -- all spots were noted
-pub noted_end : (b : Bool) (rule : Rule) (place number : ℕ) (left : List Target) (old now : Notes) → left ≡ [] → IsNotedFrom b rule place number left old now
+pub noted_end : (b : Bool) (rule : Entry) (place number : ℕ) (left : List Target) (old now : Notes) → left ≡ [] → IsNotedFrom b rule place number left old now
     → (name : Text) → spots_at now name ≡ spots_at old name ++ (if b then spots_for rule place name else [])
 unfolding spots_from
 noted_end b rule place number left old now none before = grind (arith, append-nil)
 
 -- what one target's spots add is in the slot
-pub grew_target : (b : Bool) (rule : Rule) (place number : ℕ) (target : Target) (now new : Notes)
+pub grew_target : (b : Bool) (rule : Entry) (place number : ℕ) (target : Target) (now new : Notes)
     → ((name : Text) → spots_at new name ≡ spots_at now name ++ (if b then target_spots rule target (spot_at place number) name else []))
     → GrewIn place now new
 grew_target true rule place number target now new step = λ name.

@@ -1,6 +1,6 @@
 -- The numbers of the entries of explicit rules.
 use Rattle.std.proofs.Common.{rules, ◌≡◌, ℕ, ◌+◌, ◌<◌, ◌&&◌, not, Bool, cond, if◌then◌else◌, List, [], ◌∷◌, ◌++◌, length, map, filter, drop, get_or, suc, Option, Some, slice_get, refl, sym, ap, ◌∙◌, arith}
-use Rattle.kt_rules.proofs.Common.{enumerate_from, flat_map, bytes_eq, drop_more, map-append, filter-append, bytes_eq-Decides, Text, Target, Rule, suffixes_of, is_suffix_rule, is_made, is_explicit, target_rules, rules_of, explicit_rules, numbers_in, explicit_numbers, NumbersTellRules}
+use Rattle.kt_rules.proofs.Common.{enumerate_from, flat_map, bytes_eq, drop_more, map-append, filter-append, bytes_eq-Decides, Text, Target, Entry, suffixes_of, is_suffix_rule, is_made, is_explicit, target_rules, rules_of, explicit_rules, numbers_in, explicit_numbers, NumbersTellRules}
 
 -- a number for each item that passes a test, from a place on
 pub numbers_at : {A : Type 0} (test : A → Bool) (n : ℕ) (xs : List A) (i : ℕ) (x : A) → i < length xs → x ≡ get_or xs i x
@@ -13,13 +13,13 @@ pub numbers_left : {A : Type 0} (test : A → Bool) (n : ℕ) (left rest : List 
 numbers_left {A} test n left rest x is = grind (arith, cond)
 
 -- all rules are still to come
-pub numbers_start : (rules left : List Rule) (count : ℕ) (name : Text) → left ≡ rules → count ≡ 0
+pub numbers_start : (rules left : List Entry) (count : ℕ) (name : Text) → left ≡ rules → count ≡ 0
     → flat_map (numbers_in (suffixes_of rules) name) (enumerate_from count left) ≡ explicit_numbers rules name
 unfolding explicit_numbers
 numbers_start rules left count name are none = grind arith
 
 -- one rule, and then those after it
-pub numbers_step : (suffixes : List Text) (name : Text) (rule : Rule) (left rest : List Rule) (count next : ℕ) → left ≡ rule ∷ rest → next ≡ count + 1
+pub numbers_step : (suffixes : List Text) (name : Text) (rule : Entry) (left rest : List Entry) (count next : ℕ) → left ≡ rule ∷ rest → next ≡ count + 1
     → flat_map (numbers_in suffixes name) (enumerate_from count left)
     ≡ numbers_in suffixes name (count, rule) ++ flat_map (numbers_in suffixes name) (enumerate_from next rest)
 numbers_step suffixes name rule left rest count next are more = grind arith
@@ -40,29 +40,29 @@ module _ {A B C D : Type 0} (make : A → B) (made test : A → Bool) (named kep
   picked parts same (x ∷ xs) = grind (arith, picked_step, picked parts same xs)
 
 -- the test of a target as its parts
-parts_of : (suffixes : List Text) (name : Text) (rule : Rule) (target : Target)
+parts_of : (suffixes : List Text) (name : Text) (rule : Entry) (target : Target)
     → (bytes_eq name target.name && is_explicit suffixes (rule, target))
     ≡ (bytes_eq name target.name && (is_made rule target && not (is_suffix_rule suffixes name (rule, target))))
 parts_of suffixes name rule target = grind (arith, not, bytes_eq-Decides)
 
 -- the explicit rules of a name, where these are the suffixes
-abbrev named_rules : List Text → Text → List (Rule × Target) → List (Rule × Target)
+abbrev named_rules : List Text → Text → List (Entry × Target) → List (Entry × Target)
 named_rules suffixes name all =
-    filter (λ (made : Rule × Target). not (is_suffix_rule suffixes name made)) (filter (λ (made : Rule × Target). bytes_eq name made.1.name) all)
+    filter (λ (made : Entry × Target). not (is_suffix_rule suffixes name made)) (filter (λ (made : Entry × Target). bytes_eq name made.1.name) all)
 
-abbrev rule_of : Rule × Target → Option Rule
+abbrev rule_of : Entry × Target → Option Entry
 rule_of made = Some made.0
 
-one_rule : (suffixes : List Text) (name : Text) (all : List Rule) (n : ℕ) (rule : Rule) → slice_get all n ≡ Some rule
+one_rule : (suffixes : List Text) (name : Text) (all : List Entry) (n : ℕ) (rule : Entry) → slice_get all n ≡ Some rule
     → map rule_of (named_rules suffixes name (target_rules rule)) ≡ map (slice_get all) (numbers_in suffixes name (n, rule))
 one_rule suffixes name all n rule is = grind (arith, picked, not, parts_of)
 
-named_append : (suffixes : List Text) (name : Text) (one others : List (Rule × Target))
+named_append : (suffixes : List Text) (name : Text) (one others : List (Entry × Target))
     → map rule_of (named_rules suffixes name (one ++ others)) ≡ map rule_of (named_rules suffixes name one) ++ map rule_of (named_rules suffixes name others)
 named_append suffixes name one others = grind (arith, not, filter-append, map-append)
 
 -- the rules from a number on
-rules_from : (suffixes : List Text) (name : Text) (all : List Rule) (n : ℕ) (rules : List Rule) → ((i : ℕ) → slice_get all (n + i) ≡ slice_get rules i)
+rules_from : (suffixes : List Text) (name : Text) (all : List Entry) (n : ℕ) (rules : List Entry) → ((i : ℕ) → slice_get all (n + i) ≡ slice_get rules i)
     → map rule_of (named_rules suffixes name (flat_map target_rules rules)) ≡ map (slice_get all) (flat_map (numbers_in suffixes name) (enumerate_from n rules))
 rules_from suffixes name all n [] at = refl
 rules_from suffixes name all n (rule ∷ rules) at =

@@ -1,6 +1,6 @@
 -- The words and names of a text without a backslash, in which no separator is quoted.
 use Rattle.std.proofs.Common.{arith, ◌≡◌, false, List, [], ◌∷◌, map, filter, refl, ap, ⊎_elim, ◌==◌}
-use Rattle.kt_rules.proofs.Common.{list_any, onto_first, slice_split, cases_Bool, or_parts, Text, is_nonempty, is_separator, words_of, Separator, name_of, pieces_of, without_dots, written_words, needs_of}
+use Rattle.kt_rules.proofs.Common.{list_any, onto_first, slice_split, cases_Bool, or_parts, Text, is_nonempty, is_separator, words_of, Separator, name_of, cut_pieces, without_dots, written_words, needs_of}
 use Rattle.kt_rules.specs.inner.Telling.{is_backslash}
 use Rattle.kt_rules.proofs.BackslashLemmas.{names_itself}
 use Rattle.kt_rules.proofs.NeedsLemmas.{before_all, needs_from}
@@ -8,8 +8,8 @@ use Rattle.kt_rules.proofs.NoneLemmas.{none_left, none_taken}
 use Rattle.kt_rules.proofs.SignLemmas.{none_in_words}
 
 -- it is cut at each separator
-plain_pieces : (text : Text) → list_any is_backslash text ≡ false → pieces_of Separator false text ≡ slice_split is_separator text
-unfolding pieces_of
+plain_pieces : (text : Text) → list_any is_backslash text ≡ false → cut_pieces Separator false text ≡ slice_split is_separator text
+unfolding cut_pieces
 plain_pieces [] none = refl
 plain_pieces (byte ∷ text) none =
     let parts = or_parts (byte == 92) (list_any is_backslash text) none in

@@ -1,7 +1,7 @@
 -- Unquoting: which backslashes are removed, and that every other byte stays.
 use Rattle.std.proofs.Common.{arith, ◌≡◌, ℕ, Bool, true, false, List, [], ◌∷◌, ◌++◌, flat_map, All, refl, ap, ◌∙◌, true≢false, ◌==◌, ◌&&◌}
 use Rattle.kt_rules.proofs.Common.{list_all, and_from, eqb-true, All-cons, All-head, All-nil, All-tail, none_in, tail_is, and_first, and_nothing, and_second, Text, is_quotable, begins_quotable, unquoted}
-use Rattle.kt_rules.specs.HeadWords.{HoldsNoQuote, quoted_text, piece_text, IsUnquoted, UnquotedLaw}
+use Rattle.kt_rules.specs.HeadWords.{HoldsNoQuote, quoted_text, head_piece_text, IsUnquoted, UnquotedLaw}
 
 -- a text that holds no backslash that quotes, without its first byte
 holds_less : (byte : ℕ) (text : Text) → HoldsNoQuote (byte ∷ text) → HoldsNoQuote text
@@ -48,7 +48,7 @@ one_quoted piece rest h = one_goes (piece ++ rest) (begins_too piece rest h)
 -- unquoting puts the pieces together
 pieces_stay : (first : Text) (pieces : List Text) → list_all begins_quotable pieces ≡ true
     → All HoldsNoQuote (first ∷ pieces)
-    → unquoted (first ++ flat_map quoted_text pieces) ≡ first ++ flat_map piece_text pieces
+    → unquoted (first ++ flat_map quoted_text pieces) ≡ first ++ flat_map head_piece_text pieces
 unfolding unquoted
 pieces_stay first [] q h = piece_stays first [] (All-head HoldsNoQuote first [] h) refl
 pieces_stay first (piece ∷ pieces) q h =

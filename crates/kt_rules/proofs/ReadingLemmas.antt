@@ -1,6 +1,6 @@
 -- The rule of a line, from the results of the steps that read it.
 use Rattle.std.proofs.Common.{arith, ◌≡◌, ℕ, true, false, List, [], ◌∷◌, filter, refl, sym, ◌∙◌, ap, ⊎_elim, Option, Result, Ok, Err}
-use Rattle.kt_rules.proofs.Common.{list_all, onto_first, slice_split, cases_Bool, Text, is_nonempty, is_separator, words_of, RuleFault, Line, Refusal, Fault, GivesExpected, ReportsFault, fault_at, faults_at, Head, head_of, line_of, Rule, empty_line, is_nil, read_line, rule_of, rule_with, rules_with, tested_line}
+use Rattle.kt_rules.proofs.Common.{list_all, onto_first, slice_split, cases_Bool, Text, is_nonempty, is_separator, words_of, RuleFault, HeadNames, Refusal, Fault, GivesExpected, ReportsFault, fault_at, faults_at, Head, head_of, line_of, Entry, empty_line, is_nil, head_names, rule_of, rule_with, rules_with, tested_line}
 use Rattle.kt_text.proofs.WordLemmas.{words_of-nil, words_of-skip}
 use Rattle.kt_rules.specs.declared.place.Place.{Place}
 
@@ -23,19 +23,19 @@ told_fault told fault expected tells is = grind arith
 
 module _ (text : Text) (recipe : Option Text) (place : Place) where
   -- a head without a word
-  pub blank_rule : (line : Line) (rule : Rule) → is_nil (words_of text) ≡ true → line ≡ empty_line → rule ≡ rule_with line recipe place
+  pub blank_rule : (line : HeadNames) (rule : Entry) → is_nil (words_of text) ≡ true → line ≡ empty_line → rule ≡ rule_with line recipe place
       → rule_of text recipe place ≡ Ok rule
-  unfolding rule_of read_line
+  unfolding rule_of head_names
   blank_rule line rule blank empty is = rw blank (ap Ok (sym (is ∙ ap (λ l. rule_with l recipe place) empty)))
 
   -- a head that is refused
   pub head_fault : (refusal : Refusal) → is_nil (words_of text) ≡ false → Err refusal ≡ head_of text
       → rule_of text recipe place ≡ Err (fault_at place refusal)
-  unfolding rule_of read_line
+  unfolding rule_of head_names
   head_fault refusal filled head = rw (filled, ← head) refl
 
   -- a head whose line is then tested
-  pub line_tested : (head : Head) (line : Line) → is_nil (words_of text) ≡ false → Ok head ≡ head_of text → line ≡ line_of head
+  pub line_tested : (head : Head) (line : HeadNames) → is_nil (words_of text) ≡ false → Ok head ≡ head_of text → line ≡ line_of head
       → rule_of text recipe place ≡ faults_at place (rules_with (tested_line line) recipe place)
-  unfolding rule_of read_line
+  unfolding rule_of head_names
   line_tested head line filled cut named = rw (filled, ← cut, ← named) refl

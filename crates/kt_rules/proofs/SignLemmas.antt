@@ -1,6 +1,6 @@
 -- What the bytes of a head tell of its names: each byte of a name is one of its text, or of `./`.
 use Rattle.std.proofs.Common.{rules, ◌≡◌, ℕ, Bool, true, false, not, List, [], ◌∷◌, length, take, map, fold, Option, Some, None, is_some, refl, ⊎_elim, arith, ◌==◌, ◌&&◌, ◌||◌, option_map}
-use Rattle.kt_rules.proofs.Common.{list_any, onto_first, cases_Bool, le-ltb, lt-ltb, or_parts, IsFirstByte, is_byte3, Text, is_nonempty, list_any-place, first_byte_place, has_percent, is_percent, Separator, Line, after_dots, begins_quotable, cuts, is_refused_name, is_wildcard, name_of, pieces_of, unquoted, with_name, without_dots, without_repeats, written_words, Head, line_of, name_refusal, needs_of, option_list, tested_needs}
+use Rattle.kt_rules.proofs.Common.{list_any, onto_first, cases_Bool, le-ltb, lt-ltb, or_parts, IsFirstByte, is_byte3, Text, is_nonempty, list_any-place, first_byte_place, has_percent, is_percent, Separator, HeadNames, after_dots, begins_quotable, cuts, is_refused_name, is_wildcard, name_of, cut_pieces, unquoted, with_name, without_dots, without_repeats, written_words, Head, line_of, name_refusal, needs_of, option_list, tested_needs}
 use Rattle.kt_rules.specs.declared.signs.Signs.{Signs}
 use Rattle.kt_rules.specs.inner.Telling.{Tells, is_backslash, is_telling, signs_of}
 use Rattle.kt_rules.proofs.NoneLemmas.{none_found, none_joined, none_kept, none_left, none_more, none_of_fewer, none_taken}
@@ -29,18 +29,18 @@ module _ (test : ℕ → Bool) where
       → list_any (list_any test) (onto_first byte pieces) ≡ false
   none_first byte pieces here none = grind (arith, or_parts, none_more)
 
-  none_in_pieces : (past : Bool) (text : Text) → list_any test text ≡ false → list_any (list_any test) (pieces_of Separator past text) ≡ false
-  unfolding pieces_of
+  none_in_pieces : (past : Bool) (text : Text) → list_any test text ≡ false → list_any (list_any test) (cut_pieces Separator past text) ≡ false
+  unfolding cut_pieces
   none_in_pieces past [] none = refl
   none_in_pieces past (byte ∷ text) none =
       let parts = or_parts (test byte) (list_any test text) none in
       ⊎_elim (λ h. rw h (none_in_pieces false text parts.1))
-      (λ h. rw h (none_first byte (pieces_of Separator (byte == 92) text) parts.0 (none_in_pieces (byte == 92) text parts.1)))
+      (λ h. rw h (none_first byte (cut_pieces Separator (byte == 92) text) parts.0 (none_in_pieces (byte == 92) text parts.1)))
       (cases_Bool (cuts Separator past byte))
 
   pub none_in_words : (text : Text) → list_any test text ≡ false → list_any (list_any test) (written_words text) ≡ false
   unfolding written_words
-  none_in_words text none = none_kept (list_any test) is_nonempty (pieces_of Separator false text) (none_in_pieces false text none)
+  none_in_words text none = none_kept (list_any test) is_nonempty (cut_pieces Separator false text) (none_in_pieces false text none)
 
   none_unquoted : (word : Text) → list_any test word ≡ false → list_any test (unquoted word) ≡ false
   unfolding unquoted
@@ -106,7 +106,7 @@ some_accepted : (words : List Text) → list_any (list_any is_telling) words ≡
 unfolding is_wildcard
 some_accepted words none = accepted (map name_of words) (none_named is_telling words refl refl none)
 
-needs_accepted : (line : Line) (text : Text) → list_any is_telling text ≡ false → line.needs ≡ needs_of (written_words text)
+needs_accepted : (line : HeadNames) (text : Text) → list_any is_telling text ≡ false → line.needs ≡ needs_of (written_words text)
     → list_any is_refused_name (tested_needs line) ≡ false
 unfolding tested_needs needs_of
 needs_accepted line text none is = grind (arith, none_in_words, some_accepted, take, none_taken, none_left, ⊎_elim, none_joined, cases_Bool)
@@ -129,5 +129,5 @@ plain_text_of_targets head signs is none = grind (arith, no_backslash_in, or_par
 pub plain_text_of_needs : (head : Head) (signs : Signs) → signs ≡ signs_of head → signs.telling ≡ false → list_any is_backslash head.needs ≡ false
 plain_text_of_needs head signs is none = grind (arith, no_backslash_in, or_parts)
 
-pub signs_tell : (head : Head) (signs : Signs) (line : Line) → signs ≡ signs_of head → line ≡ line_of head → Tells signs line
+pub signs_tell : (head : Head) (signs : Signs) (line : HeadNames) → signs ≡ signs_of head → line ≡ line_of head → Tells signs line
 signs_tell head signs line told is = rw (told, is) (record { names = none_refused head; targets = no_percent head })

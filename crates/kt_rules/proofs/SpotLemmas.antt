@@ -1,43 +1,43 @@
 -- Spots as rules are added.
 use Rattle.std.proofs.Common.{rules, ◌≡◌, ℕ, ◌+◌, ◌<◌, cond, nat_lt, Bool, if◌then◌else◌, List, [], ◌∷◌, ◌++◌, length, drop, Some, None, refl, sym, ap, ◌∙◌, arith, slice_get, zero, suc, is_some}
-use Rattle.kt_rules.proofs.Common.{option_and_then, cons_option, append-nil, filter-append, filter_map-append, le-ltb, lt-ltb, Text, Target, Spot, Rule, target_rule, spot_rule, spots_at, spots_before, found, spot_at, target_spots, spots_from, spots_for, AreBefore, AreIn, ForgotFrom, GrewIn, GotSpots, GotRecipes}
+use Rattle.kt_rules.proofs.Common.{option_and_then, cons_option, append-nil, filter-append, filter_map-append, le-ltb, lt-ltb, Text, Target, Spot, Entry, target_rule, spot_rule, spots_at, spots_before, found, spot_at, target_spots, spots_from, spots_for, AreBefore, AreIn, ForgotFrom, GrewIn, GotSpots, GotRecipes}
 use Rattle.kt_rules.specs.inner.Lists.{Notes, list_at}
 
 -- a rule stays at its place
-rule_kept : (rules : List Rule) (rule : Rule) (place : ℕ) → place < length rules → slice_get (rules ++ rule ∷ []) place ≡ slice_get rules place
+rule_kept : (rules : List Entry) (rule : Entry) (place : ℕ) → place < length rules → slice_get (rules ++ rule ∷ []) place ≡ slice_get rules place
 rule_kept [] rule place h = absurd (omega arith)
 rule_kept (first ∷ rules) rule zero h = refl
 rule_kept (first ∷ rules) rule (suc place) h = rule_kept rules rule place (omega arith)
 
 -- the last rule
-pub rule_last : (rules : List Rule) (rule : Rule) → slice_get (rules ++ rule ∷ []) (length rules) ≡ Some rule
+pub rule_last : (rules : List Entry) (rule : Entry) → slice_get (rules ++ rule ∷ []) (length rules) ≡ Some rule
 rule_last [] rule = refl
 rule_last (first ∷ rules) rule = rule_last rules rule
 
 -- the rule at a place, and those after it
-pub rules_left : (rules : List Rule) (place : ℕ) (rule : Rule) → Some rule ≡ slice_get rules place → drop place rules ≡ rule ∷ drop (place + 1) rules
+pub rules_left : (rules : List Entry) (place : ℕ) (rule : Entry) → Some rule ≡ slice_get rules place → drop place rules ≡ rule ∷ drop (place + 1) rules
 rules_left [] zero rule h = absurd (cc h)
 rules_left [] (suc place) rule h = absurd (cc h)
-rules_left (first ∷ rules) zero rule h = let same : rule ≡ first = cc in ap (λ (one : Rule). one ∷ rules) (sym same)
+rules_left (first ∷ rules) zero rule h = let same : rule ≡ first = cc in ap (λ (one : Entry). one ∷ rules) (sym same)
 rules_left (first ∷ rules) (suc place) rule h = grind (arith, rules_left rules place rule h)
 
 -- no rule is at a place after the last
-pub rules_end : (rules : List Rule) (place : ℕ) → None ≡ slice_get rules place → drop place rules ≡ []
+pub rules_end : (rules : List Entry) (place : ℕ) → None ≡ slice_get rules place → drop place rules ≡ []
 rules_end [] zero h = refl
 rules_end [] (suc place) h = refl
 rules_end (first ∷ rules) zero h = absurd (cc h)
 rules_end (first ∷ rules) (suc place) h = rules_end rules place h
 
-nothing : (place : ℕ) → drop {A = Rule} place [] ≡ []
+nothing : (place : ℕ) → drop {A = Entry} place [] ≡ []
 nothing place = grind arith
 
-pub rules_past : (rules : List Rule) (place : ℕ) → None ≡ slice_get rules place → drop place rules ≡ drop (place + 1) rules
+pub rules_past : (rules : List Entry) (place : ℕ) → None ≡ slice_get rules place → drop place rules ≡ drop (place + 1) rules
 rules_past [] place h = nothing place ∙ sym (nothing (place + 1))
 rules_past (first ∷ rules) zero h = absurd (cc h)
 rules_past (first ∷ rules) (suc place) h = grind (arith, rules_past rules place h)
 
 -- spots of the rules before a new one find what they found
-pub found-before : (rules : List Rule) (rule : Rule) (spots : List Spot) → AreBefore (length rules) spots
+pub found-before : (rules : List Entry) (rule : Entry) (spots : List Spot) → AreBefore (length rules) spots
     → found (rules ++ rule ∷ []) spots ≡ found rules spots
 unfolding found
 found-before rules rule [] h = refl
@@ -45,7 +45,7 @@ found-before rules rule (spot ∷ spots) h =
     ap (λ r. cons_option (option_and_then (λ one. target_rule one spot.target) r) (found (rules ++ rule ∷ []) spots)) (rule_kept rules rule spot.entry h.0)
     ∙ ap (cons_option (spot_rule rules spot)) (found-before rules rule spots h.1)
 
-pub found-append : (rules : List Rule) (spots more : List Spot) → found rules (spots ++ more) ≡ found rules spots ++ found rules more
+pub found-append : (rules : List Entry) (spots more : List Spot) → found rules (spots ++ more) ≡ found rules spots ++ found rules more
 unfolding found
 found-append rules spots more = filter_map-append (spot_rule rules) spots more
 
@@ -68,11 +68,11 @@ in_append place (spot ∷ spots) more h k = (h.0, in_append place spots more h.1
 in_if : (place number : ℕ) (b : Bool) → AreIn place (if b then spot_at place number ∷ [] else [])
 in_if place number b = grind arith
 
-pub in_target_spots : (rule : Rule) (target : Target) (place number : ℕ) (name : Text) → AreIn place (target_spots rule target (spot_at place number) name)
+pub in_target_spots : (rule : Entry) (target : Target) (place number : ℕ) (name : Text) → AreIn place (target_spots rule target (spot_at place number) name)
 in_target_spots rule target place number name = grind (arith, in_if)
 
 -- the spots of a rule are its own
-pub in_spots_from : (rule : Rule) (place number : ℕ) (targets : List Target) (name : Text) → AreIn place (spots_from rule place number targets name)
+pub in_spots_from : (rule : Entry) (place number : ℕ) (targets : List Target) (name : Text) → AreIn place (spots_from rule place number targets name)
 unfolding spots_from
 in_spots_from rule place number [] name = tt
 in_spots_from rule place number (target ∷ targets) name = grind (arith, in_append, in_target_spots, in_spots_from rule place (number + 1) targets name)
@@ -123,12 +123,12 @@ abbrev pub forgot_before : ℕ → ℕ → List (List Spot) → ℕ → List Spo
 forgot_before place number old other = if nat_lt other number then spots_before place (list_at old other) else list_at old other
 
 -- spots that a rule got are its own
-pub grew_spots : (rule : Rule) (place : ℕ) (old new : Notes) → GotSpots rule place old new → GrewIn place old new
+pub grew_spots : (rule : Entry) (place : ℕ) (old new : Notes) → GotSpots rule place old new → GrewIn place old new
 grew_spots rule place old new got = λ name. (spots_for rule place name, got name, in_spots_from rule place 0 rule.targets name)
 
-in_spots_if : (rule : Rule) (place : ℕ) (name : Text) (b : Bool) → AreIn place (if b then spots_for rule place name else [])
+in_spots_if : (rule : Entry) (place : ℕ) (name : Text) (b : Bool) → AreIn place (if b then spots_for rule place name else [])
 in_spots_if rule place name b = grind (arith, in_spots_from)
 
-pub grew_recipes : (rule : Rule) (place : ℕ) (old new : Notes) → GotRecipes rule place old new → GrewIn place old new
+pub grew_recipes : (rule : Entry) (place : ℕ) (old new : Notes) → GotRecipes rule place old new → GrewIn place old new
 grew_recipes rule place old new got = λ name.
     ((if is_some rule.recipe then spots_for rule place name else []), got name, in_spots_if rule place name (is_some rule.recipe))

@@ -1,6 +1,6 @@
 -- Suffixes in a name, by their lengths.
 use Rattle.std.proofs.Common.{rules, ◌≡◌, ℕ, zero, suc, ◌+◌, ◌-◌, ◌<◌, ◌≤◌, Bool, true, false, cond, ◌&&◌, ◌||◌, List, [], ◌∷◌, ◌++◌, find, fold, position, length, take, drop, Option, Some, None, IfSome, refl, sym, ap, subst, ◌∙◌, true≢false, arith, get_or, slice_get, Result, OnOk, OnErr, ◌≢◌, min, nat_eq, nat_lt, if◌then◌else◌}
-use Rattle.kt_rules.proofs.Common.{option_and_then, ends_with, position_from, position_or_len, range_with_len, pointwise, as_long, nat_list_eq_equiv, eq-eqb, eqb-true, lt-ltb, ltb-false, ltb-true, or_left, or_right, IfSome_then, slice_get_past, position_from-zero, fold-append, drop_more, drop_all, length-drop, length-take-le, and_first, Text, is_among, with_name, HaveLengths, KeepLengths, cut_after, earlier, end_of_length, first_cut, first_end, goes_on, is_number, lengths_with, with_number, Needs, all_needs, is_cut_at, suffix_cut}
+use Rattle.kt_rules.proofs.Common.{option_and_then, ends_with, position_from, position_or_len, range_with_len, pointwise, as_long, nat_list_eq_equiv, eq-eqb, eqb-true, lt-ltb, ltb-false, ltb-true, or_left, or_right, IfSome_then, slice_get_past, position_from-zero, fold-append, drop_more, drop_all, length-drop, length-take-le, and_first, Text, is_among, with_name, HaveLengths, KeepLengths, cut_after, earlier, end_of_length, first_cut, first_end, is_cut_inside, is_number_among, lengths_with, with_number, Needs, all_needs, is_cut_at, suffix_cut}
 use Rattle.std.proofs.lemmas.List.Folds as folds
 
 -- ---- lengths
@@ -10,22 +10,22 @@ or_either P true b h one two = one refl
 or_either P false b h one two = two h
 
 -- a number that is added is at the end
-last_number : (numbers : List ℕ) (number : ℕ) → is_number (numbers ++ number ∷ []) number ≡ true
+last_number : (numbers : List ℕ) (number : ℕ) → is_number_among (numbers ++ number ∷ []) number ≡ true
 last_number [] number = or_left (nat_eq number number) false (eq-eqb number number refl)
 last_number (first ∷ numbers) number = or_right (nat_eq number first) _ (last_number numbers number)
 
-more_numbers : (numbers : List ℕ) (number other : ℕ) → is_number numbers other ≡ true → is_number (numbers ++ number ∷ []) other ≡ true
+more_numbers : (numbers : List ℕ) (number other : ℕ) → is_number_among numbers other ≡ true → is_number_among (numbers ++ number ∷ []) other ≡ true
 more_numbers [] number other h = absurd (true≢false (sym h))
 more_numbers (first ∷ numbers) number other h =
-    or_either (is_number (first ∷ numbers ++ number ∷ []) other ≡ true) (nat_eq other first) (is_number numbers other) h
+    or_either (is_number_among (first ∷ numbers ++ number ∷ []) other ≡ true) (nat_eq other first) (is_number_among numbers other) h
     (or_left (nat_eq other first) _)
     (λ e. or_right (nat_eq other first) _ (more_numbers numbers number other e))
 
 -- a number that is added is among the numbers, and the others stay
-number_added : (numbers : List ℕ) (number : ℕ) → is_number (with_number numbers number) number ≡ true
+number_added : (numbers : List ℕ) (number : ℕ) → is_number_among (with_number numbers number) number ≡ true
 number_added numbers number = grind (arith, last_number)
 
-number_kept : (numbers : List ℕ) (number other : ℕ) → is_number numbers other ≡ true → is_number (with_number numbers number) other ≡ true
+number_kept : (numbers : List ℕ) (number other : ℕ) → is_number_among numbers other ≡ true → is_number_among (with_number numbers number) other ≡ true
 number_kept numbers number other h = grind (arith, more_numbers)
 
 -- one length more keeps those of all names
@@ -47,18 +47,18 @@ among_more (first ∷ names) name other h =
 name_added : (names : List Text) (lengths : List ℕ) (name : Text) → HaveLengths names lengths → HaveLengths (with_name names name) (with_number lengths (length name))
 name_added names lengths name have = by (is_among names name)
   where
-    before : (other : Text) → is_among names other ≡ true → is_number (with_number lengths (length name)) (length other) ≡ true
+    before : (other : Text) → is_among names other ≡ true → is_number_among (with_number lengths (length name)) (length other) ≡ true
     before other h = number_kept lengths (length name) (length other) (have other h)
 
-    last : (other : Text) → pointwise nat_eq other name ≡ true → is_number (with_number lengths (length name)) (length other) ≡ true
+    last : (other : Text) → pointwise nat_eq other name ≡ true → is_number_among (with_number lengths (length name)) (length other) ≡ true
     last other same =
         let e : length other ≡ length name = as_long nat_eq other name same in
-        ap (is_number (with_number lengths (length name))) e ∙ number_added lengths (length name)
+        ap (is_number_among (with_number lengths (length name))) e ∙ number_added lengths (length name)
 
     by : (b : Bool) → HaveLengths (if b then names else names ++ name ∷ []) (with_number lengths (length name))
     by true = before
     by false = λ other h.
-        or_either (is_number (with_number lengths (length name)) (length other) ≡ true) (is_among names other) (pointwise nat_eq other name)
+        or_either (is_number_among (with_number lengths (length name)) (length other) ≡ true) (is_among names other) (pointwise nat_eq other name)
         (among_more names name other h) (before other) (last other)
 
 -- the names that are added, with their lengths
@@ -79,7 +79,7 @@ pub by_result : {A E : Type 0} (result : Result A E) (old new more : List Text) 
 by_result result old new more lengths ok err all few = grind arith
 
 -- names by themselves, with their lengths
-kept_with : (lengths : List ℕ) (names : List Text) (number : ℕ) → is_number lengths number ≡ true → is_number (lengths_with lengths names) number ≡ true
+kept_with : (lengths : List ℕ) (names : List Text) (number : ℕ) → is_number_among lengths number ≡ true → is_number_among (lengths_with lengths names) number ≡ true
 unfolding lengths_with
 kept_with lengths [] number h = h
 kept_with lengths (name ∷ names) number h = kept_with (with_number lengths (length name)) names number (number_kept lengths (length name) number h)
@@ -243,7 +243,7 @@ cut_end suffixes lengths i name = all_tried (λ ns. first_cut suffixes ns name) 
 
 -- a name is cut after a length at one place at most
 pub cut_after_is : (suffixes : List Text) (name : Text) (front : ℕ)
-    → cut_after suffixes name front ≡ (if goes_on suffixes name front then Some front else None)
+    → cut_after suffixes name front ≡ (if is_cut_inside suffixes name front then Some front else None)
 unfolding cut_after
 cut_after_is suffixes name front = by (nat_lt front (length name)) (is_cut_at suffixes name front) refl refl
   where

@@ -1,6 +1,6 @@
 -- The names of rules are among those that are held.
 use Rattle.std.proofs.Common.{◌≡◌, ℕ, ◌<◌, List, [], ◌∷◌, length, map, get_or, Option, Some, None, refl, ap, sym, subst}
-use Rattle.kt_rules.proofs.Common.{All, Contains, flat_map, All-append, All-head, All-map, All-nil, All-tail, All-weaker, Contains-get_or, Text, Kinds, Needs, RecipeLine, Rule, shared_needs, target_of, all_needs, AreNumbersOf, AreRuleNumbers, name_at, names_read, numbers_below, unwrap_or-slice_get, IsKnown, rule_held, rules_held}
+use Rattle.kt_rules.proofs.Common.{All, Contains, flat_map, All-append, All-head, All-map, All-nil, All-tail, All-weaker, Contains-get_or, Text, Kinds, Needs, RecipeLine, Entry, shared_needs, target_of, all_needs, AreNumbersOf, AreRuleNumbers, name_at, names_read, numbers_below, unwrap_or-slice_get, IsKnownRow, rule_held, rules_held}
 use Rattle.kt_rules.proofs.HeldLemmas.{rule_named}
 use Rattle.kt_rules.specs.Known.{names_in}
 use Rattle.kt_rules.specs.declared.book.row.Row.{Row}
@@ -29,7 +29,7 @@ shared_among names (Some pattern) needs first second = All-nil (Contains names)
 rule_among : (d : List Text × List (List ℕ)) (lines : List RecipeLine) (row : Row) (targets : List Text) (pattern : Option Text) (needs : Needs)
     → AreRuleNumbers d targets pattern needs row.numbers → All (Contains d.0) (names_in (rule_held d lines row))
 rule_among d lines row targets pattern needs are =
-    subst (λ (rule : Rule). All (Contains d.0) (names_in rule)) (sym (rule_named d lines row targets pattern needs are))
+    subst (λ (rule : Entry). All (Contains d.0) (names_in rule)) (sym (rule_named d lines row targets pattern needs are))
     (All-append (Contains d.0) (map (λ target. target.name) (map (target_of pattern needs) targets)) (all_needs (shared_needs pattern needs))
     (subst (All (Contains d.0)) (sym (targets_named pattern needs targets)) (numbered_among d.0 (get_or d.1 row.numbers.targets []) targets are.of_targets.numbers))
     (shared_among d.0 pattern needs
@@ -38,11 +38,11 @@ rule_among d lines row targets pattern needs are =
 
 -- those of all rules
 pub all_among : (d : List Text × List (List ℕ)) (recipes : List (List RecipeLine)) (rows : List Row) (kinds : Kinds)
-    → All (IsKnown kinds d) rows → All (Contains d.0) (flat_map names_in (rules_held d recipes rows))
+    → All (IsKnownRow kinds d) rows → All (Contains d.0) (flat_map names_in (rules_held d recipes rows))
 all_among d [] rows kinds known = All-nil (Contains d.0)
 all_among d (lines ∷ recipes) [] kinds known = All-nil (Contains d.0)
 all_among d (lines ∷ recipes) (row ∷ rows) kinds known =
-    let first = All-head (IsKnown kinds d) row rows known in
+    let first = All-head (IsKnownRow kinds d) row rows known in
     All-append (Contains d.0) (names_in (rule_held d lines row)) (flat_map names_in (rules_held d recipes rows))
     (rule_among d lines row first.targets first.pattern first.needs first.told)
-    (all_among d recipes rows kinds (All-tail (IsKnown kinds d) row rows known))
+    (all_among d recipes rows kinds (All-tail (IsKnownRow kinds d) row rows known))

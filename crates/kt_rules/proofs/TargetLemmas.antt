@@ -1,6 +1,6 @@
 -- Targets and their prerequisites, as their entry has them.
 use Rattle.std.proofs.Common.{◌≡◌, false, List, [], ◌∷◌, length, Option, refl, arith}
-use Rattle.kt_rules.proofs.Common.{Bor, Text, has_percent, with_stem, length-map, stemmed_names, without_dots, is_empty, name_put, names_put}
+use Rattle.kt_rules.proofs.Common.{Bor, Text, has_percent, with_stem, length-map, stemmed_names, without_dots, has_no_names, name_put, names_put}
 
 -- the first of some prerequisites, and the others
 pub first_put : (stem : Option (Bor Text)) (name : Text) (names : List Text) → names_put stem (name ∷ names) ≡ name_put stem name ∷ names_put stem names
@@ -16,7 +16,7 @@ none_left stem [] none = none_put stem
 none_left stem (name ∷ names) none = absurd (omega arith)
 
 -- a stem removes no name
-pub empty_put : (stem : Option (Bor Text)) (names : List Text) → is_empty (names_put stem names) ≡ is_empty names
+pub empty_put : (stem : Option (Bor Text)) (names : List Text) → has_no_names (names_put stem names) ≡ has_no_names names
 unfolding stemmed_names
 empty_put stem names = grind arith
 

@@ -1,6 +1,6 @@
 -- The words of a rule line, word by word.
 use Rattle.std.proofs.Common.{◌≡◌, ℕ, ◌<◌, Bool, true, false, List, [], ◌∷◌, length, drop, take, filter, refl, sym, ◌∙◌, ap, arith, ⊎_elim, ◌==◌, if◌then◌else◌}
-use Rattle.kt_rules.proofs.Common.{cases_Bool, false≢true, drop-prefix_len, Text, is_nonempty, is_separator, stripped_start, Separator, cuts, cut_place, pieces_of, written_words}
+use Rattle.kt_rules.proofs.Common.{cases_Bool, false≢true, drop-prefix_len, Text, is_nonempty, is_separator, stripped_start, Separator, cuts, cut_place, cut_pieces, written_words}
 use Rattle.kt_rules.specs.declared.cutting.Cut.{Cut}
 use Rattle.kt_text.proofs.WordLemmas.{filter_nonempty}
 
@@ -8,12 +8,12 @@ use Rattle.kt_text.proofs.WordLemmas.{filter_nonempty}
 pieces_after : Cut → Bool → Text → List Text
 pieces_after cut after_backslash [] = []
 pieces_after cut after_backslash (byte ∷ text) =
-    if cuts cut after_backslash byte then pieces_of cut false text else pieces_after cut (byte == 92) text
+    if cuts cut after_backslash byte then cut_pieces cut false text else pieces_after cut (byte == 92) text
 
 -- the first piece ends at the first cut
 pieces_first : (cut : Cut) (past : Bool) (text : Text)
-    → pieces_of cut past text ≡ take (cut_place cut past text) text ∷ pieces_after cut past text
-unfolding pieces_of cut_place pieces_after
+    → cut_pieces cut past text ≡ take (cut_place cut past text) text ∷ pieces_after cut past text
+unfolding cut_pieces cut_place pieces_after
 pieces_first cut past [] = refl
 pieces_first cut past (byte ∷ text) = grind (arith, ⊎_elim, cases_Bool, pieces_first cut (byte == 92) text)
 
@@ -23,13 +23,13 @@ separator_cuts past byte h = grind (arith, ⊎_elim, false≢true, cases_Bool)
 
 -- a separator before a text makes no word
 written_words-skip : (byte : ℕ) (text : Text) → is_separator byte ≡ true → written_words (byte ∷ text) ≡ written_words text
-unfolding pieces_of written_words
+unfolding cut_pieces written_words
 written_words-skip byte text h = rw h refl
 
 -- the pieces after the first that have a byte are the words of the text from the first cut on
 after_first : (past : Bool) (text : Text)
     → filter is_nonempty (pieces_after Separator past text) ≡ written_words (drop (cut_place Separator past text) text)
-unfolding pieces_of cut_place pieces_after written_words
+unfolding cut_pieces cut_place pieces_after written_words
 after_first past [] = refl
 after_first past (byte ∷ text) = grind (arith, ⊎_elim, written_words-skip, separator_cuts, cases_Bool, after_first (byte == 92) text)
 
@@ -63,6 +63,6 @@ first_written text words e some =
 
 -- a text of separators alone has no word
 pub none_written : (text words : Text) → words ≡ stripped_start text → length words ≡ 0 → written_words text ≡ []
-unfolding written_words pieces_of
+unfolding written_words cut_pieces
 none_written text [] e none = sym (written_words-begun text) ∙ ap written_words (sym e)
 none_written text (byte ∷ words) e none = absurd (omega arith)

@@ -3,7 +3,7 @@ use Rattle.std.specs.Prelude.{◌≡◌, ℕ, Bool, true, false, not, ◌&&◌, 
 use Rattle.std.specs.Prelude.{flat_map, filter_map, codes, bytes_eq, Option, Some, None, option_map, is_some, is_none}
 use Rattle.std.specs.Prelude.{slice_get, Result, Ok, Err, if◌then◌else◌}
 use Rattle.kt_rules.specs.Prelude.{AllPairs, list_any, enumerate_from, option_or, option_map_or, Text, Kind}
-use Rattle.kt_rules.specs.Prelude.{DoubleColon, Group, Pattern, TerminalPattern, Target, Place, Needs, Rule, needs_for}
+use Rattle.kt_rules.specs.Prelude.{DoubleColon, Group, Pattern, TerminalPattern, Target, Place, Needs, Entry, needs_for}
 use Rattle.std.specs.Cmp.Lexicographic.{pointwise}
 use Rattle.kt_rules.specs.Names.{is_among, is_special}
 use Rattle.kt_rules.specs.Places.{place_text}
@@ -24,64 +24,64 @@ is_pattern TerminalPattern = true
 is_pattern other = false
 
 -- whether a rule makes a target by name: a pattern rule doesn't, and a special target isn't made
-abbrev pub is_made : Rule → Target → Bool
+abbrev pub is_made : Entry → Target → Bool
 is_made rule target = not (is_pattern rule.kind) && not (is_special target.name)
 
 -- the targets that a rule makes by name
-abbrev pub made_targets : Rule → List Target
+abbrev pub made_targets : Entry → List Target
 made_targets rule = filter (is_made rule) rule.targets
 
 -- a rule with each target that it makes by name: several targets are separate rules (POSIX.1-2024 make, "Target Rules")
-abbrev pub target_rules : Rule → List (Rule × Target)
+abbrev pub target_rules : Entry → List (Entry × Target)
 target_rules rule = map (λ target. (rule, target)) (made_targets rule)
 
 -- the rules of a target, in order, suffix rules among them
-unfoldable pub rules_of : List Rule → Text → List (Rule × Target)
+unfoldable pub rules_of : List Entry → Text → List (Entry × Target)
 rules_of rules name = filter (λ made. bytes_eq name made.1.name) (flat_map target_rules rules)
 
-abbrev pub has_recipe : Rule × Target → Bool
+abbrev pub has_recipe : Entry × Target → Bool
 has_recipe made = is_some made.0.recipe
 
 -- the rules of a target that have a recipe
-unfoldable pub recipes_of : List Rule → Text → List (Rule × Target)
+unfoldable pub recipes_of : List Entry → Text → List (Entry × Target)
 recipes_of rules name = filter has_recipe (rules_of rules name)
 
 -- the explicit rules of a target, in order: the suffixes after all rules decide which are suffix rules
-unfoldable pub explicit_rules : List Rule → Text → List (Rule × Target)
+unfoldable pub explicit_rules : List Entry → Text → List (Entry × Target)
 explicit_rules rules name = filter (λ made. not (is_suffix_rule (suffixes_of rules) name made)) (rules_of rules name)
 
 -- what a rule says of a target, whatever its name: the kind, whether there is a recipe, and the prerequisites
-abbrev pub rule_needs : Rule × Target → Kind × (Bool × Needs)
+abbrev pub rule_needs : Entry × Target → Kind × (Bool × Needs)
 rule_needs made = (made.0.kind, (is_some made.0.recipe, needs_for made.0 made.1))
 
 -- the explicit rules of two names say the same of them, one by one
-abbrev pub AreMadeAlike : List Rule → Text → Text → Type 0
+abbrev pub AreMadeAlike : List Entry → Text → Text → Type 0
 AreMadeAlike rules name other =
     map rule_needs (explicit_rules rules name) ≡ map rule_needs (explicit_rules rules other)
 
 -- whether a rule is explicit for one of its targets, given the suffixes
-abbrev pub is_explicit : List Text → Rule × Target → Bool
+abbrev pub is_explicit : List Text → Entry × Target → Bool
 is_explicit suffixes made = is_made made.0 made.1 && not (is_suffix_rule suffixes made.1.name made)
 
 -- the number of a numbered rule, once for each of its targets with the name for which it is explicit
-abbrev pub numbers_in : List Text → Text → ℕ × Rule → List ℕ
+abbrev pub numbers_in : List Text → Text → ℕ × Entry → List ℕ
 numbers_in suffixes name numbered = map (λ target. numbered.0)
     (filter (λ target. bytes_eq name target.name && is_explicit suffixes (numbered.1, target)) numbered.1.targets)
 
 -- the numbers of the explicit rules of a target, in order: a rule's number is its place in the list, from 0
-unfoldable pub explicit_numbers : List Rule → Text → List ℕ
+unfoldable pub explicit_numbers : List Entry → Text → List ℕ
 explicit_numbers rules name = flat_map (numbers_in (suffixes_of rules) name) (enumerate_from 0 rules)
 
 -- the rules at the numbers of a target are its explicit rules, one by one
 abbrev pub NumbersTellRules : Type 0
-NumbersTellRules = (rules : List Rule) (name : Text)
+NumbersTellRules = (rules : List Entry) (name : Text)
     → map (λ made. Some made.0) (explicit_rules rules name) ≡ map (slice_get rules) (explicit_numbers rules name)
 
 -- the phony names: the prerequisites of the special target `.PHONY` (POSIX.1-2024 make, "Special Targets")
-abbrev pub phony_of : Rule → List Text
+abbrev pub phony_of : Entry → List Text
 phony_of rule = option_map_or (λ names. names) (special_needs (codes ".PHONY") rule) []
 
-unfoldable pub is_phony : List Rule → Text → Bool
+unfoldable pub is_phony : List Entry → Text → Bool
 is_phony rules name = is_among (flat_map phony_of rules) name
 
 -- a name that may be special, and isn't the default goal by itself
@@ -95,19 +95,19 @@ abbrev pub may_be_goal : Text → Bool
 may_be_goal name = not (begins_with_dot name) || list_any (λ byte. byte == 47) name
 
 -- whether a rule is explicit, and its target may be the default goal
-abbrev pub is_goal : List Text → Rule × Target → Bool
+abbrev pub is_goal : List Text → Entry × Target → Bool
 is_goal suffixes made = may_be_goal made.1.name && not (is_suffix_rule suffixes made.1.name made)
 
 -- the first target of one rule that may be the default goal
-abbrev pub goal_in : List Text → Rule → Option Text
+abbrev pub goal_in : List Text → Entry → Option Text
 goal_in suffixes rule = option_map (λ made. made.1.name) (find (is_goal suffixes) (target_rules rule))
 
 -- the same among all rules, given the suffixes
-unfoldable pub first_goal_by : List Text → List Rule → Option Text
+unfoldable pub first_goal_by : List Text → List Entry → Option Text
 first_goal_by suffixes rules = option_map (λ made. made.1.name) (find (is_goal suffixes) (flat_map target_rules rules))
 
 -- the first target of an explicit rule that may be the default goal
-abbrev pub first_goal_of : List Rule → Option Text
+abbrev pub first_goal_of : List Entry → Option Text
 first_goal_of rules = first_goal_by (suffixes_of rules) rules
 
 -- ---- one more rule
@@ -117,54 +117,54 @@ xor true b = not b
 xor false b = b
 
 -- whether one of two rules of a target has one colon, and the other two
-abbrev pub differ_in_colons : Rule → Rule × Target → Bool
+abbrev pub differ_in_colons : Entry → Entry × Target → Bool
 differ_in_colons rule earlier = xor (is_double earlier.0.kind) (is_double rule.kind)
 
 -- the first target that has rules with the other number of colons (GNU make manual, "Double-Colon Rules")
-abbrev pub both_colons_in : List Rule → Rule → Option Target
+abbrev pub both_colons_in : List Entry → Entry → Option Target
 both_colons_in rules rule = find (λ target. list_any (differ_in_colons rule) (rules_of rules target.name))
     (made_targets rule)
 
 -- whether one of two rules of a target is a group's
-abbrev pub is_beside_group : Rule → Rule × Target → Bool
+abbrev pub is_beside_group : Entry → Entry × Target → Bool
 is_beside_group rule earlier = is_group rule.kind || is_group earlier.0.kind
 
 -- the first target that gets a second recipe, where one of the two is a group's (kati's own)
-abbrev pub beside_group_in : List Rule → Rule → Option Target
+abbrev pub beside_group_in : List Entry → Entry → Option Target
 beside_group_in rules rule = find (λ target. list_any (is_beside_group rule) (recipes_of rules target.name))
     (made_targets rule)
 
-abbrev pub two_recipes_in : List Rule → Rule → Option Target
+abbrev pub two_recipes_in : List Entry → Entry → Option Target
 two_recipes_in rules rule = if is_some rule.recipe then beside_group_in rules rule else None
 
 -- why a rule is refused after others, if it is: first, a group without a recipe
-unfoldable pub refusal_of : List Rule → Rule → Option Refusal
+unfoldable pub refusal_of : List Entry → Entry → Option Refusal
 refusal_of rules rule =
     if is_group rule.kind && is_none rule.recipe then Some bad_group
     else option_or (option_map (λ target. both_colons target.name) (both_colons_in rules rule))
     (option_map (λ target. two_recipes target.name) (two_recipes_in rules rule))
 
 -- whether a rule makes a target of this name
-abbrev pub makes : Rule → Text → Bool
+abbrev pub makes : Entry → Text → Bool
 makes rule name = list_any (λ target. bytes_eq name target.name) (made_targets rule)
 
 -- of two rules with a recipe, one of them a group, neither makes a target of the other
-abbrev pub AreApart : Rule → Rule → Type 0
+abbrev pub AreApart : Entry → Entry → Type 0
 AreApart earlier later =
     is_some earlier.recipe ≡ true → is_some later.recipe ≡ true → (is_group later.kind || is_group earlier.kind) ≡ true
     → list_any (λ target. makes earlier target.name) (made_targets later) ≡ false
 
 -- a group shares no target with another rule that has a recipe (kati's own)
-abbrev pub GroupsStandAlone : List Rule → Type 0
+abbrev pub GroupsStandAlone : List Entry → Type 0
 GroupsStandAlone rules = AllPairs AreApart rules
 
 -- the targets for which a rule with one colon gives a second recipe; an earlier rule with a recipe also has one colon,
 -- or this one would be refused (GNU make manual, "Multiple Rules for One Target")
-abbrev pub targets_with_recipe : List Rule → Rule → List Target
+abbrev pub targets_with_recipe : List Entry → Entry → List Target
 targets_with_recipe rules rule = filter
     (λ target. list_any (λ earlier. true) (recipes_of rules target.name)) (made_targets rule)
 
-abbrev pub overridden_targets : List Rule → Rule → List Target
+abbrev pub overridden_targets : List Entry → Entry → List Target
 overridden_targets rules rule = if is_single rule.kind && is_some rule.recipe
     then targets_with_recipe rules rule else []
 
@@ -173,11 +173,11 @@ abbrev pub override_message : Place → Target → Text
 override_message place target = place_text place ++ (codes ": warning: overriding recipe for target '"
     ++ (target.name ++ 39 ∷ []))
 
-abbrev pub override_messages : List Rule → Rule → List Text
+abbrev pub override_messages : List Entry → Entry → List Text
 override_messages rules rule = map (override_message rule.place) (overridden_targets rules rule)
 
 -- what `add` returns: the warnings, or the fault
-abbrev pub added : List Rule → Rule → Option Refusal → Result (List Text) Fault
+abbrev pub added : List Entry → Entry → Option Refusal → Result (List Text) Fault
 added rules rule None = Ok (override_messages rules rule)
 added rules rule (Some refusal) = Err (fault_at rule.place refusal)
 
@@ -186,19 +186,19 @@ added rules rule (Some refusal) = Err (fault_at rule.place refusal)
 abbrev pub names_eq : List Text → List Text → Bool
 names_eq = pointwise bytes_eq
 
-abbrev pub target_names : Rule → List Text
+abbrev pub target_names : Entry → List Text
 target_names rule = map (λ target. target.name) rule.targets
 
 -- whether two pattern rules have the same targets and prerequisites, in the same order and with the same repeats (GNU
 -- make manual, "Canceling Implicit Rules")
-abbrev pub repeats : Rule → Rule → Bool
+abbrev pub repeats : Entry → Entry → Bool
 repeats earlier later =
     names_eq (target_names earlier) (target_names later)
     && (names_eq earlier.needs.prerequisites later.needs.prerequisites
     && names_eq earlier.needs.order_only later.needs.order_only)
 
 -- a suffix rule as a pattern rule, given the patterns of its target and prerequisite
-abbrev pub pattern_rule : Rule → Text × Text → Rule
+abbrev pub pattern_rule : Entry → Text × Text → Entry
 pattern_rule rule patterns = record {
   kind = Pattern;
   targets = record { name = patterns.0; stemmed = None } ∷ [];
@@ -208,22 +208,22 @@ pattern_rule rule patterns = record {
 }
 
 -- a target's suffix rule as a pattern rule, if it is one
-abbrev pub suffix_rule_as_pattern : List Text → Rule × Target → Option Rule
+abbrev pub suffix_rule_as_pattern : List Text → Entry × Target → Option Entry
 suffix_rule_as_pattern suffixes made =
     if is_bare made then option_map (pattern_rule made.0) (suffix_patterns suffixes made.1.name) else None
 
 -- the pattern rules of a rule: itself, or its suffix rules as pattern rules
-abbrev pub patterns_in : List Text → Rule → List Rule
+abbrev pub patterns_in : List Text → Entry → List Entry
 patterns_in suffixes rule =
     if is_pattern rule.kind then rule ∷ [] else filter_map (suffix_rule_as_pattern suffixes) (target_rules rule)
 
 -- the rules with a recipe that no later one repeats
-abbrev pub unrepeated : List Rule → List Rule
+abbrev pub unrepeated : List Entry → List Entry
 unrepeated [] = []
 unrepeated (rule ∷ rules) =
     if is_some rule.recipe && not (list_any (repeats rule) rules) then rule ∷ unrepeated rules else unrepeated rules
 
 -- the pattern rules of a list of rules, suffix rules in their places, as the search takes them (GNU make manual,
 -- "Pattern Rules")
-unfoldable pub patterns_of : List Rule → List Rule
+unfoldable pub patterns_of : List Entry → List Entry
 patterns_of rules = unrepeated (flat_map (patterns_in (suffixes_of rules)) rules)

@@ -1,43 +1,43 @@
 -- Worked books, as facts that compute. The rules are those of the GNU make manual's sections on rules, and of kati's
 -- own rules where it has some.
 use Rattle.std.specs.Prelude.{◌≡◌, ℕ, Bool, true, false, List, [], ◌∷◌, ◌++◌, Some, None, codes}
-use Rattle.kt_rules.specs.Prelude.{Text, Kind, SingleColon, DoubleColon, Group, Pattern, Target, Place, Rule}
+use Rattle.kt_rules.specs.Prelude.{Text, Kind, SingleColon, DoubleColon, Group, Pattern, Target, Place, Entry}
 use Rattle.kt_rules.specs.Places.{place_text}
 use Rattle.kt_rules.specs.Refusals.{bad_group, both_colons, two_recipes}
 use Rattle.kt_rules.specs.Book.{explicit_rules, is_phony, first_goal_of, refusal_of, override_messages, patterns_of}
 
-abbrev pub at_line : ℕ → Place
-at_line line = record { file = codes "M"; line = line }
+abbrev pub makefile_line : ℕ → Place
+makefile_line line = record { file = codes "M"; line = line }
 
 abbrev pub named : Text → Target
 named name = record { name = name; stemmed = None }
 
 -- a rule on a line: one target, its prerequisites and order-only ones, and an empty recipe or none
-abbrev pub rule : Kind → Text → List Text → List Text → Bool → ℕ → Rule
+abbrev pub rule : Kind → Text → List Text → List Text → Bool → ℕ → Entry
 rule kind name prerequisites order_only true line = record {
   kind = kind;
   targets = named name ∷ [];
   needs = record { prerequisites = prerequisites; order_only = order_only };
-  recipe = Some (record { text = []; place = at_line line } ∷ []);
-  place = at_line line;
+  recipe = Some (record { text = []; place = makefile_line line } ∷ []);
+  place = makefile_line line;
 }
 rule kind name prerequisites order_only false line = record {
   kind = kind;
   targets = named name ∷ [];
   needs = record { prerequisites = prerequisites; order_only = order_only };
   recipe = None;
-  place = at_line line;
+  place = makefile_line line;
 }
 
 -- `NAME: ;` and `NAME: PREREQUISITE` on a line
-abbrev pub made : Text → ℕ → Rule
+abbrev pub made : Text → ℕ → Entry
 made name line = rule SingleColon name [] [] true line
 
-abbrev pub needing : Text → Text → ℕ → Rule
+abbrev pub needing : Text → Text → ℕ → Entry
 needing name prerequisite line = rule SingleColon name (prerequisite ∷ []) [] false line
 
 -- `TARGET: PREREQUISITE ;`, both patterns
-abbrev pub pattern : Text → Text → ℕ → Rule
+abbrev pub pattern : Text → Text → ℕ → Entry
 pattern target prerequisite line = rule Pattern target (prerequisite ∷ []) [] true line
 
 -- suffix rules
@@ -68,7 +68,7 @@ pub record RowsOfAdding : Type 0 where
   pub beside_group : refusal_of (rule Group (codes "a") [] [] true 1 ∷ []) (made (codes "a") 2)
       ≡ Some (two_recipes (codes "a"))
   pub second_recipe : override_messages (made (codes "a") 1 ∷ []) (made (codes "a") 2)
-      ≡ (place_text (at_line 2) ++ codes ": warning: overriding recipe for target 'a'") ∷ []
+      ≡ (place_text (makefile_line 2) ++ codes ": warning: overriding recipe for target 'a'") ∷ []
 
 -- other lookups
 pub record RowsOfAnswers : Type 0 where

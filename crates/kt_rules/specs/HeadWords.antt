@@ -95,8 +95,8 @@ HoldsNoQuote text = (front back : Text) (byte : ℕ) → text ≡ front ++ 92 �
 abbrev pub quoted_text : Text → Text
 quoted_text piece = 92 ∷ piece
 
-abbrev pub piece_text : Text → Text
-piece_text piece = piece
+abbrev pub head_piece_text : Text → Text
+head_piece_text piece = piece
 
 -- a text is pieces with a backslash before each but the first, and `left` is the same pieces without these backslashes:
 -- each quotes the byte directly after it, and no other backslash does
@@ -104,7 +104,7 @@ pub record IsUnquoted (text left : Text) : Type 0 where
   pub first : Text
   pub pieces : List Text
   pub together : text ≡ first ++ flat_map quoted_text pieces
-  pub stays : left ≡ first ++ flat_map piece_text pieces
+  pub stays : left ≡ first ++ flat_map head_piece_text pieces
   pub quoted : list_all begins_quotable pieces ≡ true
   pub no_other : All HoldsNoQuote (first ∷ pieces)
 

@@ -31,15 +31,15 @@ cut_place cut after_backslash (byte ∷ text) =
     if cuts cut after_backslash byte then 0 else suc (cut_place cut (byte == 92) text)
 
 -- the pieces of a text that is cut
-unfoldable pub pieces_of : Cut → Bool → Text → List Text
-pieces_of cut after_backslash [] = [] ∷ []
-pieces_of cut after_backslash (byte ∷ text) =
-    if cuts cut after_backslash byte then [] ∷ pieces_of cut false text
-    else onto_first byte (pieces_of cut (byte == 92) text)
+unfoldable pub cut_pieces : Cut → Bool → Text → List Text
+cut_pieces cut after_backslash [] = [] ∷ []
+cut_pieces cut after_backslash (byte ∷ text) =
+    if cuts cut after_backslash byte then [] ∷ cut_pieces cut false text
+    else onto_first byte (cut_pieces cut (byte == 92) text)
 
 -- the words as they are written: the maximal runs without an unquoted separator
 unfoldable pub written_words : Text → List Text
-written_words text = filter is_nonempty (pieces_of Separator false text)
+written_words text = filter is_nonempty (cut_pieces Separator false text)
 
 -- the number of a text's bytes before the separators at its end, of which the first may be quoted
 abbrev pub end_place : Text → ℕ

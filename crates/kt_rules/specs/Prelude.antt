@@ -1,7 +1,7 @@
 -- The names that most definitions cite, of the crates below and of the code, passed on from one place. Declares
 -- nothing.
 pub use Rattle.kt_list.specs.Names.{AreBelow, is_among, place_of}
-pub use Rattle.kt_rules.specs.Entry.{Rule, empty_line, is_nil, needs_for, read_line, rule_by, stemmed_names, stemmed_of, target_of, tested_line}
+pub use Rattle.kt_rules.specs.Entry.{Entry, empty_line, head_names, is_nil, needs_for, rule_by, stemmed_names, stemmed_of, target_of, tested_line}
 pub use Rattle.kt_rules.specs.Names.{after_dots, is_wildcard, name_of, wait_name, with_name, without_dots, without_repeats, written_words}
 pub use Rattle.kt_rules.specs.RuleLine.{Head, colon_cut, name_refusal, option_list}
 pub use Rattle.kt_rules.specs.declared.book.book_rule.BookRule.{BookRule}
@@ -11,7 +11,7 @@ pub use Rattle.kt_rules.specs.declared.entry.Kind.TheVariants.{DoubleColon, Grou
 pub use Rattle.kt_rules.specs.declared.entry.Needs.{Needs}
 pub use Rattle.kt_rules.specs.declared.entry.Target.{Target}
 pub use Rattle.kt_rules.specs.declared.head.Separator.TheVariants.{Double, Grouped, Single}
-pub use Rattle.kt_rules.specs.declared.line.Line.{Line}
+pub use Rattle.kt_rules.specs.declared.line.HeadNames.{HeadNames}
 pub use Rattle.kt_rules.specs.declared.place.Place.{Place}
 pub use Rattle.kt_text.specs.Match.{has_percent}
 pub use Rattle.kt_text.specs.Words.{Text, is_colon, is_nonempty, is_separator, words_of}

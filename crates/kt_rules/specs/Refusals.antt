@@ -8,7 +8,7 @@ use Rattle.kt_rules.specs.declared.fault.RuleFault.{RuleFault}
 use Rattle.kt_rules.specs.declared.fault.RuleFault.TheVariants.{Memory, Refused}
 use Rattle.kt_rules.specs.declared.refusal.Refusal.{Refusal as HeldRefusal}
 use Rattle.kt_rules.specs.declared.refusal.Refusal.TheVariants as told
-use Rattle.kt_rules.specs.FaultKinds.{number_of, words_with}
+use Rattle.kt_rules.specs.FaultKinds.{fault_kind_number, words_with}
 
 -- what is wrong with a rule line, or, from `both_colons` on, with a rule after the rules before it
 pub data Refusal : Type 0 where
@@ -50,7 +50,7 @@ pub record Fault : Type 0 where
 abbrev pub fault_at : Place → Refusal → Fault
 fault_at place refusal =
     let told = kind_and_name refusal in
-    record { number = number_of told.0; place = place; words = words_with told.0 told.1 }
+    record { number = fault_kind_number told.0; place = place; words = words_with told.0 told.1 }
 
 -- the same for a result
 abbrev pub faults_at : {A : Type 0} → Place → Result A Refusal → Result A Fault

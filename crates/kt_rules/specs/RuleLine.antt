@@ -12,7 +12,7 @@ use Rattle.kt_text.specs.Match.{has_percent, stem_span}
 use Rattle.kt_rules.specs.declared.head.Separator.{Separator}
 use Rattle.kt_rules.specs.declared.head.Separator.TheVariants.{Single, Double, Grouped}
 use Rattle.kt_rules.specs.declared.head.Head.{Head as HeadTold}
-use Rattle.kt_rules.specs.declared.line.Line.{Line}
+use Rattle.kt_rules.specs.declared.line.HeadNames.{HeadNames}
 use Rattle.kt_rules.specs.declared.entry.Needs.{Needs}
 use Rattle.kt_rules.specs.declared.refusal.Refusal.{Refusal as RefusalTold}
 use Rattle.kt_rules.specs.Refusals.{Refusal, refusal_view, missing_separator, refused_name, bad_static_pattern}
@@ -114,7 +114,7 @@ needs_of words = record {
 }
 
 -- the names of a head
-abbrev pub line_of : Head → Line
+abbrev pub line_of : Head → HeadNames
 line_of head = record {
   separator = head.separator;
   targets = without_repeats (map name_of (written_words head.targets));
@@ -123,7 +123,7 @@ line_of head = record {
 }
 
 -- the prerequisites that are tested: none if no target has an effect
-unfoldable pub tested_needs : Line → List Text
+unfoldable pub tested_needs : HeadNames → List Text
 tested_needs line = if list_all is_without_effect line.targets then [] else line.needs.prerequisites
     ++ line.needs.order_only
 
@@ -133,23 +133,24 @@ option_list None = []
 option_list (Some text) = text ∷ []
 
 -- the first name that is refused: of the targets, the static pattern, the prerequisites
-unfoldable pub name_refusal : Line → Option Text
+unfoldable pub name_refusal : HeadNames → Option Text
 name_refusal line = find is_refused_name (line.targets ++ (option_list line.pattern ++ tested_needs line))
 
 -- a target with a percent sign in a static pattern rule, or beside a target without one
-unfoldable pub mixes_patterns : Line → Bool
+unfoldable pub mixes_patterns : HeadNames → Bool
 mixes_patterns line =
     list_any has_percent line.targets && (is_some line.pattern || not (list_all has_percent line.targets))
 
 -- whether the separator makes a group
-abbrev pub is_group : Separator → Bool
-is_group Single = false
-is_group Double = false
-is_group Grouped = true
+abbrev pub makes_group : Separator → Bool
+makes_group Single = false
+makes_group Double = false
+makes_group Grouped = true
 
 -- a group with a target that is special or has a percent sign
-unfoldable pub is_bad_group : Line → Bool
-is_bad_group line = is_group line.separator && list_any (λ target. is_special target || has_percent target) line.targets
+unfoldable pub is_bad_group : HeadNames → Bool
+is_bad_group line =
+    makes_group line.separator && list_any (λ target. is_special target || has_percent target) line.targets
 
 -- whether the static pattern, if there is one, matches a target
 abbrev pub fits : Option Text → Text → Bool
@@ -171,7 +172,7 @@ abbrev pub refused_if : Bool → Refusal → Option Refusal
 refused_if is_refused refusal = if is_refused then Some refusal else None
 
 -- why the names of a line are refused: the refusal of the first test that fails
-unfoldable pub line_refusal : Line → Option Refusal
+unfoldable pub line_refusal : HeadNames → Option Refusal
 line_refusal line =
     first_refusal (
     option_map refused_name (name_refusal line)

@@ -3,14 +3,14 @@
 use Rattle.std.specs.Prelude.{ℕ, Bool, true, false, ◌&&◌, List, [], ◌∷◌, ◌++◌, length, take, drop, fold, find, codes}
 use Rattle.std.specs.Prelude.{bytes_eq, Option, Some, option_map, is_some, if◌then◌else◌}
 use Rattle.kt_rules.specs.Prelude.{range_with_len, option_map_or, Text, words_of, Kind, SingleColon, Needs, Target}
-use Rattle.kt_rules.specs.Prelude.{is_among, with_name, Rule, needs_for}
+use Rattle.kt_rules.specs.Prelude.{is_among, with_name, Entry, needs_for}
 
 -- all prerequisites, the order-only ones last
 abbrev pub all_needs : Needs → List Text
 all_needs needs = needs.prerequisites ++ needs.order_only
 
 -- the prerequisites of a rule's special target with this name, if the rule has that target
-abbrev pub special_needs : Text → Rule → Option (List Text)
+abbrev pub special_needs : Text → Entry → Option (List Text)
 special_needs special rule =
     option_map (λ target. all_needs (needs_for rule target)) (find
     (λ target. bytes_eq target.name special) rule.targets)
@@ -25,11 +25,11 @@ suffixes_with suffixes [] = []
 suffixes_with suffixes (name ∷ names) = fold with_name suffixes (name ∷ names)
 
 -- the suffixes after one more rule
-abbrev pub suffixes_after : List Text → Rule → List Text
+abbrev pub suffixes_after : List Text → Entry → List Text
 suffixes_after suffixes rule = option_map_or (suffixes_with suffixes) (special_needs (codes ".SUFFIXES") rule) suffixes
 
 -- the suffixes after all rules
-abbrev pub suffixes_of : List Rule → List Text
+abbrev pub suffixes_of : List Entry → List Text
 suffixes_of rules = fold suffixes_after start_suffixes rules
 
 -- whether cutting a name at a place gives two suffixes
@@ -54,17 +54,17 @@ abbrev pub is_single : Kind → Bool
 is_single SingleColon = true
 is_single other = false
 
-abbrev pub is_empty : List Text → Bool
-is_empty [] = true
-is_empty (name ∷ names) = false
+abbrev pub has_no_names : List Text → Bool
+has_no_names [] = true
+has_no_names (name ∷ names) = false
 
 abbrev pub needs_nothing : Needs → Bool
-needs_nothing needs = is_empty needs.prerequisites && is_empty needs.order_only
+needs_nothing needs = has_no_names needs.prerequisites && has_no_names needs.order_only
 
 -- whether a rule has the form of a suffix rule for one of its targets: one colon, a recipe, and no prerequisites
-abbrev pub is_bare : Rule × Target → Bool
+abbrev pub is_bare : Entry × Target → Bool
 is_bare made = is_single made.0.kind && (is_some made.0.recipe && needs_nothing (needs_for made.0 made.1))
 
 -- whether a rule is a suffix rule for its target of this name
-abbrev pub is_suffix_rule : List Text → Text → Rule × Target → Bool
+abbrev pub is_suffix_rule : List Text → Text → Entry × Target → Bool
 is_suffix_rule suffixes name made = is_bare made && is_some (suffix_patterns suffixes name)

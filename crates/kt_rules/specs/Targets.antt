@@ -1,11 +1,11 @@
 -- Targets and prerequisites of the code as those of the definitions (kati's own).
 use Rattle.std.specs.Prelude.{List, Option, Some, None, map, option_map}
 use Rattle.std.specs.Borrow.{Bor}
-use Rattle.kt_rules.specs.Prelude.{Text, BookRule, Needs, Target, Rule, rule_by, stemmed_names, target_of, without_dots}
+use Rattle.kt_rules.specs.Prelude.{Text, BookRule, Needs, Target, Entry, rule_by, stemmed_names, target_of, without_dots}
 use Rattle.kt_list.specs.Names.{names_at}
 use Rattle.kt_text.specs.Functions.{with_stem}
-use Rattle.kt_rules.specs.declared.listed.Listed.{Listed}
-use Rattle.kt_rules.specs.declared.listed.Listed.TheVariants.{ByNumber, Own}
+use Rattle.kt_rules.specs.declared.listed.AnyNames.{AnyNames}
+use Rattle.kt_rules.specs.declared.listed.AnyNames.TheVariants.{ByNumber, Own}
 use Rattle.kt_rules.specs.declared.listed.ListedNeeds.{ListedNeeds}
 use Rattle.kt_rules.specs.declared.needs.NeedsView.{NeedsView}
 use Rattle.kt_rules.specs.declared.needs.NeededName.{NeededName}
@@ -14,7 +14,7 @@ use Rattle.kt_rules.specs.declared.target.TargetView.{TargetView}
 use Rattle.kt_rules.specs.declared.target.Targets.{Targets}
 
 -- names as they are held
-abbrev pub listed_view : Listed → List Text
+abbrev pub listed_view : AnyNames → List Text
 listed_view (Own names) = names.now
 listed_view (ByNumber list) = names_at list.names.now list.numbers.now
 
@@ -72,7 +72,7 @@ line_needs rule = record {
 }
 
 -- a rule of a book
-abbrev pub entry_view : BookRule → Rule
+abbrev pub entry_view : BookRule → Entry
 entry_view rule =
     rule_by rule.kind (names_at rule.names.now rule.targets.now) (text_in rule.pattern) (line_needs rule)
     (option_map (λ lines. lines.now) rule.recipe) rule.place.now

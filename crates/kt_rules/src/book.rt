@@ -74,9 +74,9 @@ pub struct Book {
 
 impl Model for Book {
     ghost use Rattle.std.specs.Prelude.{List};
-    ghost use Rattle.kt_rules.specs.Entry.{Rule};
+    ghost use Rattle.kt_rules.specs.Entry.{Entry};
 
-    ghost Value = { List Rule };
+    ghost Value = { List Entry };
 
     ghost use Rattle.kt_rules.specs.inner.Held.{HoldsAll};
 

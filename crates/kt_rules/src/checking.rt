@@ -11,7 +11,7 @@ ghost use Rattle.kt_rules.specs.RuleLine.{name_refusal, option_list, refusal_in,
 
 use crate::entry::{Name, Needs};
 use crate::head::Separator;
-use crate::line::Line;
+use crate::line::HeadNames;
 use crate::refusal::Refusal;
 use crate::refused::{
     WAIT, are_same, is_refused_name, is_refused_target, is_special, is_without_effect,
@@ -21,7 +21,7 @@ use kt_text::{has_percent, match_pattern};
 
 // The refusal of the first test that fails.
 #[tactic(auto, unfolding(crate::specs::RuleLine::line_refusal, crate::specs::RuleLine::first_refusal))]
-pub(crate) fn line_refusal(line: &Line, signs: Signs) -> Option<Refusal<'_>>
+pub(crate) fn line_refusal(line: &HeadNames, signs: Signs) -> Option<Refusal<'_>>
     requires { Tells signs line.now }
     ensures { refusal_in result ≡ line_refusal line.now }
 {
@@ -44,7 +44,7 @@ pub(crate) fn line_refusal(line: &Line, signs: Signs) -> Option<Refusal<'_>>
 }
 
 // The first name that is refused.
-fn name_refusal(line: &Line, telling: bool) -> Option<&[u8]>
+fn name_refusal(line: &HeadNames, telling: bool) -> Option<&[u8]>
     requires { telling ≡ false → name_refusal line.now ≡ None }
     ensures { option_map (λ name. name.now) result ≡ name_refusal line.now }
 {
@@ -54,7 +54,7 @@ fn name_refusal(line: &Line, telling: bool) -> Option<&[u8]>
 // The same, name by name.
 #[tactic(auto, using(crate::proofs::TestingLemmas::search_steps), unfolding(crate::specs::RuleLine::name_refusal))]
 #[inline(never)]
-fn refused_name(line: &Line) -> Option<&[u8]>
+fn refused_name(line: &HeadNames) -> Option<&[u8]>
     ensures { option_map (λ name. name.now) result ≡ name_refusal line.now }
 {
     if let Some(name) = refused_among(line.targets.as_slice()) {
@@ -68,7 +68,7 @@ fn refused_name(line: &Line) -> Option<&[u8]>
 
 // The first of the tested prerequisites that is refused.
 #[tactic(auto, using(crate::proofs::TestingLemmas::search_steps), unfolding(crate::specs::RuleLine::tested_needs))]
-fn tested_refusal(line: &Line) -> Option<&[u8]>
+fn tested_refusal(line: &HeadNames) -> Option<&[u8]>
     ensures { option_map (λ name. name.now) result ≡ find is_refused_name (tested_needs line.now) }
 {
     if all_without_effect(line.targets.as_slice()) {
@@ -111,7 +111,7 @@ fn all_without_effect(targets: &[Name]) -> bool
 
 // Whether a target has a percent sign in a static pattern rule or beside a target without one.
 #[tactic(auto, unfolding(crate::specs::RuleLine::mixes_patterns))]
-fn mixes_patterns(line: &Line, percent: bool) -> bool
+fn mixes_patterns(line: &HeadNames, percent: bool) -> bool
     requires { percent ≡ false → list_any has_percent line.now.targets ≡ false }
     ensures { result ≡ mixes_patterns line.now }
 {
@@ -134,7 +134,7 @@ fn all_percent(targets: &[Name]) -> bool
 
 // Whether a group has a target that is special or has a percent sign.
 #[tactic(auto, unfolding(crate::specs::RuleLine::is_bad_group))]
-fn is_bad_group(line: &Line) -> bool
+fn is_bad_group(line: &HeadNames) -> bool
     ensures { result ≡ is_bad_group line.now }
 {
     match line.separator {
@@ -189,7 +189,7 @@ fn fits(pattern: &Option<Name>, target: &[u8]) -> bool
 
 // Whether a tested prerequisite is `.WAIT`.
 #[tactic(auto, using(crate::proofs::TestingLemmas::search_steps), unfolding(crate::specs::RuleLine::tested_needs))]
-fn waits(line: &Line) -> bool
+fn waits(line: &HeadNames) -> bool
     ensures { result ≡ is_among (tested_needs line.now) wait_name }
 {
     if all_without_effect(line.targets.as_slice()) {

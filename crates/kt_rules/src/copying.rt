@@ -3,7 +3,7 @@ ghost use Rattle.std.specs.Prelude.{◌≡◌, IfOk};
 ghost use Rattle.kt_rules.specs.Entry.{stemmed};
 ghost use Rattle.kt_rules.specs.Targets.{listed_needs, names_view, needs_view, target_view, targets_view};
 
-use crate::entry::{Name, Needs, Stemmed, Target};
+use crate::entry::{Name, Needs, StemmedNeeds, Target};
 use crate::listed::ListedNeeds;
 use crate::needs::{NeededNames, NeedsView};
 use crate::target::{TargetView, Targets};
@@ -31,7 +31,7 @@ fn copied_target(alloc: Global, target: TargetView<'_>) -> Result<Target, AllocE
 }
 
 // The stem of a target in a static pattern rule, and its prerequisites.
-fn given(alloc: Global, target: TargetView<'_>) -> Result<Option<Stemmed>, AllocError>
+fn given(alloc: Global, target: TargetView<'_>) -> Result<Option<StemmedNeeds>, AllocError>
     ensures { IfOk result (λ given. given ≡ (target_view target.entry).stemmed) }
 {
     match target.stem() {
@@ -41,10 +41,14 @@ fn given(alloc: Global, target: TargetView<'_>) -> Result<Option<Stemmed>, Alloc
 }
 
 // A stem with the prerequisites that it gives in a static pattern rule.
-fn stemmed<'a>(alloc: Global, needs: ListedNeeds<'a>, stem: &'a [u8]) -> Result<Stemmed, AllocError>
+fn stemmed<'a>(
+    alloc: Global,
+    needs: ListedNeeds<'a>,
+    stem: &'a [u8],
+) -> Result<StemmedNeeds, AllocError>
     ensures { IfOk result (λ given. given ≡ stemmed (listed_needs needs.entry) stem.now) }
 {
-    Ok(Stemmed {
+    Ok(StemmedNeeds {
         stem: Name::copied(alloc, stem)?,
         needs: copied_needs(alloc, NeedsView::stemmed(needs, stem))?,
     })

@@ -5,7 +5,7 @@ ghost use Rattle.std.specs.Prelude.{◌≡◌, [], Some, get_or, length, option_
 ghost use Rattle.kt_list.specs.Names.{AreBelow, AreNumbersOf, name_at, place_of};
 ghost use Rattle.kt_list.specs.Prefixes.{HasMore};
 ghost use Rattle.kt_rules.specs.Targets.{text_in};
-ghost use Rattle.kt_rules.specs.inner.Dictionary.{Grows, IsListOf};
+ghost use Rattle.kt_rules.specs.inner.Dictionary.{GrowsDictionary, IsListOf};
 
 use crate::entry::Name;
 use kt_list::{Lists, Names, narrow};
@@ -95,7 +95,7 @@ impl Dictionary {
     /// were.
     pub(crate) fn number(&mut self, name: &[u8]) -> Result<u32, AllocError>
         ensures numbered { IfOk result (λ number. slice_get self.new.0 number ≡ Some name.now) }
-        ensures grown { Grows self.old self.new }
+        ensures grown { GrowsDictionary self.old self.new }
     {
         number_name(&mut self.names, name)
     }
@@ -104,7 +104,7 @@ impl Dictionary {
     /// runs out, some names may have got theirs.
     pub(crate) fn number_list(&mut self, list: &[Name]) -> Result<u32, AllocError>
         ensures numbered { IfOk result (λ number. IsListOf self.new number list.now) }
-        ensures grown { Grows self.old self.new }
+        ensures grown { GrowsDictionary self.old self.new }
     {
         number_names(&mut self.names, &mut self.numbers, list)?;
         let number = self.lists.add(self.numbers.as_slice())?;

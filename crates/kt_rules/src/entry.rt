@@ -4,7 +4,7 @@ ghost use Rattle.kt_rules.specs.Entry.{needs_for, no_needs, with_line};
 ghost use Rattle.kt_rules.specs.Targets.{needs_view, target_view, targets_view};
 
 use crate::held_needs::HeldNeeds;
-use crate::listed::{Listed, ListedNeeds};
+use crate::listed::{AnyNames, ListedNeeds};
 use crate::needs::{NeedsView, shared_needs};
 use crate::place::Place;
 use crate::static_pattern::StaticPattern;
@@ -53,7 +53,7 @@ impl Needs {
 
 /// The stem and prerequisites of a target in a static pattern rule (GNU make manual, "Static Pattern Rules").
 #[derive(Debug, Drop)]
-pub struct Stemmed {
+pub struct StemmedNeeds {
     pub stem: Name,
     /// With the stem put in for the percent sign.
     pub needs: Needs,
@@ -64,7 +64,7 @@ pub struct Stemmed {
 pub struct Target {
     pub name: Name,
     /// The stem and prerequisites from the static pattern, if the entry has one.
-    pub stemmed: Option<Stemmed>,
+    pub stemmed: Option<StemmedNeeds>,
 }
 
 /// A line of a recipe, unexpanded.
@@ -92,9 +92,9 @@ pub struct Entry {
 
 impl Model for Entry {
     ghost use Rattle.std.specs.Prelude.{option_map};
-    ghost use Rattle.kt_rules.specs.Entry.{Rule, rule_by};
+    ghost use Rattle.kt_rules.specs.Entry.{Entry, rule_by};
 
-    ghost Value = { Rule };
+    ghost Value = { Entry };
 
     ghost view = { λ s. rule_by s.kind s.targets s.pattern s.needs
         (option_map (λ lines. lines.items) s.recipe) s.place };
@@ -114,7 +114,7 @@ impl Entry {
         ensures few { length self.now.targets < 2 ^ 63 }
     {
         Targets {
-            names: Listed::Own(self.targets.as_slice()),
+            names: AnyNames::Own(self.targets.as_slice()),
             pattern: self.pattern.text(),
             needs: ListedNeeds::of(self.needs.get()),
         }

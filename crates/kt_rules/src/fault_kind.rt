@@ -44,11 +44,11 @@ pub enum FaultKind {
 }
 
 impl FaultKind {
-    ghost use Rattle.kt_rules.specs.FaultKinds.{number_of, row_of, wording, words_with};
+    ghost use Rattle.kt_rules.specs.FaultKinds.{fault_kind_number, fault_kind_row, wording, words_with};
 
     /// The number at the end of the fault line, such as 26 in `[E26]`.
     pub fn number(self) -> u8
-        ensures { result ≡ number_of self }
+        ensures { result ≡ fault_kind_number self }
     {
         self.row().0
     }
@@ -71,7 +71,7 @@ impl FaultKind {
 
     // The number and message of each fault. A number is never used for another fault; there is no 25.
     fn row(self) -> (u8, &'static [u8])
-        ensures { (result.0, result.1.now) ≡ row_of self }
+        ensures { (result.0, result.1.now) ≡ fault_kind_row self }
     {
         match self {
             FaultKind::NulByte => (1, b"NUL byte"),

@@ -1,7 +1,7 @@
 //! The prerequisites of an entry, which other entries may hold, too.
 ghost use Rattle.std.specs.Prelude.{◌≡◌, IfOk, IfSome, IsTrue};
 ghost use Rattle.kt_rules.specs.Entry.{no_needs};
-ghost use Rattle.kt_rules.specs.inner.Remembered.{Names, needs_wait};
+ghost use Rattle.kt_rules.specs.inner.Remembered.{NamesNeeds, needs_wait};
 
 use crate::checking::needs_wait;
 use crate::entry::Needs;
@@ -14,11 +14,11 @@ use std::rc::Rc;
 /// A contract sees them as just those.
 #[derive(Drop)]
 pub(crate) struct HeldNeeds {
-    form: Form,
+    form: NeedsStorage,
 }
 
 #[derive(Drop)]
-enum Form {
+enum NeedsStorage {
     /// No other entry holds them.
     Own(Needs),
     /// Others may hold them, too.
@@ -26,10 +26,10 @@ enum Form {
 }
 
 impl Model for HeldNeeds {
-    ghost use Rattle.kt_rules.specs.declared.entry.Needs.{Needs as AnyNeeds};
+    ghost use Rattle.kt_rules.specs.declared.entry.Needs.{Needs};
     ghost use Rattle.kt_rules.specs.inner.Holding.{needs_in};
 
-    ghost Value = { AnyNeeds };
+    ghost Value = { Needs };
 
     ghost view = { λ needs. needs_in needs.form };
 }
@@ -40,7 +40,7 @@ impl HeldNeeds {
         ensures { result ≡ needs }
     {
         HeldNeeds {
-            form: Form::Own(needs),
+            form: NeedsStorage::Own(needs),
         }
     }
 
@@ -56,7 +56,7 @@ impl HeldNeeds {
         ensures { IfOk result (λ held. held ≡ needs.now.value.1) }
     {
         Ok(HeldNeeds {
-            form: Form::Shared(needs.clone()?),
+            form: NeedsStorage::Shared(needs.clone()?),
         })
     }
 
@@ -65,8 +65,8 @@ impl HeldNeeds {
         ensures { result.now ≡ self.now }
     {
         match &self.form {
-            Form::Own(needs) => needs,
-            Form::Shared(needs) => needs.needs(),
+            NeedsStorage::Own(needs) => needs,
+            NeedsStorage::Shared(needs) => needs.needs(),
         }
     }
 
@@ -75,8 +75,8 @@ impl HeldNeeds {
         ensures { result ≡ needs_wait self.now }
     {
         match &self.form {
-            Form::Own(needs) => needs_wait(needs),
-            Form::Shared(needs) => needs.wait(),
+            NeedsStorage::Own(needs) => needs_wait(needs),
+            NeedsStorage::Shared(needs) => needs.wait(),
         }
     }
 
@@ -85,8 +85,8 @@ impl HeldNeeds {
         ensures { IfSome result (λ plain. plain.now.1 ≡ self.now) }
     {
         match &self.form {
-            Form::Own(_) => None,
-            Form::Shared(needs) => Some(needs),
+            NeedsStorage::Own(_) => None,
+            NeedsStorage::Shared(needs) => Some(needs),
         }
     }
 
@@ -95,8 +95,8 @@ impl HeldNeeds {
         ensures { IfSome result (λ plain. plain.value.1 ≡ self) }
     {
         match self.form {
-            Form::Own(_) => None,
-            Form::Shared(needs) => Some(needs),
+            NeedsStorage::Own(_) => None,
+            NeedsStorage::Shared(needs) => Some(needs),
         }
     }
 }
@@ -114,9 +114,9 @@ pub(crate) struct PlainNeeds {
 
 impl Model for PlainNeeds {
     ghost use Rattle.kt_text.specs.Words.{Text};
-    ghost use Rattle.kt_rules.specs.declared.entry.Needs.{Needs as AnyNeeds};
+    ghost use Rattle.kt_rules.specs.declared.entry.Needs.{Needs};
 
-    ghost Value = { Text × AnyNeeds };
+    ghost Value = { Text × Needs };
 
     ghost use Rattle.kt_rules.specs.inner.Remembered.{AreToldOf};
 
@@ -128,7 +128,7 @@ impl Model for PlainNeeds {
 impl PlainNeeds {
     /// The prerequisites of a text, which is copied.
     pub(crate) fn of(alloc: Global, text: &[u8], needs: Needs) -> Result<PlainNeeds, AllocError>
-        requires { Names text.now needs }
+        requires { NamesNeeds text.now needs }
         ensures { IfOk result (λ plain. plain ≡ (text.now, needs)) }
     {
         let waits = needs_wait(&needs);
@@ -153,7 +153,7 @@ impl PlainNeeds {
 
     /// Whether they are those of a text.
     pub(crate) fn are_of(&self, text: &[u8]) -> bool
-        ensures { IsTrue result → Names text.now self.now.1 }
+        ensures { IsTrue result → NamesNeeds text.now self.now.1 }
     {
         let _needs = &self.needs;
         self.text.as_slice() == text

@@ -28,7 +28,7 @@ mod target;
 mod written;
 
 pub use book::{Book, BookNames, BookRule, Entries, Explicit, Pattern, TargetRule, Warnings};
-pub use entry::{Entry, Kind, Name, Needs, RecipeLine, Stemmed, Target};
+pub use entry::{Entry, Kind, Name, Needs, RecipeLine, StemmedNeeds, Target};
 pub use fault::RuleFault;
 pub use fault_kind::FaultKind;
 pub use index::Index;

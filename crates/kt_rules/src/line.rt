@@ -23,7 +23,7 @@ const NAME_SIZE: usize = 16;
 
 /// The names of a head, unquoted and without leading `./`.
 #[derive(Drop)]
-pub(crate) struct Line {
+pub(crate) struct HeadNames {
     pub(crate) separator: Separator,
     /// Without repeats.
     pub(crate) targets: Sequence<Name>,
@@ -32,12 +32,12 @@ pub(crate) struct Line {
     pub(crate) needs: HeldNeeds,
 }
 
-impl Line {
+impl HeadNames {
     /// A line without names.
-    pub(crate) fn empty(alloc: Global) -> Line
+    pub(crate) fn empty(alloc: Global) -> HeadNames
         ensures { result ≡ empty_line }
     {
-        Line {
+        HeadNames {
             separator: Separator::Single,
             targets: Sequence::from(Vec::new(alloc)),
             pattern: None,
@@ -46,11 +46,11 @@ impl Line {
     }
 
     /// The names of a head.
-    pub(crate) fn of(alloc: Global, head: &Head<'_>, signs: Signs) -> Result<Line, AllocError>
+    pub(crate) fn of(alloc: Global, head: &Head<'_>, signs: Signs) -> Result<HeadNames, AllocError>
         requires { signs ≡ signs_of (head_view head.now) }
         ensures { IfOk result (λ line. line ≡ line_of (head_view head.now)) }
     {
-        Ok(Line {
+        Ok(HeadNames {
             separator: head.separator,
             targets: targets(alloc, head.targets, signs.telling)?,
             pattern: pattern(alloc, head.pattern)?,

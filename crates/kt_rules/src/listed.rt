@@ -1,7 +1,7 @@
 //! Names held either directly or by number.
 ghost use Rattle.std.specs.Prelude.{◌≡◌, ◌∷◌, [], MatchOption, length, option_map, slice_get};
 ghost use Rattle.kt_rules.specs.Entry.{no_needs};
-ghost use Rattle.kt_rules.specs.Suffixes.{is_empty};
+ghost use Rattle.kt_rules.specs.Suffixes.{has_no_names};
 ghost use Rattle.kt_list.specs.Names.{names_at};
 ghost use Rattle.kt_rules.specs.Targets.{listed_needs, listed_view};
 
@@ -10,14 +10,14 @@ use kt_list::Names;
 
 /// A list of names.
 #[derive(Clone, Copy)]
-pub(crate) enum Listed<'a> {
+pub(crate) enum AnyNames<'a> {
     Own(&'a [Name]),
-    ByNumber(Numbered<'a>),
+    ByNumber(NumberedNames<'a>),
 }
 
 /// A list of names, held by number.
 #[derive(Clone, Copy)]
-pub(crate) struct Numbered<'a> {
+pub(crate) struct NumberedNames<'a> {
     pub(crate) names: &'a Names,
     pub(crate) numbers: &'a [u32],
 }
@@ -33,26 +33,26 @@ pub(crate) struct ListedName<'a> {
 /// The prerequisites, without a stem.
 #[derive(Clone, Copy)]
 pub(crate) struct ListedNeeds<'a> {
-    pub(crate) prerequisites: Listed<'a>,
-    pub(crate) order_only: Listed<'a>,
+    pub(crate) prerequisites: AnyNames<'a>,
+    pub(crate) order_only: AnyNames<'a>,
 }
 
-impl<'a> Listed<'a> {
+impl<'a> AnyNames<'a> {
     pub(crate) fn len(self) -> usize
         ensures { result ≡ length (listed_view self.entry) }
     {
         match self {
-            Listed::Own(names) => names.len(),
-            Listed::ByNumber(list) => list.numbers.len(),
+            AnyNames::Own(names) => names.len(),
+            AnyNames::ByNumber(list) => list.numbers.len(),
         }
     }
 
     pub(crate) fn is_empty(self) -> bool
-        ensures { result ≡ is_empty (listed_view self.entry) }
+        ensures { result ≡ has_no_names (listed_view self.entry) }
     {
         match self {
-            Listed::Own(names) => matches!(names, []),
-            Listed::ByNumber(list) => matches!(list.numbers, []),
+            AnyNames::Own(names) => matches!(names, []),
+            AnyNames::ByNumber(list) => matches!(list.numbers, []),
         }
     }
 
@@ -61,19 +61,19 @@ impl<'a> Listed<'a> {
         ensures { option_map (λ name. name.now) result ≡ slice_get (listed_view self.entry) place }
     {
         match self {
-            Listed::Own(names) => own_at(names, place),
-            Listed::ByNumber(list) => list.at(place),
+            AnyNames::Own(names) => own_at(names, place),
+            AnyNames::ByNumber(list) => list.at(place),
         }
     }
 
     /// The first name, and the others.
-    pub(crate) fn split_first(self) -> Option<(ListedName<'a>, Listed<'a>)>
+    pub(crate) fn split_first(self) -> Option<(ListedName<'a>, AnyNames<'a>)>
         ensures { MatchOption result (listed_view self.entry ≡ [])
             (λ cut. listed_view self.entry ≡ cut.0.name.now ∷ listed_view cut.1) }
     {
         match self {
-            Listed::Own(names) => first_own(names),
-            Listed::ByNumber(list) => first_numbered(list),
+            AnyNames::Own(names) => first_own(names),
+            AnyNames::ByNumber(list) => first_numbered(list),
         }
     }
 }
@@ -84,15 +84,15 @@ fn own_at(names: &[Name], place: usize) -> Option<&[u8]>
     Some(names.get(place)?.as_slice())
 }
 
-fn first_own(names: &[Name]) -> Option<(ListedName<'_>, Listed<'_>)>
+fn first_own(names: &[Name]) -> Option<(ListedName<'_>, AnyNames<'_>)>
     ensures { MatchOption result (names.now ≡ []) (λ cut. names.now ≡ cut.0.name.now ∷ listed_view cut.1) }
 {
     let (name, after) = names.split_first()?;
     let name = name.as_slice();
-    Some((ListedName { name, number: None }, Listed::Own(after)))
+    Some((ListedName { name, number: None }, AnyNames::Own(after)))
 }
 
-fn first_numbered<'a>(list: Numbered<'a>) -> Option<(ListedName<'a>, Listed<'a>)>
+fn first_numbered<'a>(list: NumberedNames<'a>) -> Option<(ListedName<'a>, AnyNames<'a>)>
     ensures { MatchOption result (names_at list.entry.names.now list.entry.numbers.now ≡ [])
         (λ cut. names_at list.entry.names.now list.entry.numbers.now ≡ cut.0.name.now ∷ listed_view cut.1) }
 {
@@ -102,11 +102,11 @@ fn first_numbered<'a>(list: Numbered<'a>) -> Option<(ListedName<'a>, Listed<'a>)
     let names = list.names;
     Some((
         ListedName { name, number },
-        Listed::ByNumber(Numbered { names, numbers }),
+        AnyNames::ByNumber(NumberedNames { names, numbers }),
     ))
 }
 
-impl<'a> Numbered<'a> {
+impl<'a> NumberedNames<'a> {
     fn at(self, place: usize) -> Option<&'a [u8]>
         ensures { option_map (λ name. name.now) result
             ≡ slice_get (names_at self.entry.names.now self.entry.numbers.now) place }
@@ -121,8 +121,8 @@ impl<'a> ListedNeeds<'a> {
         ensures { listed_needs result ≡ needs.now }
     {
         ListedNeeds {
-            prerequisites: Listed::Own(needs.prerequisites.as_slice()),
-            order_only: Listed::Own(needs.order_only.as_slice()),
+            prerequisites: AnyNames::Own(needs.prerequisites.as_slice()),
+            order_only: AnyNames::Own(needs.order_only.as_slice()),
         }
     }
 
@@ -130,8 +130,8 @@ impl<'a> ListedNeeds<'a> {
         ensures { listed_needs result ≡ no_needs }
     {
         ListedNeeds {
-            prerequisites: Listed::Own(&[]),
-            order_only: Listed::Own(&[]),
+            prerequisites: AnyNames::Own(&[]),
+            order_only: AnyNames::Own(&[]),
         }
     }
 }

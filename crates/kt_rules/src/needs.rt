@@ -8,7 +8,7 @@ ghost use Rattle.kt_rules.specs.Suffixes.{needs_nothing};
 ghost use Rattle.kt_rules.specs.Targets.{listed_needs, needed_view, names_view, needs_view, stemmed_name, text_in};
 
 use crate::entry::Needs;
-use crate::listed::{Listed, ListedNeeds};
+use crate::listed::{AnyNames, ListedNeeds};
 use crate::name::{stemmed_name, without_dots};
 use kt_list::Names;
 use kt_text::has_percent;
@@ -96,7 +96,7 @@ pub(crate) fn shared_needs<'a>(pattern: Option<&[u8]>, needs: ListedNeeds<'a>) -
 /// Names of prerequisites, in order and with repeats.
 #[derive(Drop)]
 pub struct NeededNames<'a> {
-    names: Listed<'a>,
+    names: AnyNames<'a>,
     stem: Option<&'a [u8]>,
 }
 

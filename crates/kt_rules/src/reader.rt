@@ -9,7 +9,7 @@ ghost use Rattle.kt_rules.specs.Entry.{is_nil, rule_of};
 ghost use Rattle.kt_rules.specs.Names.{name_of, without_repeats, written_words};
 ghost use Rattle.kt_rules.specs.Refusals.{GivesExpected};
 ghost use Rattle.kt_rules.specs.RuleLine.{colon_cut, group_targets, needs_of};
-ghost use Rattle.kt_rules.specs.inner.Remembered.{IsLongCut, IsPlain, Names, ReadsAsLong, long_line};
+ghost use Rattle.kt_rules.specs.inner.Remembered.{IsLongCut, IsPlain, NamesNeeds, ReadsAsLong, long_line};
 ghost use Rattle.kt_rules.specs.inner.Telling.{is_telling};
 
 use crate::cutting::colon_cut;
@@ -17,7 +17,7 @@ use crate::entry::Entry;
 use crate::fault::RuleFault;
 use crate::head::{Separator, group_targets};
 use crate::held_needs::{HeldNeeds, PlainNeeds};
-use crate::line::{Line, plain_needs, targets};
+use crate::line::{HeadNames, plain_needs, targets};
 use crate::place::Place;
 use crate::reading::{accepted, is_blank, read_rule};
 use crate::signs::{Signs, has_telling, holds_percent};
@@ -50,7 +50,7 @@ impl Model for RuleReader {
 // A line with long prerequisites, and what its text tells of its names.
 #[derive(Drop)]
 struct LongLine {
-    line: Line,
+    line: HeadNames,
     signs: Signs,
 }
 
@@ -92,7 +92,7 @@ impl RuleReader {
 
     // The prerequisites of a text, if it is plain.
     fn needs(&mut self, text: &[u8]) -> Result<Option<HeldNeeds>, AllocError>
-        ensures { IfOk result (λ found. IfSome found (Names text.now)) }
+        ensures { IfOk result (λ found. IfSome found (NamesNeeds text.now)) }
     {
         match &self.last {
             Some(last) if last.are_of(text) => Ok(Some(HeldNeeds::shared(last)?)),
@@ -105,7 +105,7 @@ impl RuleReader {
     #[tactic(auto, using(crate::proofs::SignLemmas::no_backslash_in))]
     fn learned(&mut self, text: &[u8]) -> Result<HeldNeeds, AllocError>
         requires { IsPlain text.now }
-        ensures { IfOk result (Names text.now) }
+        ensures { IfOk result (NamesNeeds text.now) }
     {
         let needs = plain_needs(self.alloc, text)?;
         let plain = Rc::new(self.alloc, PlainNeeds::of(self.alloc, text, needs)?)?;
@@ -125,7 +125,7 @@ impl LongLine {
             telling: has_telling(text),
             percent: holds_percent(text),
         };
-        let line = Line {
+        let line = HeadNames {
             separator: Separator::Single,
             targets: targets(alloc, text, signs.telling)?,
             pattern: None,

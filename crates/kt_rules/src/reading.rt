@@ -4,7 +4,7 @@ ghost use Rattle.std.specs.List.{list_all, list_any};
 ghost use Rattle.kt_text.specs.Match.{has_percent};
 ghost use Rattle.kt_text.specs.Words.{is_separator, words_of};
 ghost use Rattle.kt_rules.specs.Refusals.{GivesExpected, faults_at};
-ghost use Rattle.kt_rules.specs.Entry.{is_nil, kind_of, recipe_of, rule_of, rule_with, rules_with};
+ghost use Rattle.kt_rules.specs.Entry.{is_nil, kind_of, recipe_on_line, rule_of, rule_with, rules_with};
 ghost use Rattle.kt_rules.specs.Entry.{tested_line};
 ghost use Rattle.kt_rules.specs.inner.Telling.{Tells};
 
@@ -12,7 +12,7 @@ use crate::checking::{any_percent, line_refusal};
 use crate::entry::{Entry, Kind, RecipeLine, first_line};
 use crate::fault::RuleFault;
 use crate::head::{Separator, cut_head};
-use crate::line::Line;
+use crate::line::HeadNames;
 use crate::place::Place;
 use crate::signs::Signs;
 use crate::static_pattern::StaticPattern;
@@ -39,14 +39,14 @@ pub fn read_rule(
     ensures { GivesExpected result (rule_of text.now recipe place) }
 {
     if is_blank(text) {
-        return Ok(entry(alloc, Line::empty(alloc), false, recipe, place)?);
+        return Ok(entry(alloc, HeadNames::empty(alloc), false, recipe, place)?);
     }
     let head = match cut_head(text) {
         Ok(head) => head,
         Err(refusal) => return Err(refusal.at(alloc, place)),
     };
     let signs = Signs::of(&head);
-    match Line::of(alloc, &head, signs) {
+    match HeadNames::of(alloc, &head, signs) {
         Ok(line) => accepted(alloc, line, signs, recipe, place),
         Err(AllocError) => Err(RuleFault::Memory),
     }
@@ -56,7 +56,7 @@ pub fn read_rule(
 #[inline(always)]
 pub(crate) fn accepted(
     alloc: Global,
-    line: Line,
+    line: HeadNames,
     signs: Signs,
     recipe: Option<Shared<u8>>,
     place: Place,
@@ -68,7 +68,7 @@ pub(crate) fn accepted(
         return Err(refusal.at(alloc, place));
     }
     if line.targets.as_slice().is_empty() {
-        return Ok(entry(alloc, Line::empty(alloc), false, recipe, place)?);
+        return Ok(entry(alloc, HeadNames::empty(alloc), false, recipe, place)?);
     }
     Ok(entry(alloc, line, signs.percent, recipe, place)?)
 }
@@ -90,7 +90,7 @@ fn has_separators_only(text: &[u8]) -> bool
 // The entry of a line, given whether its targets may have a percent sign.
 fn entry(
     alloc: Global,
-    line: Line,
+    line: HeadNames,
     percent: bool,
     recipe: Option<Shared<u8>>,
     place: Place,
@@ -101,7 +101,7 @@ fn entry(
     let has_percent = percent && any_percent(line.targets.as_slice());
     let kind = kind_of(line.separator, has_percent);
     let recipe = recipe_of(alloc, recipe, &place)?;
-    let Line {
+    let HeadNames {
         separator: _,
         targets,
         pattern,
@@ -138,7 +138,7 @@ fn recipe_of(
     recipe: Option<Shared<u8>>,
     place: &Place,
 ) -> Result<Option<Vec<RecipeLine>>, AllocError>
-    ensures { IfOk result (λ lines. option_map (λ v. v.items) lines ≡ recipe_of recipe place.now) }
+    ensures { IfOk result (λ lines. option_map (λ v. v.items) lines ≡ recipe_on_line recipe place.now) }
 {
     let Some(text) = recipe else {
         return Ok(None);

@@ -7,7 +7,7 @@ ghost use Rattle.kt_rules.specs.Entry.{stemmed, stemmed_of, target_of};
 ghost use Rattle.kt_rules.specs.Targets.{listed_needs, target_view, targets_view, text_in};
 ghost use Rattle.kt_rules.specs.declared.entry.Needs.{Needs as AllNeeds};
 
-use crate::listed::{Listed, ListedNeeds};
+use crate::listed::{AnyNames, ListedNeeds};
 use kt_text::match_pattern;
 
 /// A target of an entry. In a static pattern rule, its stem and prerequisites are computed when they are requested.
@@ -53,7 +53,7 @@ fn stem_in<'a>(pattern: &[u8], name: &'a [u8]) -> Option<&'a [u8]>
 /// The targets of an entry, in order.
 #[derive(Drop)]
 pub struct Targets<'a> {
-    pub(crate) names: Listed<'a>,
+    pub(crate) names: AnyNames<'a>,
     pub(crate) pattern: Option<&'a [u8]>,
     pub(crate) needs: ListedNeeds<'a>,
 }

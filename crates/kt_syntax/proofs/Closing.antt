@@ -1,11 +1,11 @@
 -- Where a reference is closed.
 use Rattle.std.proofs.Common.{rules, ◌≡◌, ◌≢◌, ◌==◌, ◌≤◌, ◌<◌, ◌-◌, ◌+◌, ℕ, suc, Bool, true, false, [], ◌∷◌, ◌++◌, Option, Some, None, length, take, drop, refl, sym, ap, ◌∙◌, arith, filter, ⊎_elim, add-zero, zero-add}
-use Rattle.kt_syntax.proofs.Common.{cases_Bool, false_from_ne_true, eqb-true, eq-eqb, length-filter, same_Some, take_nil, above_zero, sum_suc, Text, count_of, IsBalanced, IsUnclosed, closing}
+use Rattle.kt_syntax.proofs.Common.{cases_Bool, false_from_ne_true, eqb-true, eq-eqb, length-filter, same_Some, take_nil, above_zero, sum_suc, Text, byte_count, IsBalanced, IsUnclosed, closing}
 
 -- no front of the text closes more than is open before it, and the whole closes all that
 pub record Closes (opener closer depth : ℕ) (text : Text) : Type 0 where
-  pub fronts : (n : ℕ) → count_of closer (take n text) ≤ depth + count_of opener (take n text)
-  pub even : count_of closer text ≡ depth + count_of opener text
+  pub fronts : (n : ℕ) → byte_count closer (take n text) ≤ depth + byte_count opener (take n text)
+  pub even : byte_count closer text ≡ depth + byte_count opener text
 
 -- one step of the search, by what the byte is
 closing-open : (opener closer at depth byte : ℕ) (text : Text) → (byte == opener) ≡ true
@@ -37,18 +37,18 @@ no_filter p byte text h = rw h refl
 one_more : (xs : Text) (n : ℕ) → length xs ≡ n → suc (length xs) ≡ 1 + n
 one_more xs n e = omega arith
 
-pub count_yes : (mark byte : ℕ) (text : Text) → (byte == mark) ≡ true → count_of mark (byte ∷ text) ≡ 1 + count_of mark text
-unfolding count_of
+pub count_yes : (mark byte : ℕ) (text : Text) → (byte == mark) ≡ true → byte_count mark (byte ∷ text) ≡ 1 + byte_count mark text
+unfolding byte_count
 count_yes mark byte text h =
     let p : ℕ → Bool = λ b. b == mark in
-    sym (length-filter p (byte ∷ text)) ∙ ap length (yes_filter p byte text h) ∙ one_more (filter p text) (count_of mark text) (length-filter p text)
+    sym (length-filter p (byte ∷ text)) ∙ ap length (yes_filter p byte text h) ∙ one_more (filter p text) (byte_count mark text) (length-filter p text)
 
-pub count_no : (mark byte : ℕ) (text : Text) → (byte == mark) ≡ false → count_of mark (byte ∷ text) ≡ count_of mark text
-unfolding count_of
+pub count_no : (mark byte : ℕ) (text : Text) → (byte == mark) ≡ false → byte_count mark (byte ∷ text) ≡ byte_count mark text
+unfolding byte_count
 count_no mark byte text h = grind (arith, length-filter, length, no_filter)
 
-pub count_nil : (mark : ℕ) → count_of mark [] ≡ 0
-unfolding count_of
+pub count_nil : (mark : ℕ) → byte_count mark [] ≡ 0
+unfolding byte_count
 count_nil mark = refl
 
 not_zero : (n : ℕ) → 0 < n → (n == 0) ≡ false
@@ -66,7 +66,7 @@ differ opener closer byte ne h = grind (arith, eqb-true)
 -- what a byte does to the count of what is open: that before it and after it
 abbrev Moves : ℕ → ℕ → ℕ → ℕ → ℕ → Type 0
 Moves opener closer depth deeper byte =
-    (text : Text) → (depth + count_of opener (byte ∷ text)) + count_of closer text ≡ (deeper + count_of opener text) + count_of closer (byte ∷ text)
+    (text : Text) → (depth + byte_count opener (byte ∷ text)) + byte_count closer text ≡ (deeper + byte_count opener text) + byte_count closer (byte ∷ text)
 
 moves_open : (opener closer depth byte : ℕ) → (byte == opener) ≡ true → (byte == closer) ≡ false → Moves opener closer depth (depth + 1) byte
 moves_open opener closer depth byte h k text = let a = count_yes opener byte text h in let b = count_no closer byte text k in omega arith
@@ -126,7 +126,7 @@ pub record Found (opener closer depth : ℕ) (text : Text) (size : ℕ) : Type 0
 none_some : {P : Type 0} (a : ℕ) → None ≡ Some a → P
 none_some a e = absurd (cc e)
 
-nil_front : (opener closer depth n : ℕ) → count_of closer (take {A = ℕ} n []) ≤ depth + count_of opener (take {A = ℕ} n [])
+nil_front : (opener closer depth n : ℕ) → byte_count closer (take {A = ℕ} n []) ≤ depth + byte_count opener (take {A = ℕ} n [])
 nil_front opener closer depth n = let a = count_nil closer in rw (take_nil n) (omega arith)
 
 -- the search is sound

@@ -7,12 +7,12 @@ pub use Rattle.kt_syntax.specs.Comments.{backslashes, begins_comment}
 unfoldable pub use Rattle.kt_syntax.specs.Comments.{uncommented, uncommented_of}
 pub use Rattle.kt_syntax.specs.Heads.{after_colon, assigns_after, found_or, modifier_at, parts_with}
 unfoldable pub use Rattle.kt_syntax.specs.Heads.{after_modifier, after_modifiers, colon_place, first_recipe, head_end, head_text, is_modifier, is_target_specific, rule_texts}
-pub use Rattle.kt_syntax.specs.Kinds.{Parts, assignment, blank, directive, ends_name, kind_by_parts, kind_by_word, kind_view, parts_after, parts_at, past_blanks, rule}
-unfoldable pub use Rattle.kt_syntax.specs.Kinds.{assignment_parts, before_comment, block_word, directive_of, include_word, is_refused_word, kind_of, kind_within, name_end, operator_of, worded}
+pub use Rattle.kt_syntax.specs.Kinds.{Parts, assignment, blank, directive, ends_name, kind_by_parts, kind_by_word, line_form_view, parts_after, parts_at, past_blanks, rule}
+unfoldable pub use Rattle.kt_syntax.specs.Kinds.{assignment_parts, before_comment, block_word, directive_of, form_of, include_word, is_refused_word, kind_within, name_end, operator_of, worded}
 pub use Rattle.kt_syntax.specs.Mask.{goes_odd, mask_byte}
 unfoldable pub use Rattle.kt_syntax.specs.Mask.{mask_from, mask_of, more_masked}
-pub use Rattle.kt_syntax.specs.Terms.{Continuations, EndsRun, IsBalanced, IsSingle, IsSplittingIn, IsUnclosed, OneSplitting, dropped, is_special, literal_run, referred, single, token_of}
-unfoldable pub use Rattle.kt_syntax.specs.Terms.{after_dollar, closing, count_of, first_term, terms_after, terms_of}
+pub use Rattle.kt_syntax.specs.Terms.{Continuations, EndsRun, IsBalanced, IsSingle, IsSplittingIn, IsUnclosed, OneSplitting, dropped, is_reference_mark, literal_run, reference_of, single, token_of}
+unfoldable pub use Rattle.kt_syntax.specs.Terms.{after_dollar, byte_count, closing, first_term, terms_after, terms_of}
 pub use Rattle.kt_syntax.specs.declared.form.Operator.{Operator}
 pub use Rattle.kt_syntax.specs.declared.part.OpenConditional.{OpenConditional}
 pub use Rattle.kt_syntax.specs.declared.part.OpenDefine.{OpenDefine}
@@ -32,7 +32,7 @@ pub use Rattle.kt_text.proofs.TrimLemmas.{EndsPlain, end_blanks, end_first, even
 unfoldable pub use Rattle.kt_text.proofs.TrimLemmas.{AllBlank}
 pub use Rattle.kt_text.specs.Condensing.{IsGap, continuation, returned, space, tab}
 pub use Rattle.kt_text.specs.Lines.{before_backslash, newline_after}
-unfoldable pub use Rattle.kt_text.specs.Lines.{condensed_group, condensed_line, condensed_of, condensed_rest, groups, is_continued, is_ended, pieces_of}
+unfoldable pub use Rattle.kt_text.specs.Lines.{condensed_group, condensed_line, condensed_of, condensed_rest, groups, is_continued, is_ended, newline_pieces}
 unfoldable pub use Rattle.kt_text.specs.Words.{is_blank}
 pub use Rattle.memchr.specs.Find.{IsFirstByte, is_byte, is_byte3}
 pub use Rattle.std.proofs.Common.{append-nil, length-append, length-drop, length-take-le, refl, take, take-append-drop}
@@ -46,4 +46,4 @@ pub use Rattle.std.proofs.lemmas.Option.{get_or_from_slice_get, none-some, same_
 pub use Rattle.std.proofs.lemmas.Slice.Eq.{bytes_eq-Decides, starts_is}
 pub use Rattle.std.specs.List.{concat, onto_first, prefix_len, suffix_len}
 pub use Rattle.std.specs.Str.{bytes_eq}
-pub use Rattle.kt_syntax.specs.Prelude.{BlockPart, Edge, FirstStands, HasNoNewline, Head, Inside, IsNewline, IsTerm, Missing, Newline, Outside, Role, Spacing, Step, Text, Token, comment_place, dollar, flat_map, inside, is_continuation, is_continued_text, kept, line_kind, list_all, list_any, literal, past_word, position_or_len, reference, slice_get, slice_range, spelled, starts_with, trimmed_end, trimmed_start, unclosed, unit_length}
+pub use Rattle.kt_syntax.specs.Prelude.{BlockPart, BlockStep, Edge, FirstStands, HasNoNewline, Inside, IsNewline, IsTerm, Missing, Newline, NumberedRole, Outside, Role, Spacing, Term, Text, comment_place, dollar, flat_map, inside, is_continuation, is_continued_text, kept, line_form, list_all, list_any, literal, past_word, position_or_len, reference, slice_get, slice_range, spelled, starts_with, trimmed_end, trimmed_start, unclosed, unit_length}

@@ -1,7 +1,7 @@
 -- The first byte of a line whose continuations are condensed: that of the line, unless it is a blank, a backslash or one
 -- of a line's end.
 use Rattle.std.proofs.Common.{◌≡◌, ◌≤◌, ◌==◌, ◌&&◌, ◌-◌, ℕ, suc, List, [], ◌∷◌, ◌++◌, true, false, true≢false, length, take, reverse, arith, refl, sym, ap, ◌∙◌, subst, cond, ⊎_elim, nat_lt, slice_index}
-use Rattle.kt_syntax.proofs.Common.{cases_Bool, length-reverse, reverse-append, flat_map, onto_first, prefix_len, suffix_len, no_cr, without_terminator, and_second, less_one, Text, is_blank, trimmed_end, condensed_group, condensed_line, condensed_of, groups, is_continued, is_continued_text, pieces_of}
+use Rattle.kt_syntax.proofs.Common.{cases_Bool, length-reverse, reverse-append, flat_map, onto_first, prefix_len, suffix_len, no_cr, without_terminator, and_second, less_one, Text, is_blank, trimmed_end, condensed_group, condensed_line, condensed_of, groups, is_continued, is_continued_text, newline_pieces}
 
 abbrev Begins : ℕ → Text → Type 0
 Begins byte text = (rest : Text) × (text ≡ byte ∷ rest)
@@ -104,5 +104,5 @@ pieces_begin byte (piece ∷ pieces) stays = lines_begin byte piece pieces stays
 
 -- a condensed line begins as the line does
 pub begins_alike : (byte : ℕ) (text : Text) → Stays byte → (rest : Text) × (condensed_of (byte ∷ text) ≡ byte ∷ rest)
-unfolding condensed_of pieces_of
-begins_alike byte text stays = rw stays.newline (pieces_begin byte (pieces_of text) stays)
+unfolding condensed_of newline_pieces
+begins_alike byte text stays = rw stays.newline (pieces_begin byte (newline_pieces text) stays)

@@ -1,6 +1,6 @@
 -- Kinds of lines from the places of their parts.
 use Rattle.std.proofs.Common.{arith, ◌≡◌, ◌≤◌, ◌-◌, ◌+◌, ◌==◌, ℕ, Bool, true, false, length, take, drop, refl, sym, ap, ◌∙◌, Option, Some}
-use Rattle.kt_syntax.proofs.Common.{eq-eqb, false_from_ne_true, eqb-true, take_rest, slice_range, Text, Operator, mask_of, Parts, blank, comment_place, past_blanks, past_word, operator_of, name_end, assignment_parts, directive_of, kind_by_word, kind_by_parts, worded, kind_within, kind_of}
+use Rattle.kt_syntax.proofs.Common.{eq-eqb, false_from_ne_true, eqb-true, take_rest, slice_range, Text, Operator, mask_of, Parts, blank, comment_place, past_blanks, past_word, operator_of, name_end, assignment_parts, directive_of, kind_by_word, kind_by_parts, worded, kind_within, form_of}
 use Rattle.kt_syntax.proofs.Masking.{length-front}
 
 pub parts_found : (text mask : Text) (begin name place : ℕ) (found : Operator × ℕ) (value : ℕ) → Some name ≡ name_end begin (drop begin mask) (drop begin text)
@@ -16,12 +16,12 @@ worded_by tab text mask begin after rest a r = grind (arith, slice_range, take_r
 
 -- the front of a line before its comment
 within_comment : (text : Text) (tab : Bool) (end begin : ℕ) → end ≡ comment_place text → begin ≡ past_blanks 0 (take end (mask_of text))
-    → kind_within tab text (take end (mask_of text)) begin ≡ kind_of text tab
-unfolding kind_of
+    → kind_within tab text (take end (mask_of text)) begin ≡ form_of text tab
+unfolding form_of
 within_comment text tab end begin e b = grind (arith, take)
 
 pub kind_blank : (text : Text) (tab : Bool) (end begin : ℕ) → end ≡ comment_place text → end ≤ length text → begin ≡ past_blanks 0 (take end (mask_of text)) → begin ≡ end
-    → blank ≡ kind_of text tab
+    → blank ≡ form_of text tab
 unfolding kind_within
 kind_blank text tab end begin e within b same =
     let at_end : (begin == length (take end (mask_of text))) ≡ true = eq-eqb begin (length (take end (mask_of text))) (same ∙ sym (length-front text end within)) in
@@ -29,7 +29,7 @@ kind_blank text tab end begin e within b same =
 
 pub kind_other : (text : Text) (tab : Bool) (end begin : ℕ) (parts : Option Parts) → end ≡ comment_place text → end ≤ length text → begin ≡ past_blanks 0 (take end (mask_of text))
     → (begin ≡ end → ⊥) → parts ≡ assignment_parts text (take end (mask_of text)) begin
-    → kind_by_parts tab text (take end (mask_of text)) begin parts ≡ kind_of text tab
+    → kind_by_parts tab text (take end (mask_of text)) begin parts ≡ form_of text tab
 unfolding kind_within
 kind_other text tab end begin parts e within b other p =
     let not_end : (begin == length (take end (mask_of text))) ≡ false =

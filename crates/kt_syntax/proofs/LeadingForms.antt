@@ -1,6 +1,6 @@
 -- Lines that begin with a name or a target: assignments, and rule lines by their first word.
 use Rattle.std.proofs.Common.{rules, ◌≡◌, ◌==◌, ◌+◌, ◌-◌, ◌≤◌, ◌<◌, ℕ, suc, Bool, true, false, List, [], ◌∷◌, ◌++◌, Option, Some, None, length, take, drop, refl, sym, ap, subst, ◌∙◌, arith, ⊎_elim, true≢false, take-append-drop, length-take-le, drop-drop, codes, is_some, nat_eq}
-use Rattle.kt_syntax.proofs.Common.{drop-append-add, take-append-add, and_parts, cases_Bool, eqb-true, false_from_ne_true, or_cases, or_parts, bytes_eq-Decides, list_all, list_any, position_or_len, prefix_len, slice_range, starts_with, bytes_eq, Text, is_blank, trimmed_start, Operator, Parts, assignment, assignment_parts, before_comment, block_word, directive_of, include_word, is_refused_word, kind_by_word, kind_of, name_end, operator_of, past_blanks, past_word, rule, worded, inside, mask_from, mask_of}
+use Rattle.kt_syntax.proofs.Common.{drop-append-add, take-append-add, and_parts, cases_Bool, eqb-true, false_from_ne_true, or_cases, or_parts, bytes_eq-Decides, list_all, list_any, position_or_len, prefix_len, slice_range, starts_with, bytes_eq, Text, is_blank, trimmed_start, Operator, Parts, assignment, assignment_parts, before_comment, block_word, directive_of, include_word, is_refused_word, kind_by_word, form_of, name_end, operator_of, past_blanks, past_word, rule, worded, inside, mask_from, mask_of}
 use Rattle.kt_syntax.proofs.LeadingWords.{all_quiet, assignment_led, cut_led, is_own, is_quiet, is_solid, kind_by, kind_worded, left_before, length_run, mask_apart, mask_led, name_led, name_over, own_over, prefix_over, quiet, run_of, run_whole, symbols_of, taken_all}
 use Rattle.kt_syntax.proofs.OwnRuns.{no_operator}
 use Rattle.kt_syntax.proofs.OwnSymbols.{own_byte}
@@ -101,7 +101,7 @@ text_led word after size more = grind (arith, length, run_of, drop-append-add, d
 
 kind_signed : (tab : Bool) (word after : Text) (found : Operator × ℕ) → list_all is_quiet word ≡ true → 0 < length word → operator_of (trimmed_start after) ≡ Some found
     → found.1 ≤ length (trimmed_start after) → begins_slash (trimmed_start (drop found.1 (trimmed_start after))) ≡ false
-    → kind_of (word ++ after) tab ≡ assignment word found.0 (trimmed_start (drop found.1 (trimmed_start after)))
+    → form_of (word ++ after) tab ≡ assignment word found.0 (trimmed_start (drop found.1 (trimmed_start after)))
 kind_signed tab word after found h some o within a =
     let text : Text = word ++ after in
     let rest : Text = trimmed_start after in
@@ -180,7 +180,7 @@ word_colon word after h =
           ∙ take-append-add word (58 ∷ after) (suc count),
     )
 
-kind_colon : (tab : Bool) (word after : Text) → list_all is_quiet word ≡ true → 0 < length word → operator_of (58 ∷ after) ≡ None → kind_of (word ++ (58 ∷ after)) tab ≡ rule
+kind_colon : (tab : Bool) (word after : Text) → list_all is_quiet word ≡ true → 0 < length word → operator_of (58 ∷ after) ≡ None → form_of (word ++ (58 ∷ after)) tab ≡ rule
 unfolding worded
 kind_colon tab word after h some o =
     let text : Text = word ++ (58 ∷ after) in
@@ -233,19 +233,19 @@ word_taken text size is = ap (λ n. list_all is_quiet (take n text)) is ∙ take
 
 pub form_assigned : (text word after rest value : Text) (tab : Bool) (operator : Operator) (size : ℕ) → IsQuietWord word after text → rest ≡ trimmed_start after
     → Some (operator, size) ≡ operator_of rest → size ≤ length rest → value ≡ trimmed_start (drop size rest) → begins_slash value ≡ false
-    → assignment word operator value ≡ kind_of text tab
+    → assignment word operator value ≡ form_of text tab
 form_assigned text word after rest value tab operator size cut r o within v a =
     let here : operator_of (trimmed_start after) ≡ Some (operator, size) = sym (o ∙ ap operator_of r) in
     let all : value ≡ trimmed_start (drop size (trimmed_start after)) = v ∙ ap (λ (t : Text). trimmed_start (drop size t)) r in
     ap (assignment word operator) all
-    ∙ sym (ap (λ (t : Text). kind_of t tab) cut.0
+    ∙ sym (ap (λ (t : Text). form_of t tab) cut.0
     ∙ kind_signed tab word after (operator, size) cut.1 cut.2 here (rw r at within) (sym (ap begins_slash all) ∙ a))
 
 pub form_colon : (word after rest : Text) (tab : Bool) → list_all is_quiet word ≡ true → 0 < length word → rest ≡ trimmed_start after → None ≡ operator_of rest → begins_colon after ≡ true
-    → rule ≡ kind_of (word ++ after) tab
+    → rule ≡ form_of (word ++ after) tab
 unfolding is_blank
 form_colon word after rest tab h some r o colon = grind (arith, true≢false, eqb-true, kind_colon)
 
 pub form_worded : (word after rest : Text) (tab : Bool) → list_all is_quiet word ≡ true → 0 < length word → rest ≡ trimmed_start after → None ≡ operator_of rest → is_apart after ≡ true
-    → begins_slash rest ≡ false → kind_by_word (directive_of tab word) word rest ≡ kind_of (word ++ after) tab
+    → begins_slash rest ≡ false → kind_by_word (directive_of tab word) word rest ≡ form_of (word ++ after) tab
 form_worded word after rest tab h some r o apart a = grind (arith, kind_worded)

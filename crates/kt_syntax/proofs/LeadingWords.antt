@@ -1,6 +1,6 @@
 -- Lines that begin with a word of blocks: their symbols, and their kind.
 use Rattle.std.proofs.Common.{rules, ◌≡◌, ◌==◌, ◌&&◌, ◌+◌, ◌-◌, ◌<◌, ℕ, zero, suc, Bool, true, false, not, List, [], ◌∷◌, ◌++◌, Option, Some, None, length, take, drop, refl, sym, ap, ◌∙◌, arith, zero-add, ⊎_elim, true≢false, take-append-drop, is_some}
-use Rattle.kt_syntax.proofs.Common.{take-append_seam, take-append-add, drop-append_seam, drop-append-add, and_parts, cases_Bool, eqb-true, false_from_ne_true, not-true, not_from_false, or_parts, list_all, prefix_len, slice_range, take_nil, Text, is_blank, trimmed_start, Parts, assignment_parts, before_comment, block_word, comment_place, directive, directive_of, kind_by_parts, kind_by_word, kind_of, kind_within, name_end, operator_of, parts_after, parts_at, past_blanks, past_word, worded, mask_byte, mask_from, mask_of, more_masked, Operator}
+use Rattle.kt_syntax.proofs.Common.{take-append_seam, take-append-add, drop-append_seam, drop-append-add, and_parts, cases_Bool, eqb-true, false_from_ne_true, not-true, not_from_false, or_parts, list_all, prefix_len, slice_range, take_nil, Text, is_blank, trimmed_start, Parts, assignment_parts, before_comment, block_word, comment_place, directive, directive_of, kind_by_parts, kind_by_word, form_of, kind_within, name_end, operator_of, parts_after, parts_at, past_blanks, past_word, worded, mask_byte, mask_from, mask_of, more_masked, Operator}
 use Rattle.kt_syntax.specs.declared.form.Directive.{Directive}
 use Rattle.kt_syntax.proofs.Masking.{mask_from-nil}
 use Rattle.kt_syntax.proofs.OwnRuns.{name_goes_on, no_operator}
@@ -218,8 +218,8 @@ symbols_of word after = word ++ take (left_before after) (mask_from 0 0 false af
 
 -- its kind, by what it is as an assignment
 pub kind_by : (tab : Bool) (word after : Text) (parts : Option Parts) → list_all is_quiet word ≡ true → 0 < length word → assignment_parts (word ++ after) (symbols_of word after) 0 ≡ parts
-    → kind_of (word ++ after) tab ≡ kind_by_parts tab (word ++ after) (symbols_of word after) 0 parts
-unfolding kind_of kind_within
+    → form_of (word ++ after) tab ≡ kind_by_parts tab (word ++ after) (symbols_of word after) 0 parts
+unfolding form_of kind_within
 kind_by tab [] after parts h some p = absurd (omega arith)
 kind_by tab (first ∷ others) after parts h some p =
     let word : Text = first ∷ others in
@@ -260,7 +260,7 @@ unfolding worded
 worded_led tab word after h apart a = grind (arith, length, mask_led, blanks_led, run_whole, slice_range, word_led, cut_led, rest_led)
 
 pub kind_worded : (tab : Bool) (word after : Text) → list_all is_quiet word ≡ true → 0 < length word → is_apart after ≡ true → begins_slash (trimmed_start after) ≡ false
-    → operator_of (trimmed_start after) ≡ None → kind_of (word ++ after) tab ≡ kind_by_word (directive_of tab word) word (trimmed_start after)
+    → operator_of (trimmed_start after) ≡ None → form_of (word ++ after) tab ≡ kind_by_word (directive_of tab word) word (trimmed_start after)
 kind_worded tab word after h some apart a o =
     kind_by tab word after None h some (assignment_led word after None h (name_led (left_before after) (length word) after apart) a o)
     ∙ worded_led tab word after h apart a
@@ -289,7 +289,7 @@ unfolding directive_of
 directed word found rest block = rw block refl
 
 pub leading_kind : (text after rest : Text) (word : Directive) → IsLed word text after → rest ≡ trimmed_start after → is_apart after ≡ true → may_assign rest ≡ false
-    → directive word rest ≡ kind_of text false
+    → directive word rest ≡ form_of text false
 leading_kind text after rest word led is apart a = grind (arith, block_words, unassigning, kind_worded, directed)
 
 pub leading_first : (text after : Text) (word : Directive) → IsLed word text after → is_apart after ≡ true → block_word (first_word text) ≡ Some word

@@ -1,6 +1,6 @@
 -- The mask that is computed is that of the line's terms.
 use Rattle.std.proofs.Common.{◌≡◌, ◌==◌, ◌≤◌, ◌<◌, ◌-◌, ◌+◌, not, ℕ, zero, suc, Bool, true, false, List, [], ◌∷◌, ◌++◌, length, take, drop, get_or, replicate, refl, sym, ap, subst, ◌∙◌, arith, ⊎_elim, ◌⊎◌, inl, inr, length-drop, length-take-le, add-zero, append_assoc, nat_eq, slice_index}
-use Rattle.kt_syntax.proofs.Common.{and_parts, cases_Bool, cases_lt, eq-eqb, eqb-true, false_from_ne_true, false≢true, drop_more, drop_at, drop-drop, get_or-drop, Text, append-nil, ext_get_or, length-append, drop_all, take-append-drop, get_or-append_seam, Byte, Parentheses, Braces, Token, literal, dollar, reference, unclosed, kept, unit_length, IsTerm, IsSplittingIn, EndsRun, count_of, after_dollar, first_term, literal_run, inside, goes_odd, mask_byte, more_masked, mask_of}
+use Rattle.kt_syntax.proofs.Common.{and_parts, cases_Bool, cases_lt, eq-eqb, eqb-true, false_from_ne_true, false≢true, drop_more, drop_at, drop-drop, get_or-drop, Text, append-nil, ext_get_or, length-append, drop_all, take-append-drop, get_or-append_seam, Byte, Parentheses, Braces, Term, literal, dollar, reference, unclosed, kept, unit_length, IsTerm, IsSplittingIn, EndsRun, byte_count, after_dollar, first_term, literal_run, inside, goes_odd, mask_byte, more_masked, mask_of}
 use Rattle.kt_syntax.specs.Masked.{IsContinued, IsSymbol, IsMasked, IsMaskOf, MaskLaw, is_outside}
 use Rattle.kt_syntax.proofs.Masking.{mask_from-nil, length-mask_of}
 use Rattle.kt_syntax.proofs.Runs.{run, run-no, run-yes, run_within, run_ends, no_dollar}
@@ -149,7 +149,7 @@ last_mark line body rest place opener closer e =
     ∙ ap (λ t. get_or (36 ∷ opener ∷ t) (suc (suc (length body))) 0) (append_assoc body (closer ∷ []) rest)
     ∙ get_or-append_seam body closer rest 0
 
-record Reference (line : Text) (place : ℕ) (piece : Token) (spelled rest : Text) : Type 0 where
+record Reference (line : Text) (place : ℕ) (piece : Term) (spelled rest : Text) : Type 0 where
   within : place ≤ length line
   is_spelled : drop place line ≡ spelled ++ rest
   is : IsTerm kept piece spelled rest
@@ -157,13 +157,13 @@ record Reference (line : Text) (place : ℕ) (piece : Token) (spelled rest : Tex
   begins : get_or line place 0 ≡ 36
 
 -- a continuation after it that began inside it
-overlaps : (line : Text) (place : ℕ) (piece : Token) (spelled rest : Text) → Reference line place piece spelled rest → (c : IsContinued line (place + length spelled))
+overlaps : (line : Text) (place : ℕ) (piece : Term) (spelled rest : Text) → Reference line place piece spelled rest → (c : IsContinued line (place + length spelled))
     → place < c.start → c.start < place + length spelled → ⊥
 overlaps line place (literal []) spelled rest r c l m = grind (arith, length_in, length, append-nil, continued_within)
 overlaps line place (literal (byte ∷ bytes)) spelled rest r c l m =
     let first : get_or line (place + 0) 0 ≡ byte = in_text line spelled rest place 0 r.is_spelled ∙ ap (λ (t : Text). get_or (t ++ rest) 0 0) r.is.0 in
     let here : get_or line place 0 ≡ byte = ap (λ n. get_or line n 0) (sym (add-zero place)) ∙ first in
-    let free = (no_dollar byte bytes (ap (count_of 36) (sym r.is.0) ∙ r.is.1)).0 in
+    let free = (no_dollar byte bytes (ap (byte_count 36) (sym r.is.0) ∙ r.is.1)).0 in
     false≢true (sym free ∙ eq-eqb byte 36 (sym here ∙ r.begins))
 overlaps line place dollar spelled rest r c l m =
     let size : length spelled ≡ 2 = ap length r.is in
@@ -201,7 +201,7 @@ overlaps line place unclosed spelled rest r c l m =
     let w = continued_within line (place + length spelled) c in
     omega arith
 
-fresh_after : (line : Text) (place : ℕ) (piece : Token) (spelled rest : Text) → Reference line place piece spelled rest → 0 < length spelled → Fresh line (place + length spelled)
+fresh_after : (line : Text) (place : ℕ) (piece : Term) (spelled rest : Text) → Reference line place piece spelled rest → 0 < length spelled → Fresh line (place + length spelled)
 fresh_after line place piece spelled rest r some c =
     ⊎_elim (λ h. h)
     (λ h. ⊎_elim (λ g. absurd (overlaps line place piece spelled rest r c g h))
@@ -214,7 +214,7 @@ fresh_after line place piece spelled rest r some c =
     (at_most_or_less (place + length spelled) c.start)
 
 -- a term that begins with a dollar is no literal with bytes
-is_inside : (piece : Token) (tail rest : Text) → IsTerm kept piece (36 ∷ tail) rest → is_outside piece ≡ false
+is_inside : (piece : Term) (tail rest : Text) → IsTerm kept piece (36 ∷ tail) rest → is_outside piece ≡ false
 is_inside (literal []) tail rest is = refl
 is_inside (literal (byte ∷ bytes)) tail rest is = absurd (false≢true (sym (no_dollar 36 tail is.1).0))
 is_inside dollar tail rest is = refl
@@ -227,7 +227,7 @@ inside-symbol line place = grind (arith, false≢true)
 -- ---- the whole line
 
 record Masked (line : Text) (place : ℕ) : Type 0 where
-  pieces : List Token
+  pieces : List Term
   are : IsMasked line place pieces (mask_at line place)
 
 first-reference : (line tail : Text) (place : ℕ) → place < length line → get_or line place 0 ≡ 36 → drop (place + 1) line ≡ tail → Fresh line place
@@ -295,7 +295,7 @@ first_run line place l fresh =
     subst (λ b. Run line (is_outside (first_term kept b (drop (place + 1) line)).0) place (suc (first_term kept b (drop (place + 1) line)).1) (mask_at line place)) (sym e)
     (first-reference line (drop (place + 1) line) place l e refl fresh))
     (λ h.
-    subst (λ (x : Token × ℕ). Run line (is_outside x.0) place (suc x.1) (mask_at line place)) (sym (dollar-first (get_or line place 0) (drop (place + 1) line) h))
+    subst (λ (x : Term × ℕ). Run line (is_outside x.0) place (suc x.1) (mask_at line place)) (sym (dollar-first (get_or line place 0) (drop (place + 1) line) h))
     (first-literal line (drop (place + 1) line) place l h refl fresh))
     (cases_Bool (get_or line place 0 == 36))
 
@@ -373,7 +373,7 @@ is_continued_or_not line place =
 one_symbol : (line : Text) (outside : Bool) (place symbol other : ℕ) → IsSymbol line outside place symbol → IsSymbol line outside place other → symbol ≡ other
 one_symbol line outside place symbol other a b = grind (arith, ⊎_elim, is_continued_or_not)
 
-one_spelling : (piece : Token) (spelled rest other later : Text) → IsTerm kept piece spelled rest → IsTerm kept piece other later → spelled ++ rest ≡ other ++ later → spelled ≡ other
+one_spelling : (piece : Term) (spelled rest other later : Text) → IsTerm kept piece spelled rest → IsTerm kept piece other later → spelled ++ rest ≡ other ++ later → spelled ≡ other
 one_spelling (literal []) spelled rest other later a b e = a.0 ∙ sym b.0
 one_spelling (literal (byte ∷ bytes)) spelled rest other later a b e = a.0 ∙ sym b.0
 one_spelling dollar spelled rest other later a b e = a ∙ sym b
@@ -382,7 +382,7 @@ one_spelling (reference Parentheses body) spelled rest other later a b e = a.0 �
 one_spelling (reference Braces body) spelled rest other later a b e = a.0 ∙ sym b.0
 one_spelling unclosed spelled rest other later a b e = grind (arith, append-nil)
 
-same_symbols : (pieces : List Token) (line : Text) (place : ℕ) (mask other : List ℕ) → IsMasked line place pieces mask → IsMasked line place pieces other
+same_symbols : (pieces : List Term) (line : Text) (place : ℕ) (mask other : List ℕ) → IsMasked line place pieces mask → IsMasked line place pieces other
     → (k : ℕ) → k < length (drop place line) → slice_index mask k ≡ slice_index other k
 same_symbols [] line place mask other a b k l = let size = length-drop place line in let end = a.0 in absurd (omega arith)
 same_symbols (piece ∷ pieces) line place mask other a b k l =
@@ -400,7 +400,7 @@ same_symbols (piece ∷ pieces) line place mask other a b k l =
     ∙ get_or-drop n other (k - n) 0 ∙ ap (slice_index other) here)
     (cases_lt k n)
 
-splitting_of : (pieces : List Token) (line : Text) (place : ℕ) (mask : List ℕ) → IsMasked line place pieces mask → IsSplittingIn kept (drop place line) pieces
+splitting_of : (pieces : List Term) (line : Text) (place : ℕ) (mask : List ℕ) → IsMasked line place pieces mask → IsSplittingIn kept (drop place line) pieces
 splitting_of [] line place mask a = drop_all place line (let end = a.0 in omega arith)
 splitting_of (piece ∷ pieces) line place mask a =
     (a.0, a.1, a.2, a.3, subst (λ (t : Text). IsSplittingIn kept t pieces) (after_part line a.0 a.1 place a.2) (splitting_of pieces line (place + length a.0) (drop (length a.0) mask) a.5))
@@ -413,15 +413,15 @@ mask_of-start line = refl
 pub mask_law : MaskLaw
 mask_law = record { some = some; only = only }
   where
-    some : (line : Text) → (pieces : List Token) × IsMaskOf line pieces (mask_of line)
+    some : (line : Text) → (pieces : List Term) × IsMaskOf line pieces (mask_of line)
     some line =
         let m = some_mask line in
         (m.pieces, record { size = length-mask_of line; symbols = subst (IsMasked line 0 m.pieces) (mask_of-start line) m.are })
 
-    only : (line : Text) (pieces : List Token) (mask : List ℕ) → IsMaskOf line pieces mask → mask ≡ mask_of line
+    only : (line : Text) (pieces : List Term) (mask : List ℕ) → IsMaskOf line pieces mask → mask ≡ mask_of line
     only line pieces mask m =
         let found = some line in
         let same : found.0 ≡ pieces = only_splitting kept found.0 line (splitting_of found.0 line 0 (mask_of line) found.1.symbols) ∙ sym (only_splitting kept pieces line (splitting_of pieces line 0 mask m.symbols)) in
         let size = m.size in
         ext_get_or 0 mask (mask_of line) (size ∙ sym (length-mask_of line))
-        (λ k l. same_symbols pieces line 0 mask (mask_of line) m.symbols (subst (λ (xs : List Token). IsMasked line 0 xs (mask_of line)) same found.1.symbols) k (omega arith))
+        (λ k l. same_symbols pieces line 0 mask (mask_of line) m.symbols (subst (λ (xs : List Term). IsMasked line 0 xs (mask_of line)) same found.1.symbols) k (omega arith))

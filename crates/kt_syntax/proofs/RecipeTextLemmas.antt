@@ -1,7 +1,7 @@
 -- The text of a recipe line, by its physical lines.
 use Rattle.std.proofs.Common.{◌≡◌, ◌<◌, ◌-◌, ◌+◌, ◌==◌, ◌%◌, ◌&&◌, ℕ, ◌≤◌, suc, zero, Bool, true, false, not, List, [], ◌∷◌, ◌++◌, length, length-append, take, drop, filter, refl, sym, ap, subst, ◌∙◌, arith, append-nil, cond, ⊎_elim, count_by, nat_lt, slice_index}
-use Rattle.kt_syntax.proofs.Common.{and_parts, cases_Bool, eqb-true, false≢true, reverse-append, take-append-le, filter-append, sum_by-append, sum_by-cons, take-length, concat, onto_first, prefix_len, suffix_len, no_cr, without_terminator, Text, is_blank, trimmed_end, trimmed_start, before_backslash, is_continued, is_continued_text, pieces_of, IsFree, free_nil, free_space, one_piece, ArePieces, are_pieces, free_backslash, free_end, free_start, front_content, HasLast, last_at, last_of, content_ended, Joint, Edge, mask_of}
-use Rattle.kt_syntax.specs.Recipes.{begun, content, ended, joint_of, newline_after, recipe_line, recipe_lines, recipe_of, space_before, without_tab}
+use Rattle.kt_syntax.proofs.Common.{and_parts, cases_Bool, eqb-true, false≢true, reverse-append, take-append-le, filter-append, sum_by-append, sum_by-cons, take-length, concat, onto_first, prefix_len, suffix_len, no_cr, without_terminator, Text, is_blank, trimmed_end, trimmed_start, before_backslash, is_continued, is_continued_text, newline_pieces, IsFree, free_nil, free_space, one_piece, ArePieces, are_pieces, free_backslash, free_end, free_start, front_content, HasLast, last_at, last_of, content_ended, Joint, Edge, mask_of}
+use Rattle.kt_syntax.specs.Recipes.{begun, content, ended, joint_of, newline_at_joint, recipe_lines, recipe_of, space_at_joint, spliced_line, without_tab}
 use Rattle.kt_syntax.specs.RecipeTexts.{RecipeLaw, is_shown}
 use Rattle.kt_text.proofs.TrimLemmas.{suffix-none}
 use Rattle.kt_text.proofs.CuttingLemmas.{front_at}
@@ -122,11 +122,11 @@ continued_shown : (front : Text) → is_continued (front ++ 10 ∷ []) ≡ true 
 unfolding is_continued
 continued_shown front odd = ends_odd (without_terminator (front ++ 10 ∷ [])) odd ∙ content_shown front
 
-space_shown : (before after : Joint) (text : Text) → shown (space_before before after text) ≡ []
+space_shown : (before after : Joint) (text : Text) → shown (space_at_joint before after text) ≡ []
 unfolding is_blank
 space_shown before after text = grind arith
 
-newline_shown : (after : Joint) → shown (newline_after after) ≡ []
+newline_shown : (after : Joint) → shown (newline_at_joint after) ≡ []
 unfolding is_blank
 newline_shown after = grind arith
 
@@ -137,8 +137,8 @@ ended_shown : (after : Joint) (text : Text) → shown (ended after text) ≡ sho
 ended_shown after text = grind (arith, shown_end, length)
 
 -- a line between two joints shows what its content shows
-between : (before after : Joint) (line : Text) → shown (recipe_line before after line) ≡ shown (content after line)
-unfolding recipe_line
+between : (before after : Joint) (line : Text) → shown (spliced_line before after line) ≡ shown (content after line)
+unfolding spliced_line
 between before after line = grind (arith, shown-append, space_shown, newline_shown, append-nil, ended_shown, begun_shown)
 
 joined_shown : (symbol : ℕ) (front : Text) → shown (content (joint_of symbol (front ++ 10 ∷ [])) (front ++ 10 ∷ [])) ≡ shown (front ++ 10 ∷ [])
@@ -155,7 +155,7 @@ lines_shown before mask (line ∷ next ∷ lines) are =
     let after = joint_of symbol line in
     let here : shown (content after line) ≡ shown line =
     subst (λ (l : Text). shown (content (joint_of symbol l) l) ≡ shown l) (sym are.1) (joined_shown symbol are.0) in
-    shown-append (recipe_line before after line) (recipe_lines after (drop (length line) mask) (next ∷ lines))
+    shown-append (spliced_line before after line) (recipe_lines after (drop (length line) mask) (next ∷ lines))
     ∙ ap (λ l. l ++ shown (recipe_lines after (drop (length line) mask) (next ∷ lines))) (between before after line ∙ here)
     ∙ ap (λ l. shown line ++ l) (lines_shown after (drop (length line) mask) (next ∷ lines) are.3)
     ∙ sym (shown-append line (concat (next ∷ lines)))
@@ -164,8 +164,8 @@ onto_whole : (byte : ℕ) (pieces : List Text) → ArePieces pieces → concat (
 unfolding ArePieces
 onto_whole byte pieces are = grind arith
 
-pieces_whole : (text : Text) → concat (pieces_of text) ≡ text
-unfolding pieces_of
+pieces_whole : (text : Text) → concat (newline_pieces text) ≡ text
+unfolding newline_pieces
 pieces_whole [] = refl
 pieces_whole (byte ∷ text) = grind (arith, ⊎_elim, onto_whole, are_pieces, cases_Bool, pieces_whole text)
 
@@ -180,21 +180,21 @@ begun_free before text free = grind (arith, tab_free, free_start)
 ended_free : (after : Joint) (text : Text) → IsFree text → IsFree (ended after text)
 ended_free after text free = grind (arith, free_end)
 
-space_free : (before after : Joint) (text : Text) → IsFree (space_before before after text)
+space_free : (before after : Joint) (text : Text) → IsFree (space_at_joint before after text)
 space_free before after text = grind (arith, free_nil, free_space)
 
-line_count : (before after : Joint) (line : Text) → IsFree (content after line) → count (recipe_line before after line) ≡ count (newline_after after)
-unfolding recipe_line
+line_count : (before after : Joint) (line : Text) → IsFree (content after line) → count (spliced_line before after line) ≡ count (newline_at_joint after)
+unfolding spliced_line
 line_count before after line free =
     let text = ended after (begun before (content after line)) in
-    let none : count (space_before before after text) ≡ 0 = count-free (space_before before after text) (space_free before after text) in
+    let none : count (space_at_joint before after text) ≡ 0 = count-free (space_at_joint before after text) (space_free before after text) in
     let still : count text ≡ 0 = count-free text (ended_free after (begun before (content after line)) (begun_free before (content after line) free)) in
-    let both = count-append (space_before before after text) (text ++ newline_after after) in
-    let more = count-append text (newline_after after) in
+    let both = count-append (space_at_joint before after text) (text ++ newline_at_joint after) in
+    let more = count-append text (newline_at_joint after) in
     omega (arith, none, still, both, more)
 
 joined_count : (before : Joint) (symbol : ℕ) (front : Text) → IsFree front
-    → count (recipe_line before (joint_of symbol (front ++ 10 ∷ [])) (front ++ 10 ∷ [])) ≡ cond (not (is_continued (front ++ 10 ∷ []))) 1 0
+    → count (spliced_line before (joint_of symbol (front ++ 10 ∷ [])) (front ++ 10 ∷ [])) ≡ cond (not (is_continued (front ++ 10 ∷ []))) 1 0
 unfolding joint_of
 joined_count before symbol front free = grind (arith, ⊎_elim, line_count, free_backslash, cases_Bool, front_content)
 
@@ -216,25 +216,25 @@ lines_count before mask (line ∷ []) are = line_count before Edge line are
 lines_count before mask (line ∷ next ∷ lines) are =
     let symbol = slice_index mask (length line - 1) in
     let after = joint_of symbol line in
-    let here : count (recipe_line before after line) ≡ cond (not (is_continued line)) 1 0 =
-    subst (λ (l : Text). count (recipe_line before (joint_of symbol l) l) ≡ cond (not (is_continued l)) 1 0) (sym are.1) (joined_count before symbol are.0 are.2) in
+    let here : count (spliced_line before after line) ≡ cond (not (is_continued line)) 1 0 =
+    subst (λ (l : Text). count (spliced_line before (joint_of symbol l) l) ≡ cond (not (is_continued l)) 1 0) (sym are.1) (joined_count before symbol are.0 are.2) in
     let rest = recipe_lines after (drop (length line) mask) (next ∷ lines) in
     let later : count rest ≡ ended_lines (next ∷ lines) = lines_count after (drop (length line) mask) (next ∷ lines) are.3 in
-    let both = count-append (recipe_line before after line) rest in
+    let both = count-append (spliced_line before after line) rest in
     let more = ended_more line next lines in
     both ∙ ap (λ n. n + count rest) here ∙ ap (λ n. cond (not (is_continued line)) 1 0 + n) later ∙ sym more
 
 stays : (text : Text) → ((k : ℕ) → k < length text → slice_index text k ≡ 10 → ⊥) → recipe_of text ≡ text
-unfolding recipe_of recipe_lines recipe_line
+unfolding recipe_of recipe_lines spliced_line
 stays text none = ap (recipe_lines Edge (mask_of text)) (one_piece text none) ∙ append-nil text
 
-counted : (text : Text) → count (recipe_of text) ≡ ended_lines (pieces_of text)
+counted : (text : Text) → count (recipe_of text) ≡ ended_lines (newline_pieces text)
 unfolding recipe_of
-counted text = lines_count Edge (mask_of text) (pieces_of text) (are_pieces text)
+counted text = lines_count Edge (mask_of text) (newline_pieces text) (are_pieces text)
 
 kept : (text : Text) → shown (recipe_of text) ≡ shown text
 unfolding recipe_of
-kept text = lines_shown Edge (mask_of text) (pieces_of text) (are_pieces text) ∙ ap shown (pieces_whole text)
+kept text = lines_shown Edge (mask_of text) (newline_pieces text) (are_pieces text) ∙ ap shown (pieces_whole text)
 
 pub recipe_law : RecipeLaw
 recipe_law = record { stays = stays; newlines = counted; shown = kept }

@@ -1,6 +1,6 @@
 -- Roles of lines by their first words alone.
 use Rattle.std.proofs.Common.{arith, rules, ◌≡◌, ◌==◌, ℕ, zero, suc, List, [], ◌∷◌, Bool, true, false, Option, None, length, take, drop, codes, zero-add, refl, sym, ap, ◌∙◌, ⊎_elim}
-use Rattle.kt_syntax.proofs.Common.{cases_Bool, eqb-true, bytes_eq-Decides, prefix_len, slice_range, bytes_eq, or_first, or_second, without_newline, drop-prefix_len, Text, is_blank, trimmed_start, take_nil, mask_byte, mask_from, mask_of, more_masked, Parts, before_comment, block_word, comment_place, directive_of, include_word, is_refused_word, kind_by_parts, kind_by_word, kind_of, kind_within, assignment_parts, line_kind, name_end, operator_of, past_blanks, past_word, worded}
+use Rattle.kt_syntax.proofs.Common.{cases_Bool, eqb-true, bytes_eq-Decides, prefix_len, slice_range, bytes_eq, or_first, or_second, without_newline, drop-prefix_len, Text, is_blank, trimmed_start, take_nil, mask_byte, mask_from, mask_of, more_masked, Parts, before_comment, block_word, comment_place, directive_of, include_word, is_refused_word, kind_by_parts, kind_by_word, form_of, kind_within, assignment_parts, line_form, name_end, operator_of, past_blanks, past_word, worded}
 use Rattle.kt_syntax.specs.declared.role.Role.TheVariants.{Else, Endif, Ordinary}
 use Rattle.kt_syntax.proofs.CondensedBegins.{begins_alike}
 use Rattle.kt_syntax.proofs.LeadingWords.{none_taken}
@@ -28,8 +28,8 @@ unfolding kind_within role_of
 within_role tab text mask begin other = grind (arith, ⊎_elim, length, parts_role, cases_Bool)
 
 -- a line that begins with a tab opens, continues and ends no block
-pub tab_role : (line : Text) → Ordinary ≡ role_of (line_kind line true)
-unfolding kind_of worded directive_of
+pub tab_role : (line : Text) → Ordinary ≡ role_of (line_form line true)
+unfolding form_of worded directive_of
 tab_role line = grind (arith, take, within_role, included, slice_range)
 
 -- the first word of a line, before its comment
@@ -39,8 +39,8 @@ line_word text =
     in slice_range text (past_blanks 0 mask) (past_word (past_blanks 0 mask) mask)
 
 -- nor does one whose first word is none of those
-word_role : (text : Text) → None ≡ block_word (line_word text) → Ordinary ≡ role_of (kind_of text false)
-unfolding kind_of worded directive_of line_word
+word_role : (text : Text) → None ≡ block_word (line_word text) → Ordinary ≡ role_of (form_of text false)
+unfolding form_of worded directive_of line_word
 word_role text none = grind (arith, take, slice_range, within_role, included)
 
 -- ---- the first byte of a line
@@ -99,34 +99,34 @@ no_word (suc count) symbol size (byte ∷ text) h =
     ∙ no_word_taken size byte text none)
     (cases_Bool (is_blank byte))
 
-empty_role : Ordinary ≡ role_of (kind_of [] false)
+empty_role : Ordinary ≡ role_of (form_of [] false)
 unfolding line_word block_word before_comment mask_of mask_from
 empty_role = word_role [] refl
 
 -- a text that begins otherwise behind its blanks has no word of blocks
-pub text_role : (text : Text) → may_open (trimmed_start text) ≡ false → Ordinary ≡ role_of (kind_of text false)
+pub text_role : (text : Text) → may_open (trimmed_start text) ≡ false → Ordinary ≡ role_of (form_of text false)
 unfolding line_word mask_of
 text_role text h = search (rules, take, word_role, slice_range, zero-add, no_word)
 
 -- nor has a line
-pub first_role : (line : Text) → may_open line ≡ false → Ordinary ≡ role_of (line_kind line false)
-first_role [] h = empty_role ∙ ap (λ text. role_of (kind_of text false)) (sym (without_newline [] refl))
+pub first_role : (line : Text) → may_open line ≡ false → Ordinary ≡ role_of (line_form line false)
+first_role [] h = empty_role ∙ ap (λ text. role_of (form_of text false)) (sym (without_newline [] refl))
 first_role (byte ∷ line) h =
     let none = none_of byte line h in
     let begun = begins_alike byte line (record { blank = none.blank; backslash = none.backslash; newline = none.newline; return = none.return }) in
-    text_role (byte ∷ begun.0) (opens_here byte begun.0 none.blank ∙ h) ∙ ap (λ text. role_of (kind_of text false)) (sym begun.1)
+    text_role (byte ∷ begun.0) (opens_here byte begun.0 none.blank ∙ h) ∙ ap (λ text. role_of (form_of text false)) (sym begun.1)
 
 -- a line that is one word
-endif_alone : Endif ≡ role_of (kind_of (codes "endif") false)
-unfolding is_blank mask_from mask_of more_masked assignment_parts before_comment block_word directive_of include_word is_refused_word kind_of kind_within name_end operator_of worded role_by_word role_of
+endif_alone : Endif ≡ role_of (form_of (codes "endif") false)
+unfolding is_blank mask_from mask_of more_masked assignment_parts before_comment block_word directive_of include_word is_refused_word form_of kind_within name_end operator_of worded role_by_word role_of
 endif_alone = refl
 
-else_alone : Else false ≡ role_of (kind_of (codes "else") false)
-unfolding is_blank mask_from mask_of more_masked assignment_parts before_comment block_word directive_of include_word is_refused_word kind_of kind_within name_end operator_of worded first_word role_by_word role_of starts_condition
+else_alone : Else false ≡ role_of (form_of (codes "else") false)
+unfolding is_blank mask_from mask_of more_masked assignment_parts before_comment block_word directive_of include_word is_refused_word form_of kind_within name_end operator_of worded first_word role_by_word role_of starts_condition
 else_alone = refl
 
-pub endif_role : (line : Text) → bytes_eq line (codes "endif") ≡ true → Endif ≡ role_of (line_kind line false)
+pub endif_role : (line : Text) → bytes_eq line (codes "endif") ≡ true → Endif ≡ role_of (line_form line false)
 endif_role line h = rw ((bytes_eq-Decides line (codes "endif")).0 h, without_newline (codes "endif") refl) endif_alone
 
-pub else_role : (line : Text) → bytes_eq line (codes "else") ≡ true → Else false ≡ role_of (line_kind line false)
+pub else_role : (line : Text) → bytes_eq line (codes "else") ≡ true → Else false ≡ role_of (line_form line false)
 else_role line h = rw ((bytes_eq-Decides line (codes "else")).0 h, without_newline (codes "else") refl) else_alone

@@ -1,7 +1,7 @@
 -- The text of a recipe line at its first newline.
 use Rattle.std.proofs.Common.{rules, ◌≡◌, ◌≢◌, ◌-◌, ◌+◌, ◌==◌, ◌||◌, ℕ, suc, Bool, true, false, not, List, [], ◌∷◌, ◌++◌, length, drop, take, if◌then◌else◌, refl, sym, ap, subst, ◌∙◌, arith, append_assoc, append-nil, length-append, inl, inr, ⊎_elim, slice_index}
-use Rattle.kt_syntax.proofs.Common.{cases_Bool, eq-eqb, eqb-true, false≢true, ne_eqb, drop-drop, get_or-drop, take_at, list_any, without_terminator, Text, is_blank, trimmed_start, before_backslash, is_continued, is_continued_text, pieces_of, FirstStands, IsNewline, Spacing, is_continuation, spelled, space, tab, continuation, returned, one_piece, Ending, FirstNewline, ending_continued, ending_newline, first_newline, odd_more, spelled_long, no_newline, first_continued, first_ended, blank_free, newline_blank, not_either, spelling, content_ended, pieces_after, IsFree, free_append, free_at, AllBlank, EndsPlain, end_blanks, end_first, even_blank, even_past, free_blanks, start_blank, start_plain, Joint, Edge, Newline, Outside, Inside, inside}
-use Rattle.kt_syntax.specs.Recipes.{begun, content, ended, joint_of, newline_after, recipe_line, recipe_lines, space_before, without_tab}
+use Rattle.kt_syntax.proofs.Common.{cases_Bool, eq-eqb, eqb-true, false≢true, ne_eqb, drop-drop, get_or-drop, take_at, list_any, without_terminator, Text, is_blank, trimmed_start, before_backslash, is_continued, is_continued_text, newline_pieces, FirstStands, IsNewline, Spacing, is_continuation, spelled, space, tab, continuation, returned, one_piece, Ending, FirstNewline, ending_continued, ending_newline, first_newline, odd_more, spelled_long, no_newline, first_continued, first_ended, blank_free, newline_blank, not_either, spelling, content_ended, pieces_after, IsFree, free_append, free_at, AllBlank, EndsPlain, end_blanks, end_first, even_blank, even_past, free_blanks, start_blank, start_plain, Joint, Edge, Newline, Outside, Inside, inside}
+use Rattle.kt_syntax.specs.Recipes.{begun, content, ended, joint_of, newline_at_joint, recipe_lines, space_at_joint, spliced_line, without_tab}
 use Rattle.kt_syntax.specs.RecipeCuts.{AreInside, IsInside, IsOneTab}
 use Rattle.kt_syntax.proofs.RecipeLemmas.{followed}
 use Rattle.kt_text.proofs.CondensedLemmas.{pieces-some}
@@ -10,36 +10,36 @@ use Rattle.kt_text.proofs.CondensedLemmas.{pieces-some}
 
 -- what is made of a text after a joint, by its mask
 unfoldable pub recipe_from : Joint → List ℕ → Text → Text
-recipe_from before mask text = recipe_lines before mask (pieces_of text)
+recipe_from before mask text = recipe_lines before mask (newline_pieces text)
 
 -- of what stands between two joints
 abbrev pub part : Joint → Joint → Text → Text
-part before after text = space_before before after (ended after (begun before text)) ++ ended after (begun before text)
+part before after text = space_at_joint before after (ended after (begun before text)) ++ ended after (begun before text)
 
 -- the joint at a continuation
 abbrev pub joint_at : List ℕ → Text → Spacing → Joint
 joint_at mask front one = if slice_index mask (length (front ++ spelled one) - 1) == inside then Inside else Outside
 
-line_is : (before after : Joint) (line front : Text) → content after line ≡ front → recipe_line before after line ≡ part before after front ++ newline_after after
-unfolding recipe_line
+line_is : (before after : Joint) (line front : Text) → content after line ≡ front → spliced_line before after line ≡ part before after front ++ newline_at_joint after
+unfolding spliced_line
 line_is before after line front e = grind (arith, append_assoc)
 
-one_line : (before : Joint) (mask : List ℕ) (text : Text) (found : List Text) → found ≡ text ∷ [] → recipe_lines before mask found ≡ recipe_line before Edge text
+one_line : (before : Joint) (mask : List ℕ) (text : Text) (found : List Text) → found ≡ text ∷ [] → recipe_lines before mask found ≡ spliced_line before Edge text
 unfolding recipe_lines
 one_line before mask text found e = ap (recipe_lines before mask) e
 
 pub from_free : (before : Joint) (mask : List ℕ) (text : Text) → IsFree text → recipe_from before mask text ≡ part before Edge text
 unfolding recipe_from
 from_free before mask text free =
-    one_line before mask text (pieces_of text) (one_piece text (free_at text free)) ∙ line_is before Edge text text refl ∙ append-nil (part before Edge text)
+    one_line before mask text (newline_pieces text) (one_piece text (free_at text free)) ∙ line_is before Edge text text refl ∙ append-nil (part before Edge text)
 
-line_step : (before after : Joint) (mask : List ℕ) (line rest : Text) → pieces_of (line ++ rest) ≡ line ∷ pieces_of rest → joint_of (slice_index mask (length line - 1)) line ≡ after
-    → recipe_from before mask (line ++ rest) ≡ recipe_line before after line ++ recipe_from after (drop (length line) mask) rest
+line_step : (before after : Joint) (mask : List ℕ) (line rest : Text) → newline_pieces (line ++ rest) ≡ line ∷ newline_pieces rest → joint_of (slice_index mask (length line - 1)) line ≡ after
+    → recipe_from before mask (line ++ rest) ≡ spliced_line before after line ++ recipe_from after (drop (length line) mask) rest
 unfolding recipe_from
 line_step before after mask line rest cut joint = grind (arith, followed, pieces-some, length)
 
-line_cut : (front mark kept rest : Text) → Ending front mark kept → pieces_of ((front ++ mark) ++ rest) ≡ (front ++ mark) ∷ pieces_of rest
-line_cut front mark kept rest e = subst (λ (l : Text). pieces_of (l ++ rest) ≡ l ∷ pieces_of rest) (sym e.whole) (pieces_after e.before rest e.free)
+line_cut : (front mark kept rest : Text) → Ending front mark kept → newline_pieces ((front ++ mark) ++ rest) ≡ (front ++ mark) ∷ newline_pieces rest
+line_cut front mark kept rest e = subst (λ (l : Text). newline_pieces (l ++ rest) ≡ l ∷ newline_pieces rest) (sym e.whole) (pieces_after e.before rest e.free)
 
 line_kept : (front mark kept : Text) → (e : Ending front mark kept) → without_terminator (front ++ mark) ≡ kept
 line_kept front mark kept e = ap (λ (t : Text). without_terminator t) e.whole ∙ content_ended e.before ∙ e.content
@@ -71,7 +71,7 @@ from_ended before mask front mark rest free is =
 continued_content : (symbol : ℕ) (line front : Text) → before_backslash line ≡ front → content (if symbol == inside then Inside else Outside) line ≡ front
 continued_content symbol line front e = ⊎_elim (λ h. rw h e) (λ h. rw h e) (cases_Bool (symbol == inside))
 
-nothing_after : (symbol : ℕ) → newline_after (if symbol == inside then Inside else Outside) ≡ []
+nothing_after : (symbol : ℕ) → newline_at_joint (if symbol == inside then Inside else Outside) ≡ []
 nothing_after symbol = ⊎_elim (λ h. rw h refl) (λ h. rw h refl) (cases_Bool (symbol == inside))
 
 pub from_continued : (before : Joint) (mask : List ℕ) (front : Text) (one : Spacing) (rest : Text) → IsFree front → is_continuation one ≡ true → is_continued_text front ≡ false
@@ -171,7 +171,7 @@ begin_inside mask one rest is in_reference =
     ∙ ap (λ (j : Joint). part Inside j [] ++ recipe_from j (drop (length (spelled one)) mask) rest) (joint_inside mask [] one in_reference)
 
 blank_part : (byte : ℕ) → is_blank byte ≡ true → (front : Text) (after : Joint) → part Inside after (byte ∷ front) ≡ part Inside after front
-blank_part byte h front after = ap (λ (t : Text). space_before Inside after (ended after t) ++ ended after t) (start_blank byte front h)
+blank_part byte h front after = ap (λ (t : Text). space_at_joint Inside after (ended after t) ++ ended after t) (start_blank byte front h)
 
 from_one : (mask : List ℕ) (one : Spacing) (rest : Text) → (is_continuation one ≡ true → IsInside mask one) → recipe_from Inside mask (spelled one ++ rest) ≡ recipe_from Inside (drop (length (spelled one)) mask) rest
 unfolding is_blank

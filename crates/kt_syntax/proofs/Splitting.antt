@@ -1,6 +1,6 @@
 -- A text has exactly one splitting into terms.
 use Rattle.std.proofs.Common.{◌≡◌, ◌≢◌, ◌==◌, ◌≤◌, ◌<◌, ◌+◌, not, ℕ, zero, suc, Bool, true, false, ◌&&◌, List, [], ◌∷◌, ◌++◌, Option, Some, None, length, take, drop, refl, sym, ap, subst, ◌∙◌, arith, ⊎_elim, inl, inr, append_assoc, length-drop}
-use Rattle.kt_syntax.proofs.Common.{nat_tests, cases_Bool, eqb-true, false≢true, and_parts, take-append-drop, take_all, drop_all, take_at, drop_at, length-take-le, take-take, append-nil, take-append-add, drop-append-add, Text, Byte, Parentheses, Braces, Token, Continuations, kept, dropped, literal, dollar, reference, unclosed, count_of, is_special, unit_length, IsBalanced, IsUnclosed, EndsRun, IsSingle, IsTerm, IsSplittingIn, OneSplitting, closing, referred, single, after_dollar, literal_run, first_term, terms_after, terms_of}
+use Rattle.kt_syntax.proofs.Common.{nat_tests, cases_Bool, eqb-true, false≢true, and_parts, take-append-drop, take_all, drop_all, take_at, drop_at, length-take-le, take-take, append-nil, take-append-add, drop-append-add, Text, Byte, Parentheses, Braces, Term, Continuations, kept, dropped, literal, dollar, reference, unclosed, byte_count, is_reference_mark, unit_length, IsBalanced, IsUnclosed, EndsRun, IsSingle, IsTerm, IsSplittingIn, OneSplitting, closing, reference_of, single, after_dollar, literal_run, first_term, terms_after, terms_of}
 use Rattle.kt_syntax.specs.declared.term.Mark.{Mark}
 use Rattle.kt_syntax.proofs.Closing.{count_no, closed_found, closed_sound, unclosed_sound, unclosed_found}
 use Rattle.kt_syntax.proofs.Runs.{run, run_within, run_free, run_ends, run_length, no_dollar}
@@ -19,14 +19,14 @@ terms_of-nil continuations = refl
 
 pub terms_of-cons : (continuations : Continuations) (byte : ℕ) (text : Text) → terms_after continuations 0 (byte ∷ text) ≡ (first_term continuations byte text).0 ∷ terms_after continuations 0 (drop (first_term continuations byte text).1 text)
 unfolding terms_after
-terms_of-cons continuations byte text = ap (λ (later : List Token). (first_term continuations byte text).0 ∷ later) (terms_after-drop continuations (first_term continuations byte text).1 text)
+terms_of-cons continuations byte text = ap (λ (later : List Term). (first_term continuations byte text).0 ∷ later) (terms_after-drop continuations (first_term continuations byte text).1 text)
 
 cut_taken : (text front rest : Text) (byte n : ℕ) → text ≡ front ++ byte ∷ rest → n ≡ length front + 1 → take n text ≡ front ++ byte ∷ []
 cut_taken text front rest byte n e size = rw (size, e) (take-append-add front (byte ∷ rest) 1)
 
 -- ---- a term is the first
 
-pub terms_first : (continuations : Continuations) (byte : ℕ) (text rest : Text) (piece : Token) → (first_term continuations byte text).0 ≡ piece → drop (first_term continuations byte text).1 text ≡ rest
+pub terms_first : (continuations : Continuations) (byte : ℕ) (text rest : Text) (piece : Term) → (first_term continuations byte text).0 ≡ piece → drop (first_term continuations byte text).1 text ≡ rest
     → terms_after continuations 0 (byte ∷ text) ≡ piece ∷ terms_after continuations 0 rest
 terms_first continuations byte text rest piece p d = grind (arith, terms_of-cons)
 
@@ -38,16 +38,16 @@ literal_after : (continuations : Continuations) (byte : ℕ) (bytes rest : Text)
 unfolding first_term
 literal_after continuations byte bytes rest h size = grind (arith, drop_at, length)
 
-from_literal : (continuations : Continuations) (byte : ℕ) (bytes rest : Text) → count_of 36 (byte ∷ bytes) ≡ 0 → EndsRun rest
+from_literal : (continuations : Continuations) (byte : ℕ) (bytes rest : Text) → byte_count 36 (byte ∷ bytes) ≡ 0 → EndsRun rest
     → terms_after continuations 0 (byte ∷ (bytes ++ rest)) ≡ literal (byte ∷ bytes) ∷ terms_after continuations 0 rest
 from_literal continuations byte bytes rest free ends = grind (arith, no_dollar, run_length, terms_first, literal_first, literal_after)
 
 -- after a dollar
-terms_past : (continuations : Continuations) (text rest : Text) (piece : Token) (n : ℕ) → after_dollar continuations text ≡ (piece, n) → drop n text ≡ rest → terms_after continuations 0 (36 ∷ text) ≡ piece ∷ terms_after continuations 0 rest
+terms_past : (continuations : Continuations) (text rest : Text) (piece : Term) (n : ℕ) → after_dollar continuations text ≡ (piece, n) → drop n text ≡ rest → terms_after continuations 0 (36 ∷ text) ≡ piece ∷ terms_after continuations 0 rest
 unfolding first_term
 terms_past continuations text rest piece n e d = grind (arith, terms_first)
 
-referred_cut : (mark : Mark) (body rest : Text) (closer : ℕ) → referred mark (body ++ closer ∷ rest) (Some (length body)) ≡ (reference mark body, length body + 2)
+referred_cut : (mark : Mark) (body rest : Text) (closer : ℕ) → reference_of mark (body ++ closer ∷ rest) (Some (length body)) ≡ (reference mark body, length body + 2)
 referred_cut mark body rest closer = ap (λ (x : Text). (reference mark x, length body + 2)) (take_at body (closer ∷ rest) (length body) refl)
 
 after_mark : (body rest : Text) (opener closer : ℕ) → drop (length body + 2) (opener ∷ (body ++ closer ∷ rest)) ≡ rest
@@ -57,14 +57,14 @@ from_parentheses : (continuations : Continuations) (body rest : Text) → IsBala
 unfolding after_dollar
 from_parentheses continuations body rest b =
     terms_past continuations (40 ∷ (body ++ 41 ∷ rest)) rest (reference Parentheses body) (length body + 2)
-    (ap (referred Parentheses (body ++ 41 ∷ rest)) (closed_found 40 41 (λ e. omega arith) (body ++ 41 ∷ rest) body rest refl b) ∙ referred_cut Parentheses body rest 41)
+    (ap (reference_of Parentheses (body ++ 41 ∷ rest)) (closed_found 40 41 (λ e. omega arith) (body ++ 41 ∷ rest) body rest refl b) ∙ referred_cut Parentheses body rest 41)
     (after_mark body rest 40 41)
 
 from_braces : (continuations : Continuations) (body rest : Text) → IsBalanced 123 125 body → terms_after continuations 0 (36 ∷ 123 ∷ (body ++ 125 ∷ rest)) ≡ reference Braces body ∷ terms_after continuations 0 rest
 unfolding after_dollar
 from_braces continuations body rest b =
     terms_past continuations (123 ∷ (body ++ 125 ∷ rest)) rest (reference Braces body) (length body + 2)
-    (ap (referred Braces (body ++ 125 ∷ rest)) (closed_found 123 125 (λ e. omega arith) (body ++ 125 ∷ rest) body rest refl b) ∙ referred_cut Braces body rest 125)
+    (ap (reference_of Braces (body ++ 125 ∷ rest)) (closed_found 123 125 (λ e. omega arith) (body ++ 125 ∷ rest) body rest refl b) ∙ referred_cut Braces body rest 125)
     (after_mark body rest 123 125)
 
 past_end : (opener : ℕ) (tail : Text) → drop (1 + length tail) (opener ∷ tail) ≡ []
@@ -73,12 +73,12 @@ past_end opener tail = drop_all (1 + length tail) (opener ∷ tail) (omega arith
 from_open_parenthesis : (continuations : Continuations) (tail : Text) → IsUnclosed 40 41 tail → terms_after continuations 0 (36 ∷ 40 ∷ tail) ≡ unclosed ∷ terms_after continuations 0 []
 unfolding after_dollar
 from_open_parenthesis continuations tail lacks =
-    terms_past continuations (40 ∷ tail) [] unclosed (1 + length tail) (ap (referred Parentheses tail) (unclosed_found 40 41 (λ e. omega arith) tail lacks)) (past_end 40 tail)
+    terms_past continuations (40 ∷ tail) [] unclosed (1 + length tail) (ap (reference_of Parentheses tail) (unclosed_found 40 41 (λ e. omega arith) tail lacks)) (past_end 40 tail)
 
 from_open_brace : (continuations : Continuations) (tail : Text) → IsUnclosed 123 125 tail → terms_after continuations 0 (36 ∷ 123 ∷ tail) ≡ unclosed ∷ terms_after continuations 0 []
 unfolding after_dollar
 from_open_brace continuations tail lacks =
-    terms_past continuations (123 ∷ tail) [] unclosed (1 + length tail) (ap (referred Braces tail) (unclosed_found 123 125 (λ e. omega arith) tail lacks)) (past_end 123 tail)
+    terms_past continuations (123 ∷ tail) [] unclosed (1 + length tail) (ap (reference_of Braces tail) (unclosed_found 123 125 (λ e. omega arith) tail lacks)) (past_end 123 tail)
 
 from_dollar : (continuations : Continuations) (rest : Text) → terms_after continuations 0 (36 ∷ 36 ∷ rest) ≡ dollar ∷ terms_after continuations 0 rest
 unfolding after_dollar
@@ -93,7 +93,7 @@ pub record IsPlain (byte : ℕ) : Type 0 where
   pub no_parenthesis : (byte == 40) ≡ false
   pub no_brace : (byte == 123) ≡ false
 
-plain_byte : (byte : ℕ) (others : Bool) → (not (is_special byte) && others) ≡ true → IsPlain byte
+plain_byte : (byte : ℕ) (others : Bool) → (not (is_reference_mark byte) && others) ≡ true → IsPlain byte
 plain_byte byte others h = grind (arith, and_parts, not, false≢true)
 
 past-single : (continuations : Continuations) (byte : ℕ) (text : Text) → IsPlain byte → after_dollar continuations (byte ∷ text) ≡ single continuations (byte ∷ text)
@@ -109,7 +109,7 @@ from_single continuations (byte ∷ body) rest s =
     ∙ ap (λ (x : Text). (reference Byte x, suc (length body))) (take_at (byte ∷ body) rest (suc (length body)) refl))
     (drop_at (byte ∷ body) rest (suc (length body)) refl)
 
-at_text : (continuations : Continuations) (text spelled rest whole : Text) (piece : Token) → text ≡ spelled ++ rest → spelled ++ rest ≡ whole → terms_after continuations 0 whole ≡ piece ∷ terms_after continuations 0 rest
+at_text : (continuations : Continuations) (text spelled rest whole : Text) (piece : Term) → text ≡ spelled ++ rest → spelled ++ rest ≡ whole → terms_after continuations 0 whole ≡ piece ∷ terms_after continuations 0 rest
     → terms_after continuations 0 text ≡ piece ∷ terms_after continuations 0 rest
 at_text continuations text spelled rest whole piece e w t = ap (terms_after continuations 0) (e ∙ w) ∙ t
 
@@ -117,7 +117,7 @@ joined : (body rest : Text) (closer : ℕ) → (body ++ closer ∷ []) ++ rest �
 joined body rest closer = append_assoc body (closer ∷ []) rest
 
 -- a term that a text begins with is its first one
-pub term_first : (continuations : Continuations) (piece : Token) (text spelled rest : Text) → text ≡ spelled ++ rest → IsTerm continuations piece spelled rest → terms_after continuations 0 text ≡ piece ∷ terms_after continuations 0 rest
+pub term_first : (continuations : Continuations) (piece : Term) (text spelled rest : Text) → text ≡ spelled ++ rest → IsTerm continuations piece spelled rest → terms_after continuations 0 text ≡ piece ∷ terms_after continuations 0 rest
 term_first continuations (literal []) text spelled rest e is = grind (arith, from_last)
 term_first continuations (literal (byte ∷ bytes)) text spelled rest e is = grind (arith, at_text, from_literal)
 term_first continuations dollar text spelled rest e is = at_text continuations text spelled rest (36 ∷ 36 ∷ rest) dollar e (ap (λ (x : Text). x ++ rest) is) (from_dollar continuations rest)
@@ -127,14 +127,14 @@ term_first continuations (reference Braces body) text spelled rest e is = grind 
 term_first continuations unclosed text spelled rest e is = grind (arith, append-nil, ⊎_elim, from_open_parenthesis, from_open_brace)
 
 -- a splitting is the one that is computed
-pub only_splitting : (continuations : Continuations) (pieces : List Token) (text : Text) → IsSplittingIn continuations text pieces → pieces ≡ terms_after continuations 0 text
+pub only_splitting : (continuations : Continuations) (pieces : List Term) (text : Text) → IsSplittingIn continuations text pieces → pieces ≡ terms_after continuations 0 text
 only_splitting continuations [] text e = sym (ap (terms_after continuations 0) e ∙ terms_of-nil continuations)
 only_splitting continuations (piece ∷ pieces) text s =
-    ap (λ (x : List Token). piece ∷ x) (only_splitting continuations pieces s.1 s.4) ∙ sym (term_first continuations piece text s.0 s.1 s.2 s.3)
+    ap (λ (x : List Term). piece ∷ x) (only_splitting continuations pieces s.1 s.4) ∙ sym (term_first continuations piece text s.0 s.1 s.2 s.3)
 
 -- ---- the first term is one
 
-abbrev Sound : Continuations → Text → Token × ℕ → Type 0
+abbrev Sound : Continuations → Text → Term × ℕ → Type 0
 Sound continuations text x = (x.1 ≤ length text) × IsTerm continuations x.0 (36 ∷ take x.1 text) (drop x.1 text)
 
 -- a text that its mark closes, or doesn't
@@ -153,13 +153,13 @@ open_part : (opener closer : ℕ) → opener ≢ closer → (tail : Text) → cl
     × IsUnclosed opener closer tail
 open_part opener closer ne tail e = grind (arith, take, length, take_all, past_end, unclosed_sound)
 
-sound_parentheses : (continuations : Continuations) (tail : Text) (found : Option ℕ) → closing 40 41 0 0 tail ≡ found → Sound continuations (40 ∷ tail) (referred Parentheses tail found)
+sound_parentheses : (continuations : Continuations) (tail : Text) (found : Option ℕ) → closing 40 41 0 0 tail ≡ found → Sound continuations (40 ∷ tail) (reference_of Parentheses tail found)
 sound_parentheses continuations tail None e =
     let part = open_part 40 41 (λ k. omega arith) tail e in
     (part.0, (part.1, (tail, inl (part.2, part.3))))
 sound_parentheses continuations tail (Some place) e = closed_part 40 41 (λ k. omega arith) tail place e
 
-sound_braces : (continuations : Continuations) (tail : Text) (found : Option ℕ) → closing 123 125 0 0 tail ≡ found → Sound continuations (123 ∷ tail) (referred Braces tail found)
+sound_braces : (continuations : Continuations) (tail : Text) (found : Option ℕ) → closing 123 125 0 0 tail ≡ found → Sound continuations (123 ∷ tail) (reference_of Braces tail found)
 sound_braces continuations tail None e =
     let part = open_part 123 125 (λ k. omega arith) tail e in
     (part.0, (part.1, (tail, inr (part.2, part.3))))
@@ -195,7 +195,7 @@ pub record FirstTerm (continuations : Continuations) (byte : ℕ) (text : Text) 
   pub within : (first_term continuations byte text).1 ≤ length text
   pub is : IsTerm continuations (first_term continuations byte text).0 (byte ∷ take (first_term continuations byte text).1 text) (drop (first_term continuations byte text).1 text)
 
-abbrev IsFirst : Continuations → ℕ → Text → Token × ℕ → Type 0
+abbrev IsFirst : Continuations → ℕ → Text → Term × ℕ → Type 0
 IsFirst continuations byte text x = (x.1 ≤ length text) × IsTerm continuations x.0 (byte ∷ take x.1 text) (drop x.1 text)
 
 dollar-first : (continuations : Continuations) (byte : ℕ) (text : Text) → (byte == 36) ≡ true → first_term continuations byte text ≡ after_dollar continuations text
@@ -251,7 +251,7 @@ pub text_ends : terms_of [] ≡ []
 unfolding terms_of
 text_ends = terms_of-nil dropped
 
-pub text_first : (byte : ℕ) (text rest : Text) (piece : Token) → (first_term dropped byte text).0 ≡ piece → drop (first_term dropped byte text).1 text ≡ rest
+pub text_first : (byte : ℕ) (text rest : Text) (piece : Term) → (first_term dropped byte text).0 ≡ piece → drop (first_term dropped byte text).1 text ≡ rest
     → terms_of (byte ∷ text) ≡ piece ∷ terms_of rest
 unfolding terms_of
 text_first byte text rest piece p d = terms_first dropped byte text rest piece p d

@@ -1,6 +1,6 @@
 -- Where the first semicolon or the comment of a line stands, found by its bytes alone.
 use Rattle.std.proofs.Common.{rules, ◌≡◌, ◌≤◌, ◌-◌, ◌+◌, ◌==◌, ℕ, zero, suc, Bool, true, false, not, List, [], ◌∷◌, length, drop, if◌then◌else◌, Option, Some, None, option_map, refl, sym, ap, subst, ◌∙◌, arith, ⊎_elim, nat_eq}
-use Rattle.kt_syntax.proofs.Common.{and_parts, cases_Bool, eqb-true, not-true, Decides-eqb, nil_from_length, starts_is, starts_with, Text, after_dollar, closing, kept, referred, unit_length, Parentheses, Braces, goes_odd, inside, mask_byte, mask_from, mask_of, more_masked}
+use Rattle.kt_syntax.proofs.Common.{and_parts, cases_Bool, eqb-true, not-true, Decides-eqb, nil_from_length, starts_is, starts_with, Text, after_dollar, closing, kept, reference_of, unit_length, Parentheses, Braces, goes_odd, inside, mask_byte, mask_from, mask_of, more_masked}
 use Rattle.kt_syntax.proofs.Masking.{mask_from-nil}
 use Rattle.kt_syntax.proofs.MaskRuns.{no_unit}
 use Rattle.kt_syntax.proofs.StopPlaces.{IsFound, Stop, found_stop, is_stop, later, stop, stop-nil, stop-no, stop-yes}
@@ -192,11 +192,11 @@ dollar_dollar : (byte : ℕ) (text : Text) → (byte == 36) ≡ true → (after_
 unfolding after_dollar
 dollar_dollar byte text h = rw h refl
 
-referred_long : (found : Option ℕ) (text : Text) → (referred Parentheses text found).1 ≡ suc (skip_of found text)
+referred_long : (found : Option ℕ) (text : Text) → (reference_of Parentheses text found).1 ≡ suc (skip_of found text)
 unfolding skip_of
 referred_long found text = grind arith
 
-referred_braces : (found : Option ℕ) (text : Text) → (referred Braces text found).1 ≡ suc (skip_of found text)
+referred_braces : (found : Option ℕ) (text : Text) → (reference_of Braces text found).1 ≡ suc (skip_of found text)
 unfolding skip_of
 referred_braces found text = grind arith
 

@@ -2,7 +2,7 @@
 -- kati's own): whether the lines from a place on begin with those of a tree, and what follows these is as a rest must
 -- be. With it goes the missing end that was found so far: that of the innermost block which the text doesn't end.
 use Rattle.std.specs.Prelude.{◌≡◌, ℕ, zero, suc, ◌+◌, Bool, true, false, not, List, [], ◌∷◌, Option, Some, None}
-use Rattle.kt_syntax.specs.Prelude.{MatchOption, Missing, Stray, Head, Role}
+use Rattle.kt_syntax.specs.Prelude.{MatchOption, Missing, Stray, NumberedRole, Role}
 use Rattle.kt_syntax.specs.declared.part.Missing.TheVariants as missing
 use Rattle.kt_syntax.specs.declared.part.Stray.TheVariants as stray
 use Rattle.kt_syntax.specs.declared.role.Role.TheVariants.{Ordinary, Conditional, Else, Endif, Define, Endef}
@@ -10,15 +10,15 @@ use Rattle.kt_syntax.specs.Blocks.{Items, Branches, none, line, fault, definitio
 
 -- what must hold of a rest: of the missing end that was found before it, of its place and of its lines
 abbrev pub Rests : Type 1
-Rests = Option Missing → ℕ → List Head → Type 0
+Rests = Option Missing → ℕ → List NumberedRole → Type 0
 
 -- the next line has this role; the rest may depend on its number
-abbrev pub TakesLine : Role → List Head → (ℕ → List Head → Type 0) → Type 0
+abbrev pub TakesLine : Role → List NumberedRole → (ℕ → List NumberedRole → Type 0) → Type 0
 TakesLine role [] Rest = ⊥
 TakesLine role (head ∷ heads) Rest = (head.role ≡ role) × Rest head.number heads
 
 -- the next line is stray: an `endef` that ends no define, and outside conditionals an `else` of any form or an `endif`
-abbrev pub TakesStray : Bool → Stray → List Head → (ℕ → List Head → Type 0) → Type 0
+abbrev pub TakesStray : Bool → Stray → List NumberedRole → (ℕ → List NumberedRole → Type 0) → Type 0
 TakesStray inside stray.Endef heads Rest = TakesLine Endef heads Rest
 TakesStray false stray.Else heads Rest = (condition : Bool) × TakesLine (Else condition) heads Rest
 TakesStray false stray.Endif heads Rest = TakesLine Endif heads Rest
@@ -30,7 +30,7 @@ or_missing None outer = Some outer
 or_missing (Some inner) outer = Some inner
 
 -- the next line ends the conditional whose first line has a number, unless the text ends first
-abbrev pub TakesEndif : ℕ → Option Missing → ℕ → List Head → Rests → Type 0
+abbrev pub TakesEndif : ℕ → Option Missing → ℕ → List NumberedRole → Rests → Type 0
 TakesEndif number found place [] Rest = Rest (or_missing found (missing.Endif number)) place []
 TakesEndif number found place (head ∷ heads) Rest = (head.role ≡ Endif) × Rest found (place + 1) heads
 
@@ -43,7 +43,7 @@ depth_after role depth = Some depth
 
 -- the next lines are the body of the define whose first line has a number, up to the place `end` of its `endef`, unless
 -- the text ends first; a given number of defines are open in the body, where they nest and nothing else counts
-unfoldable pub TakesBody : (number depth end : ℕ) → Option Missing → ℕ → List Head → Rests → Type 0
+unfoldable pub TakesBody : (number depth end : ℕ) → Option Missing → ℕ → List NumberedRole → Rests → Type 0
 TakesBody number depth end found place [] Rest = (end ≡ place) × Rest (or_missing found (missing.Endef number)) place []
 TakesBody number depth end found place (head ∷ heads) Rest =
     MatchOption (depth_after head.role depth) ((end ≡ place) × Rest found (place + 1) heads)
@@ -52,7 +52,7 @@ TakesBody number depth end found place (head ∷ heads) Rest =
 -- the lines are those of items, inside a conditional or not, and of branches, after a plain `else` or not; then comes
 -- a rest
 unfoldable mutual
-  pub TakesItems : Bool → Items → Option Missing → ℕ → List Head → Rests → Type 0
+  pub TakesItems : Bool → Items → Option Missing → ℕ → List NumberedRole → Rests → Type 0
   TakesItems inside none found place heads Rest = Rest found place heads
   TakesItems inside (line at next) found place heads Rest =
       (at ≡ place) × TakesLine Ordinary heads (λ number more. TakesItems inside next found (place + 1) more Rest)
@@ -69,7 +69,7 @@ unfoldable mutual
       (λ more_missing end ending. TakesEndif number more_missing end ending (λ all after more.
       TakesItems inside next all after more Rest))))
 
-  pub TakesBranches : Bool → Branches → Option Missing → ℕ → List Head → Rests → Type 0
+  pub TakesBranches : Bool → Branches → Option Missing → ℕ → List NumberedRole → Rests → Type 0
   TakesBranches plain no_branch found place heads Rest = Rest found place heads
   TakesBranches plain (branch at condition items others) found place heads Rest =
       (at ≡ place) × (plain ≡ false) × TakesLine (Else condition) heads
@@ -81,6 +81,6 @@ unfoldable mutual
       (λ all begin further. TakesBranches true others all begin further Rest)))
 
 -- a tree and a missing end are those of lines with these roles and numbers
-abbrev pub IsTreeOf : Items → Option Missing → List Head → Type 0
+abbrev pub IsTreeOf : Items → Option Missing → List NumberedRole → Type 0
 IsTreeOf items missing_one heads = TakesItems false items None 0 heads (λ all end more. (more ≡ [])
     × (all ≡ missing_one))

@@ -6,16 +6,16 @@ use Rattle.std.specs.Prelude.{length, take, drop, codes, Option, Some, None, opt
 use Rattle.std.specs.Prelude.{if◌then◌else◌}
 use Rattle.kt_syntax.specs.Prelude.{starts_with, position_or_len, slice_range, Text, condensed_of, mask_of}
 use Rattle.std.specs.Str.{bytes_eq}
-use Rattle.kt_syntax.specs.declared.heads.RuleParts.{RuleParts}
+use Rattle.kt_syntax.specs.declared.heads.RuleParts.{RuleParts as HeldRuleParts}
 use Rattle.kt_syntax.specs.declared.heads.TargetSpecific.{TargetSpecific}
 use Rattle.kt_syntax.specs.Kinds.{assignment_parts, comment_place, past_blanks, past_word}
 
 -- the head of a rule line, and its first recipe line if there is one
-pub record RuleTexts : Type 0 where
+pub record RuleParts : Type 0 where
   pub head : Text
   pub recipe : Option Text
 
-abbrev pub texts_view : Result RuleParts TargetSpecific → Option RuleTexts
+abbrev pub texts_view : Result HeldRuleParts TargetSpecific → Option RuleParts
 texts_view (Ok parts) = Some (record { head = parts.head.now; recipe = option_map (λ recipe. recipe.now) parts.recipe })
 texts_view (Err fault) = None
 
@@ -79,15 +79,15 @@ first_recipe line = if head_end line == comment_place line then None
     else Some (drop (past_blanks (head_end line + 1) (mask_of line)) line)
 
 -- the parts of a rule line with this text and first recipe line, or none where it assigns a target-specific macro
-abbrev pub parts_with : Text → Option Text → Option RuleTexts
+abbrev pub parts_with : Text → Option Text → Option RuleParts
 parts_with text recipe =
     if is_target_specific text (take (head_end text) (mask_of text)) then None
     else Some (record { head = head_text text; recipe = recipe })
 
 -- those of a rule line with this text
-unfoldable pub rule_texts : Text → Text → Option RuleTexts
+unfoldable pub rule_texts : Text → Text → Option RuleParts
 rule_texts line text = parts_with text (first_recipe line)
 
 -- those of a line as it stands in the file
-abbrev pub line_parts : Text → Option RuleTexts
+abbrev pub line_parts : Text → Option RuleParts
 line_parts line = rule_texts line (condensed_of line)

@@ -12,24 +12,24 @@ use Rattle.kt_syntax.specs.declared.form.Operator.TheVariants.{Deferred, Immedia
 use Rattle.kt_syntax.specs.declared.form.Directive.{Directive}
 use Rattle.kt_syntax.specs.declared.form.Directive.TheVariants.{Ifdef, Ifndef, Ifeq, Ifneq, Else, Endif, Define, Endef}
 use Rattle.kt_syntax.specs.declared.form.Directive.TheVariants.{Include, OptionalInclude}
-use Rattle.kt_syntax.specs.declared.form.Form.{Form}
+use Rattle.kt_syntax.specs.declared.form.Form.{Form as HeldForm}
 use Rattle.kt_syntax.specs.declared.form.Form.TheVariants as told
 use Rattle.kt_syntax.specs.Mask.{inside, goes_odd, mask_of}
 
 -- a kind of line, with its parts as they stand in the line's text
-pub data Kind : Type 0 where
-  blank : Kind
-  assignment : (name : Text) (operator : Operator) (value : Text) → Kind
-  directive : (word : Directive) (rest : Text) → Kind
-  refused : (word : Text) → Kind
-  rule : Kind
+pub data Form : Type 0 where
+  blank : Form
+  assignment : (name : Text) (operator : Operator) (value : Text) → Form
+  directive : (word : Directive) (rest : Text) → Form
+  refused : (word : Text) → Form
+  rule : Form
 
-abbrev pub kind_view : Form → Kind
-kind_view told.Blank = blank
-kind_view (told.Assignment name operator value) = assignment name.now operator value.now
-kind_view (told.Directive word rest) = directive word rest.now
-kind_view (told.Refused word) = refused word.now
-kind_view told.Rule = rule
+abbrev pub line_form_view : HeldForm → Form
+line_form_view told.Blank = blank
+line_form_view (told.Assignment name operator value) = assignment name.now operator value.now
+line_form_view (told.Directive word rest) = directive word rest.now
+line_form_view (told.Refused word) = refused word.now
+line_form_view told.Rule = rule
 
 -- how many symbols stand before the comment, which begins at a number sign after an even number of backslashes (kati's
 -- own; GNU make manual, "What Makefiles Contain")
@@ -133,33 +133,33 @@ directive_of tab word = if tab then include_word word else directive_among (bloc
     directive_among (Some first) other = Some first
 
 -- the kind of a line by its first word, with the text after it
-abbrev pub kind_by_word : Option Directive → Text → Text → Kind
+abbrev pub kind_by_word : Option Directive → Text → Text → Form
 kind_by_word (Some found) word rest = directive found rest
 kind_by_word None word rest = if is_refused_word word then refused word else rule
 
 -- the kind of a line that isn't blank and is no assignment; its first word begins at a place
-unfoldable pub worded : Bool → Text → List ℕ → ℕ → Kind
+unfoldable pub worded : Bool → Text → List ℕ → ℕ → Form
 worded tab text mask begin =
     kind_by_word (directive_of tab (slice_range text begin (past_word begin mask)))
     (slice_range text begin (past_word begin mask))
     (drop (past_blanks (past_word begin mask) (mask_of text)) text)
 
-abbrev pub kind_by_parts : Bool → Text → List ℕ → ℕ → Option Parts → Kind
+abbrev pub kind_by_parts : Bool → Text → List ℕ → ℕ → Option Parts → Form
 kind_by_parts tab text mask begin None = worded tab text mask begin
 kind_by_parts tab text mask begin (Some parts) = assignment (slice_range text begin parts.name) parts.operator
     (drop parts.value text)
 
 -- the kind of a line, by the mask of what stands before its comment and the place after its leading blanks
-unfoldable pub kind_within : Bool → Text → List ℕ → ℕ → Kind
+unfoldable pub kind_within : Bool → Text → List ℕ → ℕ → Form
 kind_within tab text mask begin =
     if begin == length mask then blank else kind_by_parts tab text mask begin (assignment_parts text mask begin)
 
 -- the kind of a line whose continuations are condensed
-unfoldable pub kind_of : Text → Bool → Kind
-kind_of text tab =
+unfoldable pub form_of : Text → Bool → Form
+form_of text tab =
     kind_within tab text (take (comment_place text) (mask_of text))
     (past_blanks 0 (take (comment_place text) (mask_of text)))
 
 -- the kind of a line as it stands in the file
-abbrev pub line_kind : Text → Bool → Kind
-line_kind line tab = kind_of (condensed_of line) tab
+abbrev pub line_form : Text → Bool → Form
+line_form line tab = form_of (condensed_of line) tab

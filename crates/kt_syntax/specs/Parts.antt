@@ -2,7 +2,7 @@
 -- "Defining Multi-Line Variables"; faults are kati's own).
 use Rattle.std.specs.Prelude.{ℕ, zero, suc, ◌+◌, Bool, false, not, ◌||◌, List, [], ◌∷◌, Option, Some, None}
 use Rattle.std.specs.Prelude.{if◌then◌else◌}
-use Rattle.kt_syntax.specs.Prelude.{Missing, BlockPart, Head, Role}
+use Rattle.kt_syntax.specs.Prelude.{Missing, BlockPart, NumberedRole, Role}
 use Rattle.kt_syntax.specs.declared.part.Missing.TheVariants as missing
 use Rattle.kt_syntax.specs.declared.part.OpenConditional.{OpenConditional}
 use Rattle.kt_syntax.specs.declared.part.OpenDefine.{OpenDefine}
@@ -12,16 +12,16 @@ use Rattle.kt_syntax.specs.declared.role.Role.TheVariants as role
 
 -- the blocks that are open at a line: a define, in whose body nothing else is a block, and conditionals, innermost
 -- first
-pub record Open : Type 0 where
+pub record Scan : Type 0 where
   pub define : Option OpenDefine
   pub conditionals : List OpenConditional
 
 -- before the first line
-abbrev pub nothing_open : Open
+abbrev pub nothing_open : Scan
 nothing_open = record { define = None; conditionals = [] }
 
 -- how many defines are open in the body of the open one
-abbrev pub depth_of : Open → ℕ
+abbrev pub depth_of : Scan → ℕ
 depth_of open_blocks = depth_in open_blocks.define
   where
     depth_in : Option OpenDefine → ℕ
@@ -53,8 +53,8 @@ after_else (innermost ∷ outer) condition =
     record { number = innermost.number; plain_else = innermost.plain_else || not condition } ∷ outer
 
 -- the part of a line
-unfoldable pub part_of : Open → Role → BlockPart
-part_of open_blocks line = part_by open_blocks.define open_blocks.conditionals line
+unfoldable pub block_part : Scan → Role → BlockPart
+block_part open_blocks line = part_by open_blocks.define open_blocks.conditionals line
   where
     part_by : Option OpenDefine → List OpenConditional → Role → BlockPart
     part_by (Some define) conditionals line = body_part line define.depth
@@ -67,10 +67,10 @@ part_of open_blocks line = part_by open_blocks.define open_blocks.conditionals l
     part_by None (innermost ∷ outer) role.Endif = part.Endif
 
 -- the blocks that are open after a line
-unfoldable pub after : Open → Head → Open
+unfoldable pub after : Scan → NumberedRole → Scan
 after open_blocks head = after_line open_blocks.define open_blocks.conditionals head.role head.number
   where
-    after_line : Option OpenDefine → List OpenConditional → Role → ℕ → Open
+    after_line : Option OpenDefine → List OpenConditional → Role → ℕ → Scan
     after_line (Some define) conditionals line number =
         record { define = define_after define.number define.depth line; conditionals = conditionals }
     after_line None conditionals role.Ordinary number = record { define = None; conditionals = conditionals }
@@ -91,17 +91,17 @@ after open_blocks head = after_line open_blocks.define open_blocks.conditionals 
     after_line None (innermost ∷ outer) role.Endif number = record { define = None; conditionals = outer }
 
 -- the parts of the lines from one on
-unfoldable pub parts_from : Open → List Head → List BlockPart
+unfoldable pub parts_from : Scan → List NumberedRole → List BlockPart
 parts_from open_blocks [] = []
-parts_from open_blocks (head ∷ heads) = part_of open_blocks head.role ∷ parts_from (after open_blocks head) heads
+parts_from open_blocks (head ∷ heads) = block_part open_blocks head.role ∷ parts_from (after open_blocks head) heads
 
 -- what is open at the end of the text
-unfoldable pub open_at_end : Open → List Head → Open
+unfoldable pub open_at_end : Scan → List NumberedRole → Scan
 open_at_end open_blocks [] = open_blocks
 open_at_end open_blocks (head ∷ heads) = open_at_end (after open_blocks head) heads
 
 -- the one end that is missing: that of the innermost open block
-abbrev pub missing_in : Open → Option Missing
+abbrev pub missing_in : Scan → Option Missing
 missing_in open_blocks = missing_of open_blocks.define open_blocks.conditionals
   where
     missing_of : Option OpenDefine → List OpenConditional → Option Missing
@@ -110,8 +110,8 @@ missing_in open_blocks = missing_of open_blocks.define open_blocks.conditionals
     missing_of None [] = None
 
 -- the parts of all lines of a text, and its missing end
-abbrev pub parts_of : List Head → List BlockPart
-parts_of heads = parts_from nothing_open heads
+abbrev pub block_parts : List NumberedRole → List BlockPart
+block_parts heads = parts_from nothing_open heads
 
-abbrev pub missing_end : List Head → Option Missing
+abbrev pub missing_end : List NumberedRole → Option Missing
 missing_end heads = missing_in (open_at_end nothing_open heads)

@@ -2,8 +2,8 @@
 -- chosen. Kati's own.
 use Rattle.std.specs.Prelude.{◌≡◌, ◌<◌, ◌≤◌, ℕ, ◌+◌, List, [], ◌∷◌, drop, length, Some, slice_get}
 use Rattle.kt_syntax.specs.declared.part.Stray.TheVariants as stray
-use Rattle.kt_syntax.specs.declared.step.Step.{Step}
-use Rattle.kt_syntax.specs.declared.step.Step.TheVariants as step
+use Rattle.kt_syntax.specs.declared.step.BlockStep.{BlockStep}
+use Rattle.kt_syntax.specs.declared.step.BlockStep.TheVariants as step
 use Rattle.kt_syntax.specs.Blocks.{Items, Branches, Level, none, line, fault, definition, conditional, no_branch}
 use Rattle.kt_syntax.specs.Blocks.{branch, late, levels_from}
 
@@ -23,16 +23,16 @@ after_branches (branch place condition items others) next = after_branches other
 after_branches (late place items others) next = fault stray.LateElse place next
 
 -- what is left of blocks, the innermost first
-abbrev pub left_of : List Level → Items
-left_of [] = none
-left_of (level ∷ levels) = append level.items (after_branches level.others (left_of levels))
+abbrev pub items_left : List Level → Items
+items_left [] = none
+items_left (level ∷ levels) = append level.items (after_branches level.others (items_left levels))
 
 -- what is left from a place on
-unfoldable pub left_at : List Step → ℕ → Items
-left_at steps place = left_of (levels_from place (drop place steps))
+unfoldable pub left_at : List BlockStep → ℕ → Items
+left_at steps place = items_left (levels_from place (drop place steps))
 
 -- these branches are tried from a place on, and after the items of one reading goes on at another
-unfoldable pub AreTried : List Step → Branches → (next after : ℕ) → Type 0
+unfoldable pub AreTried : List BlockStep → Branches → (next after : ℕ) → Type 0
 AreTried steps no_branch next after = next ≡ after
 AreTried steps (late place items others) next after = next ≡ after
 AreTried steps (branch place condition items others) next after =
@@ -41,7 +41,7 @@ AreTried steps (branch place condition items others) next after =
     × AreTried steps others further after)
 
 -- a conditional is left at a place: its first branch comes next, and its other branches are tried from `next` on
-pub record IsConditional (steps : List Step) (place next after : ℕ) : Type 0 where
+pub record IsConditional (steps : List BlockStep) (place next after : ℕ) : Type 0 where
   pub first : Items
   pub others : Branches
   pub rest : Items
@@ -51,7 +51,7 @@ pub record IsConditional (steps : List Step) (place next after : ℕ) : Type 0 w
   pub tried : AreTried steps others next after
 
 -- what the step at a place says of what is left there
-abbrev pub ReadsOn : List Step → ℕ → Step → Type 0
+abbrev pub ReadsOn : List BlockStep → ℕ → BlockStep → Type 0
 ReadsOn steps place step.Line = left_at steps place ≡ line place (left_at steps (place + 1))
 ReadsOn steps place step.Body = left_at steps place ≡ left_at steps (place + 1)
 ReadsOn steps place (step.Define end) = left_at steps place ≡ definition place end (left_at steps end)
@@ -62,13 +62,13 @@ ReadsOn steps place step.Endif = left_at steps place ≡ left_at steps (place + 
 ReadsOn steps place (step.Stray kind) = (rest : Items) × (left_at steps place ≡ fault kind place rest)
 
 -- a step names later places alone, and none after the end of the text
-abbrev pub IsAhead : (place end : ℕ) → Step → Type 0
+abbrev pub IsAhead : (place end : ℕ) → BlockStep → Type 0
 IsAhead place end (step.Define body_end) = (place < body_end) × (body_end ≤ end)
 IsAhead place end (step.Conditional next after) = (place < next) × (next ≤ after) × (after ≤ end)
 IsAhead place end (step.Branch condition next after) = (place < next) × (next ≤ after) × (after ≤ end)
 IsAhead place end other = Unit {0}
 
 -- each step reads on, and ahead
-pub record AreReadable (steps : List Step) : Type 0 where
-  pub reads : (place : ℕ) (found : Step) → slice_get steps place ≡ Some found → ReadsOn steps place found
-  pub ahead : (place : ℕ) (found : Step) → slice_get steps place ≡ Some found → IsAhead place (length steps) found
+pub record AreReadable (steps : List BlockStep) : Type 0 where
+  pub reads : (place : ℕ) (found : BlockStep) → slice_get steps place ≡ Some found → ReadsOn steps place found
+  pub ahead : (place : ℕ) (found : BlockStep) → slice_get steps place ≡ Some found → IsAhead place (length steps) found

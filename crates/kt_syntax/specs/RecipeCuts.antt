@@ -1,7 +1,7 @@
 -- The text of a recipe line, as cuts of its physical lines with their mask beside them (GNU make manual, "Splitting
 -- Recipe Lines"; that a continuation goes outside references, too, and carriage returns are kati's own).
 use Rattle.std.specs.Prelude.{◌≡◌, ◌≢◌, ◌⊎◌, ℕ, ◌-◌, true, false, List, [], ◌∷◌, ◌++◌, length, drop, slice_index}
-use Rattle.kt_syntax.specs.Prelude.{flat_map, list_any, Text, is_continued_text, pieces_of, FirstStands, HasNoNewline}
+use Rattle.kt_syntax.specs.Prelude.{flat_map, list_any, Text, is_continued_text, newline_pieces, FirstStands, HasNoNewline}
 use Rattle.kt_syntax.specs.Prelude.{IsNewline, Spacing, StandsAfter, is_continuation, spelled, Edge, inside, mask_of}
 use Rattle.kt_syntax.specs.Recipes.{recipe_lines, recipe_of}
 
@@ -52,7 +52,7 @@ pub record Splices (splice : List ℕ → Text → Text) : Type 0 where
 
 -- a text spliced by its mask
 abbrev pub spliced : List ℕ → Text → Text
-spliced mask text = recipe_lines Edge mask (pieces_of text)
+spliced mask text = recipe_lines Edge mask (newline_pieces text)
 
 -- the text that is computed, and no other
 pub record SplicingLaw : Type 0 where

@@ -3,7 +3,7 @@
 use Rattle.std.specs.Prelude.{ℕ, ◌-◌, ◌==◌, List, [], ◌∷◌, ◌++◌, length, drop, slice_index, if◌then◌else◌}
 use Rattle.bstr.specs.Text.{without_terminator}
 use Rattle.kt_syntax.specs.Prelude.{Text, trimmed_start, trimmed_end, Edge, Newline, Outside, Inside, inside, mask_of}
-use Rattle.kt_text.specs.Lines.{before_backslash, is_continued, pieces_of}
+use Rattle.kt_text.specs.Lines.{before_backslash, is_continued, newline_pieces}
 use Rattle.kt_syntax.specs.declared.recipe.Joint.{Joint}
 
 -- what the newline at the end of a physical line is: its symbol in the mask says whether it is inside a reference
@@ -35,31 +35,31 @@ ended Inside text = trimmed_end text
 ended other text = text
 
 -- the space of a continuation inside a reference; of several with nothing but blanks between them the last has it
-abbrev pub space_before : Joint → Joint → Text → Text
-space_before Inside Inside [] = []
-space_before Inside after text = 32 ∷ []
-space_before before after text = []
+abbrev pub space_at_joint : Joint → Joint → Text → Text
+space_at_joint Inside Inside [] = []
+space_at_joint Inside after text = 32 ∷ []
+space_at_joint before after text = []
 
 -- the newline of a line that isn't continued
-abbrev pub newline_after : Joint → Text
-newline_after Newline = 10 ∷ []
-newline_after after = []
+abbrev pub newline_at_joint : Joint → Text
+newline_at_joint Newline = 10 ∷ []
+newline_at_joint after = []
 
 -- what a physical line becomes between two joints
-unfoldable pub recipe_line : Joint → Joint → Text → Text
-recipe_line before after line =
-    let text = ended after (begun before (content after line)) in space_before before after text
-    ++ (text ++ newline_after after)
+unfoldable pub spliced_line : Joint → Joint → Text → Text
+spliced_line before after line =
+    let text = ended after (begun before (content after line)) in space_at_joint before after text
+    ++ (text ++ newline_at_joint after)
 
 -- what physical lines become, with their masks, of which the last has no newline
 unfoldable pub recipe_lines : Joint → List ℕ → List Text → Text
 recipe_lines before mask [] = []
-recipe_lines before mask (line ∷ []) = recipe_line before Edge line
+recipe_lines before mask (line ∷ []) = spliced_line before Edge line
 recipe_lines before mask (line ∷ next ∷ lines) =
     let after = joint_of (slice_index mask (length line - 1)) line in
-    recipe_line before after line ++ recipe_lines after (drop (length line) mask) (next ∷ lines)
+    spliced_line before after line ++ recipe_lines after (drop (length line) mask) (next ∷ lines)
 
 -- the text of a recipe line: a continuation is dropped with one tab after it; inside a reference continuations with the
 -- blanks round them are one space
 unfoldable pub recipe_of : Text → Text
-recipe_of text = recipe_lines Edge (mask_of text) (pieces_of text)
+recipe_of text = recipe_lines Edge (mask_of text) (newline_pieces text)

@@ -2,11 +2,11 @@
 -- Variables"), by their kinds alone.
 use Rattle.std.specs.Prelude.{Bool, true, false, ◌&&◌, ◌||◌, ◌==◌, List, [], ◌∷◌, length, take, map, Option, Some}
 use Rattle.std.specs.Prelude.{leb, if◌then◌else◌}
-use Rattle.kt_syntax.specs.Prelude.{slice_range, Directive, Head, Role, Text, mask_of, line_kind, past_word}
+use Rattle.kt_syntax.specs.Prelude.{slice_range, Directive, NumberedRole, Role, Text, mask_of, line_form, past_word}
 use Rattle.kt_text.specs.declared.line.Line.{Line}
 use Rattle.kt_syntax.specs.declared.form.Directive.TheVariants as word
 use Rattle.kt_syntax.specs.declared.role.Role.TheVariants.{Ordinary, Conditional, Else, Endif, Define, Endef}
-use Rattle.kt_syntax.specs.Kinds.{Kind, directive, block_word, comment_place}
+use Rattle.kt_syntax.specs.Kinds.{Form, directive, block_word, comment_place}
 
 -- whether a line begins with a blank, with a backslash, which may be that of a continuation, with a byte of a line's
 -- end, or with a letter that words of blocks begin with
@@ -45,7 +45,7 @@ role_by_word word.Include rest = Ordinary
 role_by_word word.OptionalInclude rest = Ordinary
 
 -- the role of a line of a kind
-unfoldable pub role_of : Kind → Role
+unfoldable pub role_of : Form → Role
 role_of (directive word rest) = role_by_word word rest
 role_of other = Ordinary
 
@@ -57,9 +57,9 @@ line_text text line =
     else []
 
 -- a line's role and number
-abbrev pub head_of : Text → Line → Head
-head_of text line = record { role = role_of (line_kind (line_text text line) line.tab); number = line.number }
+abbrev pub numbered_role : Text → Line → NumberedRole
+numbered_role text line = record { role = role_of (line_form (line_text text line) line.tab); number = line.number }
 
 -- the roles and numbers of a text's lines
-abbrev pub heads_of : Text → List Line → List Head
-heads_of text lines = map (head_of text) lines
+abbrev pub heads_of : Text → List Line → List NumberedRole
+heads_of text lines = map (numbered_role text) lines

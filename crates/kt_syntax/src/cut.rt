@@ -1,6 +1,6 @@
 //! Texts cut into terms.
 ghost use Rattle.std.specs.Prelude.{◌≡◌, ◌≤◌, List, length};
-ghost use Rattle.kt_syntax.specs.Terms.{IsSplitting, Token, terms_of};
+ghost use Rattle.kt_syntax.specs.Terms.{IsSplitting, Term, terms_of};
 
 use crate::term_list::Terms;
 
@@ -12,7 +12,7 @@ use crate::term_list::Terms;
 pub fn terms(text: &[u8]) -> Terms<'_>
     ensures value { result ≡ terms_of text.now }
     ensures splits { IsSplitting text.now result }
-    ensures one { (pieces : List Token) → IsSplitting text.now pieces → pieces ≡ result }
+    ensures one { (pieces : List Term) → IsSplitting text.now pieces → pieces ≡ result }
     ensures count { length result ≤ length text.now }
 {
     Terms::new(text)

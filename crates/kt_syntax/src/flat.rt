@@ -1,10 +1,10 @@
 //! The blocks of a text, as a flat list.
 ghost use Rattle.std.specs.Prelude.{◌≡◌, ◌≢◌, length, slice_get, true, false, IfSome, Some};
 ghost use Rattle.kt_syntax.specs.Reading.{AreReadable, IsAhead, ReadsOn};
-ghost use Rattle.kt_syntax.specs.declared.step.Step.TheVariants as step;
+ghost use Rattle.kt_syntax.specs.declared.step.BlockStep.TheVariants as step;
 
 use crate::part::Missing;
-use crate::step::Step;
+use crate::step::BlockStep;
 use crate::step_list::StepList;
 use std::marker::Model;
 
@@ -19,9 +19,9 @@ pub struct Blocks {
 }
 
 impl Model for Blocks {
-    ghost use Rattle.kt_syntax.specs.Blocks.{Flat};
+    ghost use Rattle.kt_syntax.specs.Blocks.{Blocks};
 
-    ghost Value = { Flat };
+    ghost Value = { Blocks };
 
     ghost view = { λ blocks. record { steps = blocks.steps; missing = blocks.missing } };
 
@@ -39,7 +39,7 @@ impl Blocks {
     }
 
     /// The step of a line, counted from 0; none after the last one.
-    pub fn get(&self, line: usize) -> Option<Step>
+    pub fn get(&self, line: usize) -> Option<BlockStep>
         ensures value { result ≡ slice_get self.now.steps line }
         ensures reads { IfSome result (ReadsOn self.now.steps line) }
         ensures ahead { IfSome result (IsAhead line (length self.now.steps)) }
@@ -56,7 +56,7 @@ impl Blocks {
         if self.steps.is_unput(line) {
             return true;
         }
-        matches!(self.get(line), Some(Step::Line))
+        matches!(self.get(line), Some(BlockStep::Line))
     }
 
     /// The end that is missing, which is met at the end of the text, once an open rule is closed.

@@ -5,7 +5,7 @@
 ghost use Rattle.std.specs.Prelude.{◌≡◌, ◌≤◌, ◌<◌, ◌++◌, None, length, not, true, IfSome};
 ghost use Rattle.std.specs.List.{list_all, position_or_len};
 ghost use Rattle.kt_text.specs.Words.{trimmed_start};
-ghost use Rattle.kt_syntax.specs.Kinds.{kind_of, kind_view, operator_of};
+ghost use Rattle.kt_syntax.specs.Kinds.{form_of, line_form_view, operator_of};
 ghost use Rattle.kt_syntax.specs.inner.Leading.{IsQuietWord, begins_colon, begins_slash, is_loud};
 
 use crate::form::Form;
@@ -15,7 +15,7 @@ use kt_text::trim_start;
 
 // The kind of a line; `None` where it takes a look at the whole line.
 pub(crate) fn leading_form(text: &[u8], tab: bool) -> Option<Form<'_>>
-    ensures { IfSome result (λ form. kind_view form ≡ kind_of text.now tab) }
+    ensures { IfSome result (λ form. line_form_view form ≡ form_of text.now tab) }
 {
     let (word, after) = quiet_word(text)?;
     let rest = trim_start(after);
@@ -42,7 +42,7 @@ fn unassigning_form<'a>(
     requires some { 0 < length word.now }
     requires rest { rest.now ≡ trimmed_start after.now }
     requires none { None ≡ operator_of rest.now }
-    ensures { IfSome result (λ form. kind_view form ≡ kind_of (word.now ++ after.now) tab) }
+    ensures { IfSome result (λ form. line_form_view form ≡ form_of (word.now ++ after.now) tab) }
 {
     if begins_colon(after) {
         return Some(Form::Rule);

@@ -5,8 +5,8 @@ ghost use Rattle.std.specs.Prelude.{◌≡◌, ◌≤◌, ◌+◌, drop, false, 
 ghost use Rattle.std.specs.Prelude.{MatchOption};
 ghost use Rattle.std.specs.Str.{bytes_eq};
 ghost use Rattle.kt_syntax.specs.Kinds.{assignment_parts, blank, block_word, directive_of, ends_name, include_word};
-ghost use Rattle.kt_syntax.specs.Kinds.{is_refused_word, kind_by_word, kind_of, kind_view, name_end, operator_of};
-ghost use Rattle.kt_syntax.specs.Kinds.{line_kind, worded};
+ghost use Rattle.kt_syntax.specs.Kinds.{form_of, is_refused_word, kind_by_word, line_form_view, name_end, operator_of};
+ghost use Rattle.kt_syntax.specs.Kinds.{line_form, worded};
 ghost use Rattle.kt_syntax.specs.Comments.{begins_comment};
 ghost use Rattle.kt_syntax.specs.inner.Leading.{may_be_word};
 ghost use Rattle.kt_syntax.specs.Mask.{mask_of};
@@ -28,14 +28,14 @@ use kt_text::has_byte;
 /// Takes no memory. POSIX.1-2024 make, "Makefile Syntax"; GNU make manual, "What Makefiles Contain"
 /// and "Splitting Long Lines".
 pub fn classify<'t>(line: &'t LineText<'_>, tab: bool) -> Form<'t>
-    ensures { kind_view result ≡ line_kind line.now tab }
+    ensures { line_form_view result ≡ line_form line.now tab }
 {
     classify_text(line.text(), tab)
 }
 
 /// The kind of a text whose continuations are condensed, as that of a line is.
 pub fn classify_text(text: &[u8], tab: bool) -> Form<'_>
-    ensures { kind_view result ≡ kind_of text.now tab }
+    ensures { line_form_view result ≡ form_of text.now tab }
 {
     if begins_comment(text) {
         return Form::Blank;
@@ -51,14 +51,14 @@ pub fn classify_text(text: &[u8], tab: bool) -> Form<'_>
 /// Few other lines are, and it takes one look. GNU make manual, "What Makefiles Contain".
 pub fn begins_comment(line: &[u8]) -> bool
     ensures value { result ≡ begins_comment line.now }
-    ensures kind { result ≡ true → line_kind line.now false ≡ blank }
+    ensures kind { result ≡ true → line_form line.now false ≡ blank }
 {
     matches!(line, [] | [b'#', ..])
 }
 
 // The same, where the line's begin doesn't tell that it is a directive of blocks.
 fn other_kind(text: &[u8], tab: bool) -> Form<'_>
-    ensures { kind_view result ≡ kind_of text.now tab }
+    ensures { line_form_view result ≡ form_of text.now tab }
 {
     match leading_form(text, tab) {
         Some(form) => form,
@@ -67,9 +67,9 @@ fn other_kind(text: &[u8], tab: bool) -> Form<'_>
 }
 
 // The same by a look at the whole line.
-#[tactic(auto, unfolding(crate::specs::Kinds::kind_of, crate::specs::Kinds::kind_within))]
+#[tactic(auto, unfolding(crate::specs::Kinds::form_of, crate::specs::Kinds::kind_within))]
 fn walked_kind(text: &[u8], tab: bool) -> Form<'_>
-    ensures { kind_view result ≡ kind_of text.now tab }
+    ensures { line_form_view result ≡ form_of text.now tab }
 {
     let end = comment_place(text);
     let begin = past_blanks(text, 0, end);
@@ -195,7 +195,7 @@ pub(crate) fn operator_of(text: &[u8]) -> Option<(Operator, usize)>
 fn worded(text: &[u8], begin: usize, end: usize, tab: bool) -> Form<'_>
     requires order { begin ≤ end }
     requires within { end ≤ length text.now }
-    ensures { kind_view result ≡ worded tab text.now (first_symbols end text.now) begin }
+    ensures { line_form_view result ≡ worded tab text.now (first_symbols end text.now) begin }
 {
     let after = past_word(text, begin, end);
     let rest = past_line_blanks(text, after);
@@ -205,7 +205,7 @@ fn worded(text: &[u8], begin: usize, end: usize, tab: bool) -> Form<'_>
 // The same by that word and the text after it.
 #[tactic(auto, using(crate::proofs::LeadingForms::no_word))]
 pub(crate) fn form_by_word<'a>(tab: bool, word: &'a [u8], rest: &'a [u8]) -> Form<'a>
-    ensures { kind_view result ≡ kind_by_word (directive_of tab word.now) word.now rest.now }
+    ensures { line_form_view result ≡ kind_by_word (directive_of tab word.now) word.now rest.now }
 {
     if !may_be_word(word) {
         return Form::Rule;

@@ -1,7 +1,7 @@
 //! Laws of the definitions. These functions do nothing: their contracts are what counts.
 ghost use Rattle.std.specs.Prelude.{◌≡◌, List, Option};
 ghost use Rattle.kt_syntax.specs.declared.part.Missing.{Missing};
-ghost use Rattle.kt_syntax.specs.declared.role.Head.{Head};
+ghost use Rattle.kt_syntax.specs.declared.role.NumberedRole.{NumberedRole};
 ghost use Rattle.kt_syntax.specs.Assignments.{AssignmentLaw};
 ghost use Rattle.kt_syntax.specs.BlockRows.{RowsOfBlocks};
 ghost use Rattle.kt_syntax.specs.Blocks.{Items, blocks_of, tree_of};
@@ -18,8 +18,9 @@ ghost use Rattle.kt_syntax.specs.Signs.{SignLaw};
 /// By the grammar of blocks lines have exactly one tree and one missing end or none: the tree that
 /// the steps of their blocks stand for, and the end that is missing there.
 pub fn blocks_are_a_tree()
-    ensures some { (heads : List Head) → IsTreeOf (tree_of (blocks_of heads).steps) (blocks_of heads).missing heads }
-    ensures one { (heads : List Head) (items : Items) (missing : Option Missing) → IsTreeOf items missing heads
+    ensures some { (heads : List NumberedRole) → IsTreeOf (tree_of (blocks_of heads).steps) (blocks_of heads).missing
+        heads }
+    ensures one { (heads : List NumberedRole) (items : Items) (missing : Option Missing) → IsTreeOf items missing heads
         → (items ≡ tree_of (blocks_of heads).steps) × (missing ≡ (blocks_of heads).missing) }
 {}
 

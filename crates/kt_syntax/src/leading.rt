@@ -1,7 +1,7 @@
 //! Lines that begin with a word of blocks, recognised by their first bytes alone: most of them are.
 //! Fast: a line of blocks is told by the word that it begins with. Spares a walk over the line.
 ghost use Rattle.std.specs.Prelude.{◌≡◌, ◌∷◌, IfSome, Some, false};
-ghost use Rattle.kt_syntax.specs.Kinds.{block_word, directive, kind_of};
+ghost use Rattle.kt_syntax.specs.Kinds.{block_word, directive, form_of};
 ghost use Rattle.kt_syntax.specs.Roles.{first_word};
 ghost use Rattle.kt_syntax.specs.inner.Leading.{IsLed, is_apart, may_assign};
 
@@ -11,7 +11,7 @@ use kt_text::{is_blank, trim_start};
 // The directive of a line that has no tab, and the text after it; `None` where that takes a look at the whole line.
 #[tactic(auto, using(crate::proofs::LeadingWords::leading_kind))]
 pub(crate) fn leading_directive(text: &[u8]) -> Option<(Directive, &[u8])>
-    ensures { IfSome result (λ found. directive found.0 found.1.now ≡ kind_of text.now false) }
+    ensures { IfSome result (λ found. directive found.0 found.1.now ≡ form_of text.now false) }
 {
     let (word, after) = leading_word(text)?;
     let rest = trim_start(after);

@@ -36,6 +36,6 @@ pub use line_text::LineText;
 pub use nesting::{blocks, marked_blocks};
 pub use part::{Missing, Stray};
 pub use recipe::recipe_text;
-pub use step::Step;
+pub use step::BlockStep;
 pub use term::{Mark, Term, Unterminated};
 pub use term_list::Terms;

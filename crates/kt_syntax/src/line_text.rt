@@ -21,13 +21,13 @@ impl<'a> Model for LineText<'a> {
     ghost use Rattle.std.specs.Prelude.{◌≡◌, option_map};
     ghost use Rattle.kt_text.specs.Words.{Text};
     ghost use Rattle.kt_text.specs.Lines.{condensed_of};
-    ghost use Rattle.kt_syntax.specs.inner.LineTexts.{text_of};
+    ghost use Rattle.kt_syntax.specs.inner.LineTexts.{text_beside};
 
     ghost Value = { Text };
 
     ghost view = { λ l. l.line.now };
 
-    ghost invariant = { λ l. text_of l.line.now (option_map (λ text. text.items) l.condensed)
+    ghost invariant = { λ l. text_beside l.line.now (option_map (λ text. text.items) l.condensed)
         ≡ condensed_of l.line.now };
 }
 

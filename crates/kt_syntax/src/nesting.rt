@@ -3,9 +3,9 @@ ghost use Rattle.std.specs.Prelude.{◌≡◌, ◌≤◌, ◌<◌, ◌^◌, leng
 ghost use Rattle.kt_text.specs.Lines.{AreInOrder};
 ghost use Rattle.kt_syntax.specs.Blocks.{blocks_of, tree_of};
 ghost use Rattle.kt_syntax.specs.Grammar.{IsTreeOf};
-ghost use Rattle.kt_syntax.specs.Parts.{after, depth_of, missing_end, part_of, parts_of};
+ghost use Rattle.kt_syntax.specs.Parts.{after, block_part, block_parts, depth_of, missing_end};
 ghost use Rattle.kt_syntax.specs.Reading.{left_at};
-ghost use Rattle.kt_syntax.specs.Roles.{head_of, heads_of};
+ghost use Rattle.kt_syntax.specs.Roles.{heads_of, numbered_role};
 ghost use Rattle.kt_syntax.specs.Steps.{steps_from};
 
 use crate::flat::Blocks;
@@ -13,7 +13,7 @@ use crate::part::{BlockPart, Missing, Scan};
 use crate::role::{head_of, opens_nothing};
 use crate::step::Places;
 use crate::step_list::StepList;
-use kt_text::{Line, Mark};
+use kt_text::{Line, LineMark};
 use std::alloc::{AllocError, Global};
 
 /// The blocks of a text with these lines, which are its own, as `logical_lines` gives them.
@@ -31,18 +31,18 @@ pub fn blocks(alloc: Global, text: &[u8], lines: &[Line]) -> Result<Blocks, Allo
     marked_blocks(alloc, text, &marks)
 }
 
-fn marks_of(alloc: Global, lines: &[Line]) -> Result<Vec<Mark>, AllocError>
+fn marks_of(alloc: Global, lines: &[Line]) -> Result<Vec<LineMark>, AllocError>
     ensures { IfOk result (λ marks. marks.items ≡ lines.now) }
 {
     let mut marks = Vec::new(alloc);
     for line in lines {
-        marks.push(Mark::of(line)?)?;
+        marks.push(LineMark::of(line)?)?;
     }
     Ok(marks)
 }
 
 /// The same by the marks of these lines, as `line_marks` gives them.
-pub fn marked_blocks(alloc: Global, text: &[u8], lines: &[Mark]) -> Result<Blocks, AllocError>
+pub fn marked_blocks(alloc: Global, text: &[u8], lines: &[LineMark]) -> Result<Blocks, AllocError>
     requires { AreInOrder (length text.now) lines.now }
     ensures flat { IfOk result (λ blocks. blocks ≡ blocks_of (heads_of text.now lines.now)) }
     ensures tree { IfOk result (λ blocks. IsTreeOf (tree_of blocks.steps) blocks.missing
@@ -59,10 +59,10 @@ pub fn marked_blocks(alloc: Global, text: &[u8], lines: &[Mark]) -> Result<Block
 fn parts(
     alloc: Global,
     text: &[u8],
-    lines: &[Mark],
+    lines: &[LineMark],
 ) -> Result<(Vec<BlockPart>, Option<Missing>), AllocError>
     requires { AreInOrder (length text.now) lines.now }
-    ensures parts { IfOk result (λ found. found.0.items ≡ parts_of (heads_of text.now lines.now)) }
+    ensures parts { IfOk result (λ found. found.0.items ≡ block_parts (heads_of text.now lines.now)) }
     ensures missing { IfOk result (λ found. found.1 ≡ missing_end (heads_of text.now lines.now)) }
 {
     let mut parts = Vec::with_capacity(alloc, lines.len())?;
@@ -78,14 +78,14 @@ fn parts(
 fn next_part(
     alloc: Global,
     text: &[u8],
-    line: &Mark,
+    line: &LineMark,
     scan: &mut Scan,
 ) -> Result<BlockPart, AllocError>
     requires depth { depth_of scan.old < 2 ^ 63 }
     requires order { line.now.span.start ≤ line.now.span.end }
     requires within { line.now.span.end ≤ length text.now }
-    ensures part { IfOk result (λ part. part ≡ part_of scan.old (head_of text.now line.now).role) }
-    ensures scan { IfOk result (λ _. scan.new ≡ after scan.old (head_of text.now line.now)) }
+    ensures part { IfOk result (λ part. part ≡ block_part scan.old (numbered_role text.now line.now).role) }
+    ensures scan { IfOk result (λ _. scan.new ≡ after scan.old (numbered_role text.now line.now)) }
 {
     let line = line.line();
     if opens_nothing(text, &line) {

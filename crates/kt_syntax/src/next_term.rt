@@ -1,7 +1,7 @@
 //! The first term of a text.
 ghost use Rattle.std.specs.Prelude.{◌≡◌, ◌==◌, ◌+◌, ◌^◌, ◌∷◌, ◌<◌, ◌≤◌, [], length, MatchOption, IfSome};
 ghost use Rattle.std.specs.List.{position_or_len};
-ghost use Rattle.kt_syntax.specs.Terms.{after_dollar, closing, dropped, first_term, token_of, referred, terms_of};
+ghost use Rattle.kt_syntax.specs.Terms.{after_dollar, closing, dropped, first_term, token_of, reference_of, terms_of};
 
 use crate::term::{Mark, Term, Unterminated};
 use memchr::memchr;
@@ -67,8 +67,8 @@ fn reference(
 ) -> (Result<Term<'_>, Unterminated>, usize)
     requires room { length text.now < 2 ^ 63 }
     requires within { IfSome place (λ p. p < length text.now) }
-    ensures term { token_of result.0 ≡ (referred mark text.now place).0 }
-    ensures taken { result.1 ≡ (referred mark text.now place).1 }
+    ensures term { token_of result.0 ≡ (reference_of mark text.now place).0 }
+    ensures taken { result.1 ≡ (reference_of mark text.now place).1 }
     ensures within { result.1 ≤ length text.now + 1 }
 {
     match place {

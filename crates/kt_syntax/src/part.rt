@@ -1,10 +1,10 @@
 //! The parts of lines in blocks, found from the first line to the last.
 ghost use Rattle.std.specs.Prelude.{◌≡◌, ◌≤◌, ◌<◌, ◌^◌, ℕ, None, IfOk};
 ghost use Rattle.kt_syntax.specs.Parts.{after, after_else, body_part, define_after, depth_of, else_part, missing_in};
-ghost use Rattle.kt_syntax.specs.Parts.{nothing_open, part_of};
+ghost use Rattle.kt_syntax.specs.Parts.{block_part, nothing_open};
 ghost use Rattle.kt_syntax.specs.declared.role.Role.TheVariants as role;
 
-use crate::role::{Head, Role};
+use crate::role::{NumberedRole, Role};
 use std::alloc::{AllocError, Global};
 use std::collections::VecDeque;
 use std::marker::Model;
@@ -74,9 +74,9 @@ pub(crate) struct Scan {
 }
 
 impl Model for Scan {
-    ghost use Rattle.kt_syntax.specs.Parts.{Open};
+    ghost use Rattle.kt_syntax.specs.Parts.{Scan};
 
-    ghost Value = { Open };
+    ghost Value = { Scan };
 
     ghost view = { λ scan. record { define = scan.define; conditionals = scan.conditionals.items } };
 }
@@ -92,9 +92,9 @@ impl Scan {
     }
 
     // The part of a line that opens, continues and ends nothing, and changes nothing.
-    #[tactic(auto, unfolding(crate::specs::Parts::part_of, crate::specs::Parts::after))]
+    #[tactic(auto, unfolding(crate::specs::Parts::block_part, crate::specs::Parts::after))]
     pub(crate) fn ordinary_part(&self) -> BlockPart
-        ensures part { result ≡ part_of self.now role.Ordinary }
+        ensures part { result ≡ block_part self.now role.Ordinary }
         ensures same { (number : ℕ) → self.now ≡ after self.now (record { role = role.Ordinary; number = number }) }
     {
         match self.define {
@@ -104,10 +104,10 @@ impl Scan {
     }
 
     // The part of the next line.
-    #[tactic(auto, unfolding(crate::specs::Parts::part_of, crate::specs::Parts::after))]
-    pub(crate) fn advance(&mut self, head: Head) -> Result<BlockPart, AllocError>
+    #[tactic(auto, unfolding(crate::specs::Parts::block_part, crate::specs::Parts::after))]
+    pub(crate) fn advance(&mut self, head: NumberedRole) -> Result<BlockPart, AllocError>
         requires { depth_of self.old < 2 ^ 63 }
-        ensures part { IfOk result (λ part. part ≡ part_of self.old head.role) }
+        ensures part { IfOk result (λ part. part ≡ block_part self.old head.role) }
         ensures scan { IfOk result (λ _. self.new ≡ after self.old head) }
     {
         match self.define {
@@ -120,10 +120,10 @@ impl Scan {
         }
     }
 
-    #[tactic(auto, unfolding(crate::specs::Parts::part_of, crate::specs::Parts::after))]
-    fn advance_outside(&mut self, head: Head) -> Result<BlockPart, AllocError>
+    #[tactic(auto, unfolding(crate::specs::Parts::block_part, crate::specs::Parts::after))]
+    fn advance_outside(&mut self, head: NumberedRole) -> Result<BlockPart, AllocError>
         requires { self.old.define ≡ None }
-        ensures part { IfOk result (λ part. part ≡ part_of self.old head.role) }
+        ensures part { IfOk result (λ part. part ≡ block_part self.old head.role) }
         ensures scan { IfOk result (λ _. self.new ≡ after self.old head) }
     {
         match head.role {

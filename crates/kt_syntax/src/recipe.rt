@@ -2,8 +2,8 @@
 ghost use Rattle.std.specs.Prelude.{◌≡◌, ◌++◌, IfOk, OnOk};
 ghost use Rattle.std.specs.Cow.{cow_slice_items};
 ghost use Rattle.kt_text.specs.Lines.{before_backslash};
-ghost use Rattle.kt_syntax.specs.Recipes.{begun, content, ended, joint_of, newline_after, recipe_line, recipe_of};
-ghost use Rattle.kt_syntax.specs.Recipes.{space_before, without_tab};
+ghost use Rattle.kt_syntax.specs.Recipes.{begun, content, ended, joint_of, newline_at_joint, recipe_of, spliced_line};
+ghost use Rattle.kt_syntax.specs.Recipes.{space_at_joint, without_tab};
 
 use crate::mask::Mask;
 use crate::symbol::Symbol;
@@ -75,14 +75,14 @@ fn joint_of(symbol: &Symbol, line: &[u8]) -> Joint
 }
 
 // Adds a physical line between two joints.
-#[tactic(auto, unfolding(crate::specs::Recipes::recipe_line))]
+#[tactic(auto, unfolding(crate::specs::Recipes::spliced_line))]
 fn add_line(
     recipe: &mut Vec<u8>,
     before: Joint,
     after: Joint,
     line: &[u8],
 ) -> Result<(), AllocError>
-    ensures { OnOk result (recipe.new.items ≡ recipe.old.items ++ recipe_line before after line.now) }
+    ensures { OnOk result (recipe.new.items ≡ recipe.old.items ++ spliced_line before after line.now) }
 {
     let text = ended(after, begun(before, content(after, line)));
     recipe.extend_from_slice(space_before(before, after, text))?;
@@ -144,7 +144,7 @@ fn ended(after: Joint, text: &[u8]) -> &[u8]
 
 // The space of a continuation inside a reference, unless only blanks stand up to the next one.
 fn space_before(before: Joint, after: Joint, text: &[u8]) -> &'static [u8]
-    ensures { result.now ≡ space_before before after text.now }
+    ensures { result.now ≡ space_at_joint before after text.now }
 {
     match (before, after) {
         (Joint::Inside, Joint::Inside) if text.is_empty() => b"",
@@ -155,7 +155,7 @@ fn space_before(before: Joint, after: Joint, text: &[u8]) -> &'static [u8]
 
 // The newline of a line that isn't continued.
 fn newline_after(after: Joint) -> &'static [u8]
-    ensures { result.now ≡ newline_after after }
+    ensures { result.now ≡ newline_at_joint after }
 {
     match after {
         Joint::Newline => b"\n",

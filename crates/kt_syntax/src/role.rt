@@ -2,8 +2,8 @@
 ghost use Rattle.std.specs.Prelude.{◌≡◌, ◌≤◌, false, length, true, IfOk};
 ghost use Rattle.std.specs.List.{slice_range};
 ghost use Rattle.kt_syntax.specs.declared.role.Role.TheVariants as role;
-ghost use Rattle.kt_syntax.specs.Kinds.{block_word, kind_of, line_kind};
-ghost use Rattle.kt_syntax.specs.Roles.{first_word, head_of, line_text, may_open, opens_conditional};
+ghost use Rattle.kt_syntax.specs.Kinds.{block_word, form_of, line_form};
+ghost use Rattle.kt_syntax.specs.Roles.{first_word, line_text, may_open, numbered_role, opens_conditional};
 ghost use Rattle.kt_syntax.specs.Roles.{role_by_word, role_of, starts_condition};
 
 use crate::form::{Directive, Form};
@@ -32,19 +32,19 @@ pub(crate) enum Role {
 
 /// A line's role, and the number of its first physical line.
 #[derive(Clone, Copy, Debug, PartialEq, Eq)]
-pub(crate) struct Head {
+pub(crate) struct NumberedRole {
     pub role: Role,
     pub number: u64,
 }
 
 // The head of a line that begins with no tab.
-pub(crate) fn head_of(alloc: Global, text: &[u8], line: &Line) -> Result<Head, AllocError>
+pub(crate) fn head_of(alloc: Global, text: &[u8], line: &Line) -> Result<NumberedRole, AllocError>
     requires tab { line.now.tab ≡ false }
     requires order { line.now.span.start ≤ line.now.span.end }
     requires within { line.now.span.end ≤ length text.now }
-    ensures { IfOk result (λ head. head ≡ head_of text.now line.now) }
+    ensures { IfOk result (λ head. head ≡ numbered_role text.now line.now) }
 {
-    Ok(Head {
+    Ok(NumberedRole {
         role: line_role(alloc, line_text(text, line))?,
         number: line.number,
     })
@@ -63,7 +63,7 @@ fn line_text<'a>(text: &'a [u8], line: &Line) -> &'a [u8]
 pub(crate) fn opens_nothing(text: &[u8], line: &Line) -> bool
     requires order { line.now.span.start ≤ line.now.span.end }
     requires within { line.now.span.end ≤ length text.now }
-    ensures role { result ≡ true → (head_of text.now line.now).role ≡ role.Ordinary }
+    ensures role { result ≡ true → (numbered_role text.now line.now).role ≡ role.Ordinary }
     ensures tab { result ≡ false → line.now.tab ≡ false }
 {
     if line.tab {
@@ -74,7 +74,7 @@ pub(crate) fn opens_nothing(text: &[u8], line: &Line) -> bool
 
 // The role of a line that begins with no tab. Many are one word and nothing else.
 fn line_role(alloc: Global, line: &[u8]) -> Result<Role, AllocError>
-    ensures { IfOk result (λ role. role ≡ role_of (line_kind line.now false)) }
+    ensures { IfOk result (λ role. role ≡ role_of (line_form line.now false)) }
 {
     if is_word(line, b"endif") {
         return Ok(Role::Endif);
@@ -88,7 +88,7 @@ fn line_role(alloc: Global, line: &[u8]) -> Result<Role, AllocError>
 
 // The role of a text that begins with no tab. Behind its blanks it begins as the whole line has to.
 fn role_of(text: &[u8]) -> Role
-    ensures { result ≡ role_of (kind_of text.now false) }
+    ensures { result ≡ role_of (form_of text.now false) }
 {
     if !may_open(trim_start(text)) {
         return Role::Ordinary;
@@ -115,7 +115,7 @@ fn may_open(line: &[u8]) -> bool
 // The same by the kind of the text.
 #[tactic(auto, unfolding(crate::specs::Roles::role_of))]
 fn classified_role(text: &[u8]) -> Role
-    ensures { result ≡ role_of (kind_of text.now false) }
+    ensures { result ≡ role_of (form_of text.now false) }
 {
     match classify_text(text, false) {
         Form::Directive(word, rest) => role_by_word(word, rest),

@@ -3,7 +3,7 @@ ghost use Rattle.std.specs.Prelude.{◌≡◌, ◌<◌, ◌⊎◌, IfOk, OnErr};
 ghost use Rattle.kt_syntax.specs.inner.ShortSteps.{places_of_step, step_with};
 
 use crate::part::BlockPart;
-use crate::step::Step;
+use crate::step::BlockStep;
 use kt_list::narrow;
 use std::alloc::AllocError;
 use std::marker::Model;
@@ -17,37 +17,37 @@ pub(crate) struct ShortStep {
 }
 
 impl Model for ShortStep {
-    ghost use Rattle.kt_syntax.specs.declared.step.Step.{Step};
+    ghost use Rattle.kt_syntax.specs.declared.step.BlockStep.{BlockStep};
     ghost use Rattle.kt_syntax.specs.inner.ShortSteps.{step_with};
 
-    ghost Value = { Step };
+    ghost Value = { BlockStep };
 
     ghost view = { λ short. step_with short.part short.next short.after };
 }
 
 impl ShortStep {
     // The same step. One with a place beyond 4,294,967,295 has none, as if memory were refused for it.
-    pub(crate) fn of(step: Step) -> Result<ShortStep, AllocError>
+    pub(crate) fn of(step: BlockStep) -> Result<ShortStep, AllocError>
         ensures same { IfOk result (λ short. short ≡ step) }
         ensures large { OnErr result ((4294967295 < (places_of_step step).0) ⊎ (4294967295 < (places_of_step step).1)) }
     {
         match step {
-            Step::Line => ShortStep::with(BlockPart::Line, 0, 0),
-            Step::Body => ShortStep::with(BlockPart::Body, 0, 0),
-            Step::Define { end } => ShortStep::with(BlockPart::Define, end, 0),
-            Step::Endef => ShortStep::with(BlockPart::Endef, 0, 0),
-            Step::Conditional { next, after } => ShortStep::with(
+            BlockStep::Line => ShortStep::with(BlockPart::Line, 0, 0),
+            BlockStep::Body => ShortStep::with(BlockPart::Body, 0, 0),
+            BlockStep::Define { end } => ShortStep::with(BlockPart::Define, end, 0),
+            BlockStep::Endef => ShortStep::with(BlockPart::Endef, 0, 0),
+            BlockStep::Conditional { next, after } => ShortStep::with(
                 BlockPart::Conditional,
                 next,
                 after,
             ),
-            Step::Branch {
+            BlockStep::Branch {
                 condition,
                 next,
                 after,
             } => ShortStep::with(BlockPart::Branch(condition), next, after),
-            Step::Endif => ShortStep::with(BlockPart::Endif, 0, 0),
-            Step::Stray(stray) => ShortStep::with(BlockPart::Stray(stray), 0, 0),
+            BlockStep::Endif => ShortStep::with(BlockPart::Endif, 0, 0),
+            BlockStep::Stray(stray) => ShortStep::with(BlockPart::Stray(stray), 0, 0),
         }
     }
 
@@ -62,24 +62,24 @@ impl ShortStep {
         })
     }
 
-    pub(crate) fn step(&self) -> Step
+    pub(crate) fn step(&self) -> BlockStep
         ensures { result ≡ self.now }
     {
         let next = self.next as usize;
         let after = self.after as usize;
         match self.part {
-            BlockPart::Line => Step::Line,
-            BlockPart::Body => Step::Body,
-            BlockPart::Define => Step::Define { end: next },
-            BlockPart::Endef => Step::Endef,
-            BlockPart::Conditional => Step::Conditional { next, after },
-            BlockPart::Branch(condition) => Step::Branch {
+            BlockPart::Line => BlockStep::Line,
+            BlockPart::Body => BlockStep::Body,
+            BlockPart::Define => BlockStep::Define { end: next },
+            BlockPart::Endef => BlockStep::Endef,
+            BlockPart::Conditional => BlockStep::Conditional { next, after },
+            BlockPart::Branch(condition) => BlockStep::Branch {
                 condition,
                 next,
                 after,
             },
-            BlockPart::Endif => Step::Endif,
-            BlockPart::Stray(stray) => Step::Stray(stray),
+            BlockPart::Endif => BlockStep::Endif,
+            BlockPart::Stray(stray) => BlockStep::Stray(stray),
         }
     }
 }

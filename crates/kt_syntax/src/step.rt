@@ -12,7 +12,7 @@ use std::marker::Model;
 /// Lines are counted from 0; a place that a step names is that of a later line, or the number of
 /// lines where the text ends first.
 #[derive(Clone, Copy, Debug, PartialEq, Eq)]
-pub enum Step {
+pub enum BlockStep {
     /// A line that is in no define, and opens, continues and ends no block.
     Line,
     /// A line of the body of a define.
@@ -43,7 +43,7 @@ pub enum Step {
 
 /// Where a conditional goes on from one of its branches.
 #[derive(Clone, Copy, Debug, PartialEq, Eq)]
-pub(crate) struct Exits {
+pub(crate) struct BranchExits {
     pub next: usize,
     pub after: usize,
 }
@@ -54,13 +54,13 @@ pub(crate) struct Exits {
 pub(crate) struct Places {
     end: usize,
     body_end: usize,
-    conditionals: VecDeque<Exits>,
+    conditionals: VecDeque<BranchExits>,
 }
 
 impl Model for Places {
-    ghost use Rattle.kt_syntax.specs.Steps.{Ahead};
+    ghost use Rattle.kt_syntax.specs.Steps.{Places};
 
-    ghost Value = { Ahead };
+    ghost Value = { Places };
 
     ghost view = { λ places. record {
       end = places.end;
@@ -82,7 +82,7 @@ impl Places {
 
     // The step of the line before, which stands at `place`.
     #[tactic(auto, unfolding(crate::specs::Steps::step_of, crate::specs::Steps::places_after))]
-    pub(crate) fn step(&mut self, part: BlockPart, place: usize) -> Result<Step, AllocError>
+    pub(crate) fn step(&mut self, part: BlockPart, place: usize) -> Result<BlockStep, AllocError>
         ensures step { IfOk result (λ step. step ≡ step_of self.old part) }
         ensures places { IfOk result (λ _. self.new ≡ places_after self.old part place) }
     {
@@ -91,18 +91,18 @@ impl Places {
             self.body_end = place;
         }
         Ok(match part {
-            BlockPart::Line => Step::Line,
-            BlockPart::Body => Step::Body,
-            BlockPart::Define => Step::Define { end: body_end },
-            BlockPart::Endef => Step::Endef,
+            BlockPart::Line => BlockStep::Line,
+            BlockPart::Body => BlockStep::Body,
+            BlockPart::Define => BlockStep::Define { end: body_end },
+            BlockPart::Endef => BlockStep::Endef,
             BlockPart::Conditional => {
-                let Exits { next, after } = self.leave();
-                Step::Conditional { next, after }
+                let BranchExits { next, after } = self.leave();
+                BlockStep::Conditional { next, after }
             }
             BlockPart::Branch(condition) => {
-                let Exits { next, after } = self.leave();
+                let BranchExits { next, after } = self.leave();
                 self.enter(place, after)?;
-                Step::Branch {
+                BlockStep::Branch {
                     condition,
                     next,
                     after,
@@ -113,21 +113,21 @@ impl Places {
                     let _ = self.leave();
                     self.enter(place, place)?;
                 }
-                Step::Stray(stray)
+                BlockStep::Stray(stray)
             }
             BlockPart::Endif => {
                 self.enter(place, place)?;
-                Step::Endif
+                BlockStep::Endif
             }
         })
     }
 
     // Takes the exits of the innermost conditional; one that isn't ended goes on at the text's end.
-    fn leave(&mut self) -> Exits
+    fn leave(&mut self) -> BranchExits
         ensures exits { result ≡ exits_of self.old }
         ensures places { self.new ≡ record self.old { conditionals = drop 1 self.old.conditionals } }
     {
-        self.conditionals.pop_front().unwrap_or(Exits {
+        self.conditionals.pop_front().unwrap_or(BranchExits {
             next: self.end,
             after: self.end,
         })
@@ -139,7 +139,7 @@ impl Places {
               ∷ self.old.conditionals;
         }) }
     {
-        self.conditionals.push_front(Exits { next, after })?;
+        self.conditionals.push_front(BranchExits { next, after })?;
         Ok(())
     }
 }

@@ -1,10 +1,10 @@
 //! The steps of a text's lines, of which most are those of ordinary lines.
 ghost use Rattle.std.specs.Prelude.{◌≡◌, ◌<◌, length, replicate, slice_get, slice_set, unwrap_or, true, IfOk, Some};
-ghost use Rattle.kt_syntax.specs.declared.step.Step.TheVariants as step;
+ghost use Rattle.kt_syntax.specs.declared.step.BlockStep.TheVariants as step;
 ghost use Rattle.kt_syntax.specs.inner.ShortSteps.{numbered_step};
 
 use crate::short_step::ShortStep;
-use crate::step::Step;
+use crate::step::BlockStep;
 use kt_list::narrow;
 use std::alloc::{AllocError, Global};
 use std::marker::Model;
@@ -20,10 +20,10 @@ pub(crate) struct StepList {
 impl Model for StepList {
     ghost use Rattle.std.specs.Prelude.{List, length, map, ◌≤◌};
     ghost use Rattle.std.specs.List.{All};
-    ghost use Rattle.kt_syntax.specs.declared.step.Step.{Step};
+    ghost use Rattle.kt_syntax.specs.declared.step.BlockStep.{BlockStep};
     ghost use Rattle.kt_syntax.specs.inner.ShortSteps.{numbered_step};
 
-    ghost Value = { List Step };
+    ghost Value = { List BlockStep };
 
     ghost view = { λ list. map (numbered_step list.held.items) list.numbers.items };
 
@@ -45,12 +45,12 @@ impl StepList {
     // Puts a step in the place of an ordinary line's. Places beyond 4,294,967,295, or more such steps, are refused as
     // if memory were.
     #[tactic(auto, using(crate::proofs::StepListLemmas::stays_ordinary))]
-    pub(crate) fn put(&mut self, place: usize, found: Step) -> Result<(), AllocError>
+    pub(crate) fn put(&mut self, place: usize, found: BlockStep) -> Result<(), AllocError>
         requires within { place < length self.old }
         requires ordinary { slice_get self.old place ≡ Some step.Line }
         ensures { IfOk result (λ _. self.new ≡ slice_set self.old place found) }
     {
-        if matches!(found, Step::Line) {
+        if matches!(found, BlockStep::Line) {
             return Ok(());
         }
         self.hold(place, ShortStep::of(found)?)
@@ -77,7 +77,7 @@ impl StepList {
         }
     }
 
-    pub(crate) fn get(&self, place: usize) -> Option<Step>
+    pub(crate) fn get(&self, place: usize) -> Option<BlockStep>
         ensures { result ≡ slice_get self.now place }
     {
         match self.numbers.get(place) {
@@ -88,20 +88,20 @@ impl StepList {
 }
 
 // The step of a number.
-fn numbered_step(held: &[ShortStep], number: u32) -> Step
+fn numbered_step(held: &[ShortStep], number: u32) -> BlockStep
     ensures { result ≡ numbered_step held.now number }
 {
     if number == 0 {
-        return Step::Line;
+        return BlockStep::Line;
     }
     held_step(held, number as usize - 1)
 }
 
-fn held_step(held: &[ShortStep], place: usize) -> Step
+fn held_step(held: &[ShortStep], place: usize) -> BlockStep
     ensures { result ≡ unwrap_or (slice_get held.now place) step.Line }
 {
     match held.get(place) {
         Some(short) => short.step(),
-        None => Step::Line,
+        None => BlockStep::Line,
     }
 }

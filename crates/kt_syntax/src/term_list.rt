@@ -1,7 +1,7 @@
 //! The terms of a text, one after another.
 ghost use Rattle.std.specs.Prelude.{◌≡◌, List};
 ghost use Rattle.std.specs.Iterator.{YieldsFirstBy, item_count};
-ghost use Rattle.kt_syntax.specs.Terms.{Token, token_of, terms_of};
+ghost use Rattle.kt_syntax.specs.Terms.{Term as TermSeen, token_of, terms_of};
 
 use crate::next_term::next_term;
 use crate::term::{Term, Unterminated};
@@ -16,7 +16,7 @@ pub struct Terms<'a> {
 }
 
 impl<'a> Model for Terms<'a> {
-    ghost Value = { List Token };
+    ghost Value = { List TermSeen };
 
     ghost view = { λ terms. terms_of terms.rest.now };
 }

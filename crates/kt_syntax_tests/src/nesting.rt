@@ -1,6 +1,6 @@
 //! Blocks of texts, from the manual and kati's own rules.
 use crate::sameness::same;
-use kt_syntax::{Missing, Step, Stray, blocks, marked_blocks};
+use kt_syntax::{BlockStep, Missing, Stray, blocks, marked_blocks};
 use kt_text::{line_marks, logical_lines};
 use std::test::Fail;
 
@@ -22,31 +22,31 @@ fn told(text: &[u8], rt: &HostRuntime) -> Result<Vec<u8>, Fail> {
     for line in 0..lines.len() {
         let ordinary = found.is_ordinary(line);
         match found.get(line) {
-            Some(Step::Line) if ordinary => put(&mut told, b'l', &[])?,
-            Some(Step::Line) => put(&mut told, b'?', &[])?,
-            Some(Step::Body) => put(&mut told, b'b', &[])?,
-            Some(Step::Define { end }) => put(&mut told, b'd', &[end])?,
-            Some(Step::Endef) => put(&mut told, b'D', &[])?,
-            Some(Step::Conditional { next, after }) => put(&mut told, b'c', &[next, after])?,
+            Some(BlockStep::Line) if ordinary => put(&mut told, b'l', &[])?,
+            Some(BlockStep::Line) => put(&mut told, b'?', &[])?,
+            Some(BlockStep::Body) => put(&mut told, b'b', &[])?,
+            Some(BlockStep::Define { end }) => put(&mut told, b'd', &[end])?,
+            Some(BlockStep::Endef) => put(&mut told, b'D', &[])?,
+            Some(BlockStep::Conditional { next, after }) => put(&mut told, b'c', &[next, after])?,
             Some(
-                Step::Branch {
+                BlockStep::Branch {
                     condition: true,
                     next,
                     after,
                 },
             ) => put(&mut told, b'e', &[next, after])?,
             Some(
-                Step::Branch {
+                BlockStep::Branch {
                     condition: false,
                     next,
                     after,
                 },
             ) => put(&mut told, b'p', &[next, after])?,
-            Some(Step::Endif) => put(&mut told, b'C', &[])?,
-            Some(Step::Stray(Stray::Else)) => put(&mut told, b'E', &[])?,
-            Some(Step::Stray(Stray::LateElse)) => put(&mut told, b'L', &[])?,
-            Some(Step::Stray(Stray::Endif)) => put(&mut told, b'F', &[])?,
-            Some(Step::Stray(Stray::Endef)) => put(&mut told, b'G', &[])?,
+            Some(BlockStep::Endif) => put(&mut told, b'C', &[])?,
+            Some(BlockStep::Stray(Stray::Else)) => put(&mut told, b'E', &[])?,
+            Some(BlockStep::Stray(Stray::LateElse)) => put(&mut told, b'L', &[])?,
+            Some(BlockStep::Stray(Stray::Endif)) => put(&mut told, b'F', &[])?,
+            Some(BlockStep::Stray(Stray::Endef)) => put(&mut told, b'G', &[])?,
             None => put(&mut told, b'?', &[])?,
         }
     }
@@ -141,11 +141,11 @@ fn finds_deep_blocks(rt: HostRuntime) -> Result<(), Fail> {
     let lines = line_marks(rt.alloc(), &text)?;
     let found = marked_blocks(rt.alloc(), &text, &lines)?;
     assert_eq!(rt; found.missing(), None);
-    let outermost = Step::Conditional {
+    let outermost = BlockStep::Conditional {
         next: 199_999,
         after: 199_999,
     };
     assert_eq!(rt; found.get(0), Some(outermost));
-    assert_eq!(rt; found.get(199_999), Some(Step::Endif));
+    assert_eq!(rt; found.get(199_999), Some(BlockStep::Endif));
     Ok(())
 }

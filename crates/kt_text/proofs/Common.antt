@@ -5,7 +5,7 @@ unfoldable pub use Rattle.bstr.specs.Text.{line_len}
 pub use Rattle.kt_text.specs.Functions.{dir_part, matches_held, matches_some, name_part, name_place, occurs, suffix_place, word_at}
 unfoldable pub use Rattle.kt_text.specs.Functions.{basename_of, dir_of, findstring_of, join_of, joined_pairs, matches_word, number_of, patsubst_of, patsubst_word, sort_of, subst_of, word_of, word_set, wordlist_of, words_count_of}
 pub use Rattle.kt_text.specs.Lines.{AreInOrder, before_backslash, is_continued_text, space_before, trimmed_line}
-unfoldable pub use Rattle.kt_text.specs.Lines.{condensed_group, condensed_line, condensed_of, condensed_rest, groups, is_continued, is_ended, kept_length, kept_of_last, lines_from, logical_lines_of, nul_line, pieces_of}
+unfoldable pub use Rattle.kt_text.specs.Lines.{condensed_group, condensed_line, condensed_of, condensed_rest, groups, is_continued, is_ended, kept_length, kept_of_last, lines_from, logical_lines_of, newline_pieces, nul_line}
 pub use Rattle.kt_text.specs.Words.{put_word}
 unfoldable pub use Rattle.kt_text.specs.Words.{is_blank, is_separator, list_text, words_of}
 pub use Rattle.memchr.specs.Find.{FindsNeedle, IsFirstByte, IsLastByte, is_byte, matches}

@@ -1,6 +1,6 @@
 -- A text condensed physical line by physical line.
 use Rattle.std.proofs.Common.{◌≡◌, ℕ, Bool, true, false, List, [], ◌∷◌, ◌++◌, ◌&&◌, ◌==◌, refl, sym, ◌∙◌, ap, append_assoc, append-nil, length, if◌then◌else◌, ⊎_elim, arith, zero, suc, ◌<◌, true≢false, slice_index}
-use Rattle.kt_text.proofs.Common.{cases_Bool, eqb-true, eq-eqb, false_from_ne_true, lt-ltb, or_parts, nil_from_length, flat_map, list_any, onto_first, Text, is_continued, is_ended, groups, pieces_of, condensed_line, condensed_rest, condensed_group, condensed_of}
+use Rattle.kt_text.proofs.Common.{cases_Bool, eqb-true, eq-eqb, false_from_ne_true, lt-ltb, or_parts, nil_from_length, flat_map, list_any, onto_first, Text, is_continued, is_ended, groups, newline_pieces, condensed_line, condensed_rest, condensed_group, condensed_of}
 use Rattle.kt_text.proofs.GroupLemmas.{groups-ended, groups-continued, groups-begins}
 
 -- the text of groups of which the first may have begun before
@@ -40,8 +40,8 @@ step_next continued line next lines h =
     ∙ ap (λ found. condensed_line continued true line ++ left_text true found) (sym begins.are)
 
 -- an empty last piece that nothing continues to adds nothing
-after_last : left_text false (groups (pieces_of [])) ≡ []
-unfolding left_text groups pieces_of is_continued is_ended condensed_group condensed_line
+after_last : left_text false (groups (newline_pieces [])) ≡ []
+unfolding left_text groups newline_pieces is_continued is_ended condensed_group condensed_line
 after_last = refl
 
 -- pieces of which there is a first
@@ -55,45 +55,45 @@ pub onto_piece : (byte : ℕ) (found : List Text) → HasPiece (onto_first byte 
 onto_piece byte found = grind arith
 
 -- a text has a piece
-pub pieces-some : (text : Text) → HasPiece (pieces_of text)
-unfolding pieces_of
+pub pieces-some : (text : Text) → HasPiece (newline_pieces text)
+unfolding newline_pieces
 pieces-some [] = record { piece = _; pieces = _; are = refl }
 pieces-some (byte ∷ text) = grind (arith, ⊎_elim, onto_piece, cases_Bool)
 
 -- a last line without newline
 unended : (more : Bool) (continued : Bool) (line : Text) → is_continued line ≡ more
-    → left_text continued (groups (line ∷ [])) ≡ condensed_line continued (more && false) line ++ left_text (more && false) (groups (pieces_of []))
+    → left_text continued (groups (line ∷ [])) ≡ condensed_line continued (more && false) line ++ left_text (more && false) (groups (newline_pieces []))
 unfolding groups left_text
 unended false continued line h = step_ended continued line [] h ∙ ap (λ t. condensed_line continued false line ++ t) (sym after_last)
 unended true continued line h = step_last continued line h ∙ ap (λ t. condensed_line continued false line ++ t) (sym after_last)
 
 -- a line with newline
 ended : (more : Bool) (continued : Bool) (line after : Text) → is_continued line ≡ more
-    → left_text continued (groups (line ∷ pieces_of after)) ≡ condensed_line continued (more && true) line ++ left_text (more && true) (groups (pieces_of after))
-ended false continued line after h = step_ended continued line (pieces_of after) h
+    → left_text continued (groups (line ∷ newline_pieces after)) ≡ condensed_line continued (more && true) line ++ left_text (more && true) (groups (newline_pieces after))
+ended false continued line after h = step_ended continued line (newline_pieces after) h
 ended true continued line after h =
     let first = pieces-some after in
     rw first.are (step_next continued line first.piece first.pieces h)
 
 -- one physical line more
 pub left_text-step : (continued : Bool) (line after : Text) → (is_ended line ≡ false → length after ≡ 0)
-    → left_text continued (groups (line ∷ (if is_ended line then pieces_of after else [])))
-    ≡ condensed_line continued (is_continued line && is_ended line) line ++ left_text (is_continued line && is_ended line) (groups (pieces_of after))
+    → left_text continued (groups (line ∷ (if is_ended line then newline_pieces after else [])))
+    ≡ condensed_line continued (is_continued line && is_ended line) line ++ left_text (is_continued line && is_ended line) (groups (newline_pieces after))
 left_text-step continued line after last = grind (arith, ⊎_elim, ended, nil_from_length, unended, cases_Bool)
 
-pub condensed_of-start : (text : Text) → left_text false (groups (pieces_of text)) ≡ condensed_of text
+pub condensed_of-start : (text : Text) → left_text false (groups (newline_pieces text)) ≡ condensed_of text
 unfolding condensed_of
-condensed_of-start text = left_text-false (groups (pieces_of text))
+condensed_of-start text = left_text-false (groups (newline_pieces text))
 
 -- the loop's step: what is added and what is left
 pub condensed_more : (continued continues : Bool) (line after whole out : Text) (left : List Text) → continues ≡ is_continued line && is_ended line
-    → (is_ended line ≡ false → length after ≡ 0) → left ≡ line ∷ (if is_ended line then pieces_of after else []) → out ++ left_text continued (groups left) ≡ whole
-    → (out ++ condensed_line continued continues line) ++ left_text continues (groups (pieces_of after)) ≡ whole
+    → (is_ended line ≡ false → length after ≡ 0) → left ≡ line ∷ (if is_ended line then newline_pieces after else []) → out ++ left_text continued (groups left) ≡ whole
+    → (out ++ condensed_line continued continues line) ++ left_text continues (groups (newline_pieces after)) ≡ whole
 condensed_more continued continues line after whole out left on last cut before = grind (arith, append_assoc, left_text, left_text-step)
 
 -- and its end: the piece after the last newline
-pub condensed_end : (continued : Bool) (rest whole out : Text) → length rest ≡ 0 → out ++ left_text continued (groups (pieces_of rest)) ≡ whole → out ++ condensed_line continued false [] ≡ whole
-unfolding groups pieces_of left_text is_continued condensed_group condensed_rest
+pub condensed_end : (continued : Bool) (rest whole out : Text) → length rest ≡ 0 → out ++ left_text continued (groups (newline_pieces rest)) ≡ whole → out ++ condensed_line continued false [] ≡ whole
+unfolding groups newline_pieces left_text is_continued condensed_group condensed_rest
 condensed_end true [] whole out none before = ap (λ t. out ++ t) (sym (append-nil _)) ∙ before
 condensed_end false [] whole out none before = ap (λ t. out ++ t) (sym (append-nil _)) ∙ before
 condensed_end continued (byte ∷ rest) whole out none before = absurd (omega arith)
@@ -105,8 +105,8 @@ pub ruleset condensed_steps = (condensed_of-start, condensed_more, condensed_end
 abbrev HasNoNewline : Text → Type 0
 HasNoNewline text = (k : ℕ) → k < length text → slice_index text k ≡ 10 → ⊥
 
-pub one_piece : (text : Text) → HasNoNewline text → pieces_of text ≡ text ∷ []
-unfolding pieces_of
+pub one_piece : (text : Text) → HasNoNewline text → newline_pieces text ≡ text ∷ []
+unfolding newline_pieces
 one_piece [] free = refl
 one_piece (byte ∷ text) free =
     let other : (byte == 10) ≡ false = false_from_ne_true _ (λ h. free 0 (omega arith) (eqb-true byte 10 h)) in

@@ -1,6 +1,6 @@
 -- The condensed text of a line has no newline.
 use Rattle.std.proofs.Common.{◌≡◌, ◌<◌, ◌-◌, ◌==◌, ℕ, Bool, true, false, List, [], ◌∷◌, ◌++◌, length, take, refl, sym, ap, subst, arith, append-nil, cond, ⊎_elim}
-use Rattle.kt_text.proofs.Common.{cases_Bool, eqb-true, false_from_ne_true, onto_first, no_cr, without_terminator, Text, trimmed_start, trimmed_end, is_continued, is_ended, groups, pieces_of, before_backslash, trimmed_line, space_before, condensed_line, condensed_rest, condensed_group, condensed_of}
+use Rattle.kt_text.proofs.Common.{cases_Bool, eqb-true, false_from_ne_true, onto_first, no_cr, without_terminator, Text, trimmed_start, trimmed_end, is_continued, is_ended, groups, newline_pieces, before_backslash, trimmed_line, space_before, condensed_line, condensed_rest, condensed_group, condensed_of}
 use Rattle.kt_text.specs.Condensing.{IsLine}
 use Rattle.kt_text.proofs.CondensedLemmas.{condensed_alone, one_group}
 use Rattle.kt_text.proofs.NewlineLemmas.{IsFree, free_append, free_take, free_drop, free_space, free_nil, free_at}
@@ -25,8 +25,8 @@ newline_before : (pieces : List Text) → ArePieces pieces → ArePieces ((10 �
 unfolding ArePieces IsFree
 newline_before pieces a = grind arith
 
-pub are_pieces : (text : Text) → ArePieces (pieces_of text)
-unfolding ArePieces IsFree pieces_of
+pub are_pieces : (text : Text) → ArePieces (newline_pieces text)
+unfolding ArePieces IsFree newline_pieces
 are_pieces [] = tt
 are_pieces (byte ∷ text) = grind (arith, ⊎_elim, eqb-true, newline_before, byte_before, cases_Bool, are_pieces text)
 

@@ -1,6 +1,6 @@
 -- A text cut at its first newline, and what condensing makes of what stands before it.
 use Rattle.std.proofs.Common.{◌≡◌, ◌≢◌, ◌⊎◌, ◌-◌, ◌==◌, ◌&&◌, ℕ, Bool, true, false, not, List, [], ◌∷◌, ◌++◌, length, take, refl, sym, ap, ap₂, subst, ◌∙◌, arith, append_assoc, append-nil, length-append, cond, if◌then◌else◌, inl, inr, ⊎_elim, nat_lt, slice_index}
-use Rattle.kt_text.proofs.Common.{cases_Bool, eq-eqb, eqb-true, false≢true, lt-ltb, ne_eqb, reverse-append, take_at, get_or-append_seam, no_cr, without_terminator, Text, trimmed_end, trimmed_start, condensed_line, condensed_of, groups, is_continued, is_continued_text, is_ended, pieces_of, space_before}
+use Rattle.kt_text.proofs.Common.{cases_Bool, eq-eqb, eqb-true, false≢true, lt-ltb, ne_eqb, reverse-append, take_at, get_or-append_seam, no_cr, without_terminator, Text, trimmed_end, trimmed_start, condensed_line, condensed_of, groups, is_continued, is_continued_text, is_ended, newline_pieces, space_before}
 use Rattle.kt_text.specs.Condensing.{IsNewline, Spacing, is_continuation, space, spelled, tab, continuation, returned}
 use Rattle.kt_text.proofs.CondensedLemmas.{condensed_of-start, left_text, left_text-alone, left_text-step, one_group, one_piece}
 use Rattle.kt_text.proofs.CondensingLemmas.{no_end}
@@ -132,7 +132,7 @@ first_newline text =
 
 -- what is made of a text, by whether a continuation stands before it
 unfoldable pub condensed_from : Bool → Text → Text
-condensed_from continued text = left_text continued (groups (pieces_of text))
+condensed_from continued text = left_text continued (groups (newline_pieces text))
 
 pub condensed_from-start : (text : Text) → condensed_from false text ≡ condensed_of text
 unfolding condensed_from
@@ -171,20 +171,20 @@ from_pieces continued text found e = grind (arith, left_text, one_group, left_te
 
 pub from_free : (continued : Bool) (text : Text) → IsFree text → condensed_from continued text ≡ part continued false text
 unfolding condensed_from
-from_free continued text free = from_pieces continued text (pieces_of text) (one_piece text (free_at text free)) ∙ line_alone continued text free
+from_free continued text free = from_pieces continued text (newline_pieces text) (one_piece text (free_at text free)) ∙ line_alone continued text free
 
 -- a line with its newline
 ends_so : (front : Text) → is_ended (front ++ 10 ∷ []) ≡ true
 unfolding is_ended
 ends_so front = eq-eqb _ 10 (last_at front 10)
 
-line_step : (more continued : Bool) (line after : Text) → is_ended line ≡ true → is_continued line ≡ more → pieces_of (line ++ after) ≡ line ∷ pieces_of after
+line_step : (more continued : Bool) (line after : Text) → is_ended line ≡ true → is_continued line ≡ more → newline_pieces (line ++ after) ≡ line ∷ newline_pieces after
     → condensed_from continued (line ++ after) ≡ condensed_line continued more line ++ condensed_from more after
 unfolding condensed_from
 line_step more continued line after ends h cut =
-    ap (λ l. left_text continued (groups l)) (cut ∙ ap (λ b. line ∷ (if b then pieces_of after else [])) (sym ends))
+    ap (λ l. left_text continued (groups l)) (cut ∙ ap (λ b. line ∷ (if b then newline_pieces after else [])) (sym ends))
     ∙ left_text-step continued line after (λ none. absurd (false≢true (sym none ∙ ends)))
-    ∙ ap (λ b. condensed_line continued b line ++ left_text b (groups (pieces_of after))) (both more (is_continued line) (is_ended line) h ends)
+    ∙ ap (λ b. condensed_line continued b line ++ left_text b (groups (newline_pieces after))) (both more (is_continued line) (is_ended line) h ends)
   where
     both : (m a b : Bool) → a ≡ m → b ≡ true → (a && b) ≡ m
     both true a b e f = ap₂ (λ x y. x && y) e f

@@ -1,6 +1,6 @@
 -- The text of each logical line of a text is a line: each newline of it is continued.
 use Rattle.std.proofs.Common.{◌≡◌, ◌⊎◌, ◌<◌, ◌≤◌, ◌+◌, ◌-◌, ◌==◌, ℕ, zero, suc, Bool, true, false, List, [], ◌∷◌, ◌++◌, length, take, drop, get_or, refl, sym, ap, subst, ◌∙◌, arith, append-nil, append_assoc, length-append, length-drop, length-take-le, take-append-drop, drop-drop, cond, inl, inr, ⊎_elim, slice_range}
-use Rattle.kt_text.proofs.Common.{cases_Bool, eqb-true, eq-eqb, lt-ltb, take_at, drop_at, take-append-le, get_or-append_seam, take-append-add, All, onto_first, concat, flat_map, line_len, lines_of, no_cr, without_terminator, line_len-bounds, lines-nil, lines-step, Line, Text, is_continued, groups, pieces_of, kept_of_last, kept_length, lines_from, logical_lines_of}
+use Rattle.kt_text.proofs.Common.{cases_Bool, eqb-true, eq-eqb, lt-ltb, take_at, drop_at, take-append-le, get_or-append_seam, take-append-add, All, onto_first, concat, flat_map, line_len, lines_of, no_cr, without_terminator, line_len-bounds, lines-nil, lines-step, Line, Text, is_continued, groups, newline_pieces, kept_of_last, kept_length, lines_from, logical_lines_of}
 use Rattle.kt_text.specs.Condensing.{IsLine}
 use Rattle.kt_text.proofs.CondensedLemmas.{one_piece, one_group}
 use Rattle.kt_text.proofs.GroupLemmas.{groups-ended, groups-continued, groups-begins, length-onto}
@@ -138,12 +138,12 @@ kept_is (line ∷ []) after = grind (arith, take, append-nil, take-append-le, ke
 kept_is (line ∷ next ∷ lines) after = grind (arith, take, length, append_assoc, take-append-add, kept_is (next ∷ lines) after)
 
 -- an ended line is the first piece of a text that begins with it
-pub pieces_after : (front after : Text) → IsFree front → pieces_of ((front ++ 10 ∷ []) ++ after) ≡ (front ++ 10 ∷ []) ∷ pieces_of after
-unfolding pieces_of IsFree
+pub pieces_after : (front after : Text) → IsFree front → newline_pieces ((front ++ 10 ∷ []) ++ after) ≡ (front ++ 10 ∷ []) ∷ newline_pieces after
+unfolding newline_pieces IsFree
 pieces_after [] after a = refl
 pieces_after (byte ∷ front) after a = rw a.0 (ap (onto_first byte) (pieces_after front after a.1))
 
-one_more : (line after : Text) → pieces_of (line ++ after) ≡ line ∷ pieces_of after → is_continued line ≡ true → IsLine after → IsLine (line ++ after)
+one_more : (line after : Text) → newline_pieces (line ++ after) ≡ line ∷ newline_pieces after → is_continued line ≡ true → IsLine after → IsLine (line ++ after)
 one_more line after cut h one = grind (arith, length, groups-continued, length-onto)
 
 one_more_ended : (line after : Text) → EndsOnce line → is_continued line ≡ true → IsLine after → IsLine (line ++ after)

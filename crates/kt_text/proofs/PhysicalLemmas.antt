@@ -1,6 +1,6 @@
 -- The physical lines of a text.
 use Rattle.std.proofs.Common.{◌≡◌, ℕ, ◌+◌, ◌-◌, ◌<◌, ◌≤◌, Bool, true, false, List, [], ◌∷◌, length, take, drop, length-take-le, refl, sym, ◌∙◌, ap, arith, Some, None, ◌==◌, if◌then◌else◌, ⊎_elim, slice_index}
-use Rattle.kt_text.proofs.Common.{lt-ltb, le-ltb, eqb-true, eq-eqb, cases_Bool, false≢true, list_any, before_first, position_or_len, IsFirstByte, is_byte, line_len, is_ended, pieces_of, line_len-at, line_len-none, line_len-bounds, lines-step}
+use Rattle.kt_text.proofs.Common.{lt-ltb, le-ltb, eqb-true, eq-eqb, cases_Bool, false≢true, list_any, before_first, position_or_len, IsFirstByte, is_byte, line_len, is_ended, newline_pieces, line_len-at, line_len-none, line_len-bounds, lines-step}
 use Rattle.kt_text.proofs.PlaceLemmas.{first_byte_place}
 use Rattle.kt_text.proofs.MatchLemmas.{list_any-place}
 
@@ -37,8 +37,8 @@ empty_line (byte ∷ text) some is = rw is refl
 
 -- the first piece of a text is its first line
 pub pieces-step : (text : List ℕ) → 0 < length text
-    → pieces_of text ≡ take (line_len text) text ∷ (if is_ended (take (line_len text) text) then pieces_of (drop (line_len text) text) else [])
-unfolding pieces_of line_len
+    → newline_pieces text ≡ take (line_len text) text ∷ (if is_ended (take (line_len text) text) then newline_pieces (drop (line_len text) text) else [])
+unfolding newline_pieces line_len
 pieces-step [] some = absurd (omega arith)
 pieces-step (byte ∷ []) some = grind (arith, ⊎_elim, ended_alone, cases_Bool)
 pieces-step (byte ∷ next ∷ text) some =

@@ -119,8 +119,8 @@ number_of text = let digits = trimmed_end (trimmed_start text) in if is_number d
     then Some (digits_value 10 digits) else None
 
 -- a number from 1 on
-abbrev pub place_of : Text → Option ℕ
-place_of text = option_and_then (λ n. if n == 0 then None else Some n) (number_of text)
+abbrev pub ordinal_of : Text → Option ℕ
+ordinal_of text = option_and_then (λ n. if n == 0 then None else Some n) (number_of text)
 
 -- the word at a place, counted from 0, or no byte
 abbrev pub word_at : List Text → ℕ → Text
@@ -128,14 +128,14 @@ word_at texts i = unwrap_or (slice_get texts i) []
 
 -- `word`, places counted from 1; a bad number is refused [Functions for String Substitution and Analysis]
 unfoldable pub word_of : Text → Text → Option Text
-word_of at text = option_and_then (λ place. Some (word_at (words_of text) (place - 1))) (place_of at)
+word_of at text = option_and_then (λ place. Some (word_at (words_of text) (place - 1))) (ordinal_of at)
 
 -- `wordlist`, from the first place, 1 or more, through the second; none where the first is greater [Functions for
 -- String Substitution and Analysis]
 unfoldable pub wordlist_of : Text → Text → Text → Option Text
 wordlist_of first last text =
     option_and_then (λ start. option_and_then
-    (λ end. Some (list_text (slice_range (words_of text) (start - 1) end))) (number_of last)) (place_of first)
+    (λ end. Some (list_text (slice_range (words_of text) (start - 1) end))) (number_of last)) (ordinal_of first)
 
 -- `words`: their number in decimal [Functions for String Substitution and Analysis]
 unfoldable pub words_count_of : Text → Text

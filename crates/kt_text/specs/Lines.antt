@@ -63,9 +63,10 @@ nul_line text =
     else None
 
 -- a text cut after each newline; the last piece has none, and may be empty
-unfoldable pub pieces_of : Text → List Text
-pieces_of [] = [] ∷ []
-pieces_of (byte ∷ text) = if byte == 10 then (byte ∷ []) ∷ pieces_of text else onto_first byte (pieces_of text)
+unfoldable pub newline_pieces : Text → List Text
+newline_pieces [] = [] ∷ []
+newline_pieces (byte ∷ text) =
+    if byte == 10 then (byte ∷ []) ∷ newline_pieces text else onto_first byte (newline_pieces text)
 
 -- whether a physical line has a newline at its end
 unfoldable pub is_ended : Text → Bool
@@ -120,7 +121,7 @@ condensed_group (line ∷ next ∷ lines) = condensed_line false true line ++ co
 -- a text with its continuations condensed (GNU make manual, "Splitting Long Lines"); carriage returns before newlines
 -- go. A continuation at the end of the text is one too: an empty piece follows it (kati's own)
 unfoldable pub condensed_of : Text → Text
-condensed_of text = flat_map condensed_group (groups (pieces_of text))
+condensed_of text = flat_map condensed_group (groups (newline_pieces text))
 
 -- a line for which there is no mark: beyond the numbers of 32 bits, or it ends before its begin, or at it in spite of
 -- its tab

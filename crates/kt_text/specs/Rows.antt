@@ -7,15 +7,15 @@ use Rattle.kt_text.specs.Lines.{logical_lines_of, nul_line, condensed_of}
 use Rattle.kt_text.specs.Functions.{subst_of, patsubst_of, findstring_of, sort_of, word_of, wordlist_of, words_count_of}
 use Rattle.kt_text.specs.Functions.{dir_of, basename_of, join_of}
 
-abbrev pub line : ℕ → ℕ → ℕ → Line
-line start end number = record { span = record { start = start; end = end }; number = number; tab = false }
+abbrev pub line_between : ℕ → ℕ → ℕ → Line
+line_between start end number = record { span = record { start = start; end = end }; number = number; tab = false }
 
 -- words, patterns and lines
 pub record RowsOfLines : Type 0 where
   pub words : words_of (codes " a  bc ") ≡ codes "a" ∷ codes "bc" ∷ []
   pub stem : stem_span (codes "%.c") (codes ".c") ≡ Some (0, 0)
-  pub odd : logical_lines_of (97 ∷ 92 ∷ 10 ∷ 98 ∷ 10 ∷ 99 ∷ []) ≡ line 0 4 1 ∷ line 5 6 3 ∷ []
-  pub even : logical_lines_of (97 ∷ 92 ∷ 92 ∷ 10 ∷ 98 ∷ []) ≡ line 0 3 1 ∷ line 4 5 2 ∷ []
+  pub odd : logical_lines_of (97 ∷ 92 ∷ 10 ∷ 98 ∷ 10 ∷ 99 ∷ []) ≡ line_between 0 4 1 ∷ line_between 5 6 3 ∷ []
+  pub even : logical_lines_of (97 ∷ 92 ∷ 92 ∷ 10 ∷ 98 ∷ []) ≡ line_between 0 3 1 ∷ line_between 4 5 2 ∷ []
   pub nul : nul_line (97 ∷ 10 ∷ 0 ∷ []) ≡ Some 2
   pub condensed : condensed_of (codes "x " ++ (92 ∷ 10 ∷ 92 ∷ 10 ∷ codes "y")) ≡ codes "x y"
   pub continued_end : condensed_of (120 ∷ 92 ∷ 10 ∷ []) ≡ codes "x "

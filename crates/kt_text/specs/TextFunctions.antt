@@ -20,32 +20,32 @@ text_functions =
     ∷ Lastword ∷ Dir ∷ Notdir ∷ Suffix ∷ Basename ∷ Addsuffix ∷ Addprefix ∷ Join ∷ []
 
 -- the name of each, and the number of its arguments
-abbrev pub row_of : TextFunction → Text × ℕ
-row_of Subst = (codes "subst", 3)
-row_of Patsubst = (codes "patsubst", 3)
-row_of Strip = (codes "strip", 1)
-row_of Findstring = (codes "findstring", 2)
-row_of Filter = (codes "filter", 2)
-row_of FilterOut = (codes "filter-out", 2)
-row_of Sort = (codes "sort", 1)
-row_of Word = (codes "word", 2)
-row_of Wordlist = (codes "wordlist", 3)
-row_of Words = (codes "words", 1)
-row_of Firstword = (codes "firstword", 1)
-row_of Lastword = (codes "lastword", 1)
-row_of Dir = (codes "dir", 1)
-row_of Notdir = (codes "notdir", 1)
-row_of Suffix = (codes "suffix", 1)
-row_of Basename = (codes "basename", 1)
-row_of Addsuffix = (codes "addsuffix", 2)
-row_of Addprefix = (codes "addprefix", 2)
-row_of Join = (codes "join", 2)
+abbrev pub function_row : TextFunction → Text × ℕ
+function_row Subst = (codes "subst", 3)
+function_row Patsubst = (codes "patsubst", 3)
+function_row Strip = (codes "strip", 1)
+function_row Findstring = (codes "findstring", 2)
+function_row Filter = (codes "filter", 2)
+function_row FilterOut = (codes "filter-out", 2)
+function_row Sort = (codes "sort", 1)
+function_row Word = (codes "word", 2)
+function_row Wordlist = (codes "wordlist", 3)
+function_row Words = (codes "words", 1)
+function_row Firstword = (codes "firstword", 1)
+function_row Lastword = (codes "lastword", 1)
+function_row Dir = (codes "dir", 1)
+function_row Notdir = (codes "notdir", 1)
+function_row Suffix = (codes "suffix", 1)
+function_row Basename = (codes "basename", 1)
+function_row Addsuffix = (codes "addsuffix", 2)
+function_row Addprefix = (codes "addprefix", 2)
+function_row Join = (codes "join", 2)
 
 abbrev pub text_function_name : TextFunction → Text
-text_function_name function = (row_of function).0
+text_function_name function = (function_row function).0
 
 abbrev pub arity : TextFunction → ℕ
-arity function = (row_of function).1
+arity function = (function_row function).1
 
 abbrev pub has_name : Text → TextFunction → Bool
 has_name name function = bytes_eq name (text_function_name function)

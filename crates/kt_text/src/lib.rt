@@ -26,7 +26,7 @@ pub use cut::words;
 pub use fault::TextFault;
 pub use line::{Line, LineFault};
 pub use logical::{line_marks, logical_lines, nul_line};
-pub use mark::Mark;
+pub use mark::LineMark;
 pub use pattern::{has_percent, match_pattern, push_with_stem};
 pub use physical::{is_continued, line_content};
 pub use separators::{is_separator, stripped, stripped_start, trailing_separators};

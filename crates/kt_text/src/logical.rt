@@ -4,7 +4,7 @@ ghost use Rattle.std.specs.Prelude.{length};
 ghost use Rattle.kt_text.specs.Lines.{AreInOrder, NulFault, logical_lines_of, nul_line};
 
 use crate::line::{Line, LineFault};
-use crate::mark::Mark;
+use crate::mark::LineMark;
 use crate::physical::{LineEnd, first_line};
 use memchr::memchr;
 use std::alloc::{AllocError, Global};
@@ -24,7 +24,7 @@ pub fn logical_lines(alloc: Global, text: &[u8]) -> Result<Vec<Line>, LineFault>
 }
 
 // The lines of marks.
-fn lines_of(alloc: Global, marks: &[Mark]) -> Result<Vec<Line>, AllocError>
+fn lines_of(alloc: Global, marks: &[LineMark]) -> Result<Vec<Line>, AllocError>
     ensures { IfOk result (λ lines. lines.items ≡ marks.now) }
 {
     let mut lines = Vec::new(alloc);
@@ -35,7 +35,7 @@ fn lines_of(alloc: Global, marks: &[Mark]) -> Result<Vec<Line>, AllocError>
 }
 
 /// The same in less than half the room.
-pub fn line_marks(alloc: Global, text: &[u8]) -> Result<Vec<Mark>, LineFault>
+pub fn line_marks(alloc: Global, text: &[u8]) -> Result<Vec<LineMark>, LineFault>
     ensures ok { IfOk result (λ lines. lines.items ≡ logical_lines_of text.now) }
     ensures order { IfOk result (λ lines. AreInOrder (length text.now) lines.items) }
     ensures nul { MatchResult result (λ _. nul_line text.now ≡ None) (NulFault (nul_line text.now)) }
@@ -65,7 +65,7 @@ fn count_newlines(text: &[u8]) -> usize
 }
 
 // The logical lines of a text without NUL.
-fn cut_lines(alloc: Global, text: &[u8]) -> Result<Vec<Mark>, AllocError>
+fn cut_lines(alloc: Global, text: &[u8]) -> Result<Vec<LineMark>, AllocError>
     ensures { IfOk result (λ lines. lines.items ≡ logical_lines_of text.now) }
 {
     let mut lines = Vec::new(alloc);
@@ -91,7 +91,7 @@ fn cut_lines(alloc: Global, text: &[u8]) -> Result<Vec<Mark>, AllocError>
         let end = LineEnd::of(line);
         continued = end.goes_on(after);
         if !continued {
-            lines.push(Mark::of(&begin.ended(at + end.kept))?)?;
+            lines.push(LineMark::of(&begin.ended(at + end.kept))?)?;
         }
         at += line.len();
         number += 1;

@@ -9,14 +9,14 @@ use std::marker::Model;
 
 /// A logical line in three numbers of 32 bits; contracts see the line.
 #[derive(Debug, Drop)]
-pub struct Mark {
+pub struct LineMark {
     // Where the line begins and ends; the other way round where it begins with a tab, which is a byte of it at least.
     first: u32,
     second: u32,
     number: u32,
 }
 
-impl Model for Mark {
+impl Model for LineMark {
     ghost use Rattle.kt_text.specs.declared.line.Line.{Line};
     ghost use Rattle.kt_text.specs.inner.Marks.{marked_line};
 
@@ -25,10 +25,10 @@ impl Model for Mark {
     ghost view = { λ mark. marked_line mark.first mark.second mark.number };
 }
 
-impl Mark {
+impl LineMark {
     /// The mark of a line. One beyond the first 4,294,967,295 bytes or lines has none, as if memory were refused; nor
     /// has one that ends before its begin, or at it in spite of a tab.
-    pub fn of(line: &Line) -> Result<Mark, AllocError>
+    pub fn of(line: &Line) -> Result<LineMark, AllocError>
         ensures same { IfOk result (λ mark. mark ≡ line.now) }
         ensures none { OnErr result (HasNoMark line.now) }
     {
@@ -36,13 +36,13 @@ impl Mark {
         let end = narrow(line.span.end)?;
         let number = narrow(line.number as usize)?;
         if line.tab {
-            Mark::tabbed(start, end, number)
+            LineMark::tabbed(start, end, number)
         } else {
-            Mark::untabbed(start, end, number)
+            LineMark::untabbed(start, end, number)
         }
     }
 
-    fn tabbed(start: u32, end: u32, number: u32) -> Result<Mark, AllocError>
+    fn tabbed(start: u32, end: u32, number: u32) -> Result<LineMark, AllocError>
         ensures same { IfOk result (λ mark. mark ≡ record {
           span = record { start = start; end = end };
           number = number;
@@ -53,14 +53,14 @@ impl Mark {
         if start >= end {
             return Err(AllocError);
         }
-        Ok(Mark {
+        Ok(LineMark {
             first: end,
             second: start,
             number,
         })
     }
 
-    fn untabbed(start: u32, end: u32, number: u32) -> Result<Mark, AllocError>
+    fn untabbed(start: u32, end: u32, number: u32) -> Result<LineMark, AllocError>
         ensures same { IfOk result (λ mark. mark ≡ record {
           span = record { start = start; end = end };
           number = number;
@@ -71,7 +71,7 @@ impl Mark {
         if start > end {
             return Err(AllocError);
         }
-        Ok(Mark {
+        Ok(LineMark {
             first: start,
             second: end,
             number,

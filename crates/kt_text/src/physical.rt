@@ -3,7 +3,7 @@ ghost use Rattle.std.specs.Prelude.{◌≡◌, ◌<◌, ◌≤◌, ◌∷◌, �
 ghost use Rattle.std.specs.List.{suffix_len};
 ghost use Rattle.bstr.specs.Text.{line_len, lines_of, without_terminator};
 ghost use Rattle.kt_text.specs.Words.{is_nonempty};
-ghost use Rattle.kt_text.specs.Lines.{is_continued, is_continued_text, is_ended, kept_of_last, pieces_of};
+ghost use Rattle.kt_text.specs.Lines.{is_continued, is_continued_text, is_ended, kept_of_last, newline_pieces};
 
 use memchr::memchr;
 
@@ -14,8 +14,8 @@ pub(crate) fn first_line(text: &[u8]) -> (&[u8], &[u8])
     ensures cut { lines_of text.now ≡ result.0.now ∷ lines_of result.1.now }
     ensures whole { length result.0.now + length result.1.now ≡ length text.now }
     ensures some { 0 < length result.0.now }
-    ensures pieces { pieces_of text.now ≡ result.0.now ∷ (if is_ended result.0.now
-        then pieces_of result.1.now else []) }
+    ensures pieces { newline_pieces text.now ≡ result.0.now ∷ (if is_ended result.0.now
+        then newline_pieces result.1.now else []) }
     ensures last { is_ended result.0.now ≡ false → length result.1.now ≡ 0 }
 {
     text.split_at(line_size(text))

@@ -2,9 +2,10 @@
 use crate::sameness::same;
 use kt_text::functions::TextFunction;
 use kt_text::{
-    Line, LineFault, Mark, TextFault, condensed, front_number, functions, has_percent, is_blank,
-    is_continued, is_separator, joined, line_content, line_marks, logical_lines, match_pattern,
-    push_with_stem, stripped, stripped_start, trailing_separators, trim_end, trim_start, words,
+    Line, LineFault, LineMark, TextFault, condensed, front_number, functions, has_percent,
+    is_blank, is_continued, is_separator, joined, line_content, line_marks, logical_lines,
+    match_pattern, push_with_stem, stripped, stripped_start, trailing_separators, trim_end,
+    trim_start, words,
 };
 use std::process::Abort;
 use std::test::Fail;
@@ -173,14 +174,14 @@ fn marks_hold_lines(rt: HostRuntime) -> Result<(), Fail> {
         number: 4_294_967_295,
         tab: true,
     };
-    assert!(rt; Mark::of(&last)?.line() == last);
+    assert!(rt; LineMark::of(&last)?.line() == last);
     for (end, number) in [(4_294_967_296, 1), (1, 4_294_967_296)] {
         let beyond = Line {
             span: 0..end,
             number,
             tab: false,
         };
-        same(&rt, (number, end), Mark::of(&beyond).is_err(), true);
+        same(&rt, (number, end), LineMark::of(&beyond).is_err(), true);
     }
     Ok(())
 }

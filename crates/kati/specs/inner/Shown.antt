@@ -18,15 +18,15 @@ plan_view plan = record {
 
 -- ---- the names of a statement
 
-abbrev pub names_view : NameList → List Text
-names_view lists.Empty = []
-names_view lists.AlwaysBuild = always_build ∷ []
-names_view (lists.Members nodes) = outs_of nodes.now
-names_view (lists.Needs inputs) = inputs
-names_view (lists.Names names) = names.now
+abbrev pub name_list_view : NameList → List Text
+name_list_view lists.Empty = []
+name_list_view lists.AlwaysBuild = always_build ∷ []
+name_list_view (lists.Members nodes) = outs_of nodes.now
+name_list_view (lists.Needs inputs) = inputs
+name_list_view (lists.Names names) = names.now
 
 -- the statement of a part of the plan, if it has one
-abbrev pub part_view : PlanPart → Option Statement
-part_view parts.Missing = None
-part_view parts.Always = Some always_built
-part_view (parts.Group nodes sketch place) = Some (statement_drawn nodes.now (get_or sketch.now place no_drawn))
+abbrev pub plan_part_view : PlanPart → Option Statement
+plan_part_view parts.Missing = None
+plan_part_view parts.Always = Some always_built
+plan_part_view (parts.Group nodes sketch place) = Some (statement_drawn nodes.now (get_or sketch.now place no_drawn))

@@ -1,6 +1,6 @@
 -- What a step returns that stops (kati's own).
 use Rattle.std.specs.Prelude.{◌≡◌, List, None, Some}
-use Rattle.kati.specs.Prelude.{Text, Rule, fault_number, fault_words, ComesFirst, Trouble, Fault, fault_at}
+use Rattle.kati.specs.Prelude.{Text, Entry, fault_number, fault_words, ComesFirst, Trouble, Fault, fault_at}
 use Rattle.kt_graph.specs.declared.faults.fault.GraphFault.{GraphFault}
 use Rattle.kt_graph.specs.declared.faults.fault.GraphFault.TheVariants as graphs
 use Rattle.kt_eval.specs.declared.stop.Stop.{Stop}
@@ -18,7 +18,7 @@ IsStopOf graphs.Memory stop = stop ≡ stops.Memory
 IsStopOf (graphs.Refused number words) stop = stop ≡ stops.Fault (fault_at None number words)
 
 -- the first thing that is wrong with a graph, as a fault at no line, or out of memory
-abbrev pub IsFirstStop : List Rule → List Text → List Text → Stop → Type 0
+abbrev pub IsFirstStop : List Entry → List Text → List Text → Stop → Type 0
 IsFirstStop rules known goals (stops.Fault fault) =
     (trouble : Trouble) × ComesFirst rules known goals (Some trouble)
     × (fault ≡ fault_at None (fault_number trouble) (fault_words trouble))

@@ -1,27 +1,27 @@
 -- The code's own types as those of the definitions (kati's own).
-use Rattle.kati.specs.Prelude.{ℕ, Bool, true, false, List, Obstacle, bad_name, bad_command, Text, Plan, Store, Read}
-use Rattle.kati.specs.Prelude.{Trace, read_of, Outcome, Args, known_names}
-use Rattle.kati.specs.Meaning.{Means, MeansGoals, Wanted, meaning_of}
-use Rattle.kt_eval.specs.declared.macros.scope.Makefile.{Makefile}
-use Rattle.kati.specs.declared.translating.Found.{Found}
+use Rattle.kati.specs.Prelude.{ℕ, Bool, true, false, List, Obstacle, bad_name, bad_command, Text, Plan, Store, Makefile}
+use Rattle.kati.specs.Prelude.{Trace, read_of, StepEnd, Args, known_names}
+use Rattle.kati.specs.Meaning.{Means, MeansGoals, WantedGoals, meaning_of}
+use Rattle.kt_eval.specs.declared.macros.scope.Makefile.{Makefile as HeldMakefile}
+use Rattle.kati.specs.declared.translating.ReadSources.{ReadSources}
 
-abbrev pub read_view : Makefile → Read
+abbrev pub read_view : HeldMakefile → Makefile
 read_view makefile = read_of makefile.macros makefile.book
 
 -- the goals with the makefile that was read, given the list of files that exist
-abbrev pub found_view : Found → List Text → Wanted
-found_view found goals = record {
+abbrev pub goals_view : ReadSources → List Text → WantedGoals
+goals_view found goals = record {
   read = read_view found.makefile;
   known = known_names found.makefile.book found.list.items;
   goals = goals;
 }
 
 -- an end that is a meaning of goals, after what was left before them
-abbrev pub GoalsEnd : ℕ → Wanted → Trace → Outcome Trace Plan → Type 0
+abbrev pub GoalsEnd : ℕ → WantedGoals → Trace → StepEnd Trace Plan → Type 0
 GoalsEnd limit want trace end = MeansGoals limit want trace (meaning_of end)
 
 -- an end that is a meaning of the whole, after these names were asked for
-abbrev pub EndMeans : Args → Store → List Text → Outcome Trace Plan → Type 0
+abbrev pub EndMeans : Args → Store → List Text → StepEnd Trace Plan → Type 0
 EndMeans args store asked end = Means args store asked (meaning_of end)
 
 -- whether a name or a command can't be written

@@ -1,10 +1,10 @@
 -- Messages and names so far, if something fails: they are a prefix of those of the whole step.
 use Rattle.std.proofs.Common.{◌≡◌, ℕ, suc, ◌+◌, ◌<◌, ◌==◌, ◌||◌, Bool, true, cond, false, List, [], ◌∷◌, ◌++◌, length, map, drop, get_or, drop-cons, Some, codes, refl, sym, ap, subst, ◌∙◌, arith, Bor}
-use Rattle.kt_eval.proofs.Common.{slice_get, Text, words_of, stripped, Items, Branches, definition, conditional, no_branch, branch, late, tree_of, Kind, line_kind, left_at, AreTried, Stop, Store, World, bind, unbind, Loop, Outcome, Gave, Stopped, Fails, IfCutBy, then_do, left_of, Step, trail, GoesOn, is_function_name, expanded, each_argument, apply_or, apply_and, apply_eval, apply_foreach, call_by_name, each_word, evaluator, Sheet, at_line, line_at, body_at, branch_holds, late_else, read_bytes, read_define, read_first, read_items, read_branches, read_or, read_sheet}
-use Rattle.kt_syntax.specs.declared.step.Step.{Step as Found}
-use Rattle.kt_syntax.specs.declared.step.Step.TheVariants as step
+use Rattle.kt_eval.proofs.Common.{slice_get, Text, words_of, stripped, Items, Branches, definition, conditional, no_branch, branch, late, tree_of, Form, line_form, left_at, AreTried, Stop, Store, World, bind, unbind, Loop, StepEnd, Gave, Stopped, Fails, IfCutBy, then_do, left_of, Step, trail, GoesOn, is_function_name, expanded, each_argument, apply_or, apply_and, apply_eval, apply_foreach, call_by_name, each_word, evaluator, Page, at_line, line_at, body_at, branch_holds, late_else, read_bytes, read_define, read_first, read_items, read_branches, read_or, read_sheet}
+use Rattle.kt_syntax.specs.declared.step.BlockStep.{BlockStep as Found}
+use Rattle.kt_syntax.specs.declared.step.BlockStep.TheVariants as step
 use Rattle.kt_eval.specs.declared.stop.Stop.TheVariants as stops
-use Rattle.kt_eval.specs.reading.Conditions.{Compared}
+use Rattle.kt_eval.specs.reading.Conditions.{ComparedTexts}
 use Rattle.kt_eval.specs.reading.Conditionals.{are_equal}
 use Rattle.kt_eval.specs.reading.Rules.{close_rule}
 use Rattle.kt_eval.proofs.LevelLemmas.{evaluator_reads}
@@ -14,7 +14,7 @@ use Rattle.kt_eval.proofs.lemmas.GrowingReads.{after_first_related, after_branch
 use Rattle.kt_eval.proofs.lemmas.StepLemmas.{called_front, grown_front, expand_front, eval_front, each_word_front, expanded_front, each_argument_front, apply_or_front, apply_and_front, read_items_front, close_rule_front, read_end_front}
 
 -- a call that was stopped ended as a step does, or was cut before its end
-abbrev pub Early : {A : Type 0} → Stop → World → Outcome World A → Type 0
+abbrev pub Early : {A : Type 0} → Stop → World → StepEnd World A → Type 0
 Early stop w o = Fails stop w o × IfCutBy stop (GoesOn w (left_of o))
 
 pub stands : (w : World) → GoesOn w w
@@ -24,12 +24,12 @@ goes_further : (u v w : World) → GoesOn u v → GoesOn v w → GoesOn u w
 goes_further u v w p q = (λ of. (front_next (trail of u) (trail of v) (trail of w) (p.0 of, p.1 of) (q.0 of, q.1 of)).0, λ of. (front_next (trail of u) (trail of v) (trail of w) (p.0 of, p.1 of) (q.0 of, q.1 of)).1)
 
 -- what is before the end of a step is before that of a longer one
-early_then : {A B : Type 0} (v : World) (o : Outcome World A) (f : A → Step B) → ((x : A) (w : World) → GoesOn w (left_of (f x w))) → GoesOn v (left_of o) → GoesOn v (left_of (then_do o f))
+early_then : {A B : Type 0} (v : World) (o : StepEnd World A) (f : A → Step B) → ((x : A) (w : World) → GoesOn w (left_of (f x w))) → GoesOn v (left_of o) → GoesOn v (left_of (then_do o f))
 early_then v (Gave w x) f more h = goes_further v w (left_of (f x w)) h (more x w)
 early_then v (Stopped w x) f more h = h
 
 -- a step that stops, or is cut, in its first part
-pub fails_then : {A B : Type 0} (stop : Stop) (w : World) (o : Outcome World A) (f : A → Step B) → ((x : A) (v : World) → GoesOn v (left_of (f x v))) → Early stop w o → Early stop w (then_do o f)
+pub fails_then : {A B : Type 0} (stop : Stop) (w : World) (o : StepEnd World A) (f : A → Step B) → ((x : A) (v : World) → GoesOn v (left_of (f x v))) → Early stop w o → Early stop w (then_do o f)
 fails_then (stops.Fault fault) w o f more h = (rw h.0 refl, tt)
 fails_then (stops.Device name) w o f more h = (tt, early_then w o f more h.1)
 fails_then stops.Memory w o f more h = (tt, early_then w o f more h.1)
@@ -71,7 +71,7 @@ module _ (reads : Bool) (store : Store) (levels : ℕ) where
       (fails_then stop v ((evaluator reads store levels).expand body (bind (Loop name word) w)) _
       (λ x u. each_word_front reads store levels name body (out ++ (separator ++ x)) (codes " ") rest (unbind u)) held)
 
-  pub equal_fails : (stop : Stop) (w v : World) (compared : Compared)
+  pub equal_fails : (stop : Stop) (w v : World) (compared : ComparedTexts)
       → Early stop v (expanded (evaluator reads store levels) compared.first w) → Early stop v (are_equal (evaluator reads store levels) (Some compared) w)
   unfolding are_equal
   equal_fails stop w v compared h =
@@ -135,7 +135,7 @@ module _ (reads : Bool) (store : Store) (levels : ℕ) where
   argument_at_front w v out texts place d x within h =
       rw (texts_left texts place d within, h) (each_argument_front reads store levels (out ++ x ∷ []) (map (λ a. a.now) (drop (suc place) texts)) v)
 
-module _ (reads : Bool) (store : Store) (levels : ℕ) (sheet : Sheet) where
+module _ (reads : Bool) (store : Store) (levels : ℕ) (sheet : Page) where
   pub sheet_fails : (stop : Stop) (w v : World) → Early stop v (read_items (evaluator reads store levels) sheet (tree_of sheet.blocks.steps) w)
       → Early stop v (read_sheet (evaluator reads store levels) sheet w)
   unfolding read_sheet
@@ -150,8 +150,8 @@ module _ (reads : Bool) (store : Store) (levels : ℕ) (sheet : Sheet) where
   close_fails stop w u v x is h =
       rw is (fails_then stop v (close_rule u) _ (λ _ t. read_end_front sheet.source sheet.blocks.missing t) h)
 
-  pub definition_fails : (stop : Stop) (w v : World) (items next : Items) (place end : ℕ) (kind : Kind) (body : Text) → items ≡ definition place end next
-      → kind ≡ line_kind (line_at sheet.lines place).text false → body ≡ body_at sheet (place + 1) end
+  pub definition_fails : (stop : Stop) (w v : World) (items next : Items) (place end : ℕ) (kind : Form) (body : Text) → items ≡ definition place end next
+      → kind ≡ line_form (line_at sheet.lines place).text false → body ≡ body_at sheet (place + 1) end
       → Early stop v (read_define (evaluator reads store levels) kind body (at_line sheet place w))
       → Early stop v (read_items (evaluator reads store levels) sheet items w)
   unfolding read_items
@@ -160,8 +160,8 @@ module _ (reads : Bool) (store : Store) (levels : ℕ) (sheet : Sheet) where
       (fails_then stop v (read_define (evaluator reads store levels) kind body (at_line sheet place w)) _
       (λ _ u. read_items_front reads store levels sheet next u) h)
 
-  pub definition_taken : (w v : World) (items next : Items) (place end : ℕ) (kind : Kind) (body : Text) → items ≡ definition place end next
-      → kind ≡ line_kind (line_at sheet.lines place).text false → body ≡ body_at sheet (place + 1) end
+  pub definition_taken : (w v : World) (items next : Items) (place end : ℕ) (kind : Form) (body : Text) → items ≡ definition place end next
+      → kind ≡ line_form (line_at sheet.lines place).text false → body ≡ body_at sheet (place + 1) end
       → read_define (evaluator reads store levels) kind body (at_line sheet place w) ≡ Gave v tt
       → read_items (evaluator reads store levels) sheet items w ≡ read_items (evaluator reads store levels) sheet next v
   unfolding read_items
@@ -180,7 +180,7 @@ module _ (reads : Bool) (store : Store) (levels : ℕ) (sheet : Sheet) where
       (after_first_related (evaluator reads store levels) (evaluator reads store (suc levels)) (one_more_level reads store levels) sheet chosen first others next u).0)
       h)
 
-  module _ (steps : List Found) (at after : ℕ) (w : World) (whole : Outcome World (Unit {0})) (condition : Bool) (next more : ℕ) (stop : Stop) (v : World) where
+  module _ (steps : List Found) (at after : ℕ) (w : World) (whole : StepEnd World (Unit {0})) (condition : Bool) (next more : ℕ) (stop : Stop) (v : World) where
     fails_in : (others : Branches) → AreTried steps others at after
         → whole ≡ then_do (read_branches (evaluator reads store levels) sheet others w) (λ _. read_items (evaluator reads store levels) sheet (left_at steps after))
         → at < after → slice_get steps at ≡ Some (step.Branch condition next more)

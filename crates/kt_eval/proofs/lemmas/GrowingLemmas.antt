@@ -1,7 +1,7 @@
 -- What is read or expanded with a given number of levels left, beside the same with one more: messages and names asked
 -- for are only added to, and the two are the same, unless the first is too deep.
 use Rattle.std.proofs.Common.{◌≡◌, ◌≤◌, ◌+◌, ◌==◌, ◌||◌, Bool, true, false, cond, List, [], ◌∷◌, ◌++◌, length, Option, Some, None, codes, ◌⊎◌, inl, inr, refl, ap, subst, ◌∙◌, arith, length-append}
-use Rattle.kt_eval.proofs.Common.{list_any, take-append-le, Text, words_of, stripped, patsubst_of, Operator, Kind, blank, assignment, directive, refused, rule, Token, literal, dollar, reference, unclosed, terms_of, plain_of, Function, Flavour, Deferred, Immediate, Found, Loop, Call, Assigning, keeps, defers, expands, escapes, assigning, find, IsPrefix, World, lookup, bind, unbind, say, Outcome, Gave, Stopped, then_do, left_of, Step, Asked, calls, refuses, refers, asked_by, Naming, plainly, substituting, naming_of, is_function_name, arity, text_function_name, Evaluator, flavoured, value_of, each_argument, accepted, apply_text, apply_if, apply_or, apply_and, each_word, apply_foreach, called, call_by_name, apply_call, apply_value, apply_eval, apply_error, apply_warning, apply_info, apply_other, apply, body_of, value_named, referred, term_of, each_term, expanded}
+use Rattle.kt_eval.proofs.Common.{list_any, take-append-le, Text, words_of, stripped, patsubst_of, Operator, Form, blank, assignment, directive, refused, rule, Term, literal, dollar, reference, unclosed, terms_of, plain_of, Function, Flavour, Deferred, Immediate, FoundValue, Loop, Call, Assigning, keeps, defers, expands, escapes, assigning, find, IsPrefix, World, lookup, bind, unbind, say, StepEnd, Gave, Stopped, then_do, left_of, Step, Request, calls, refuses, refers, request_by_mark, Naming, plainly, substituting, naming_of, is_function_name, arity, text_function_name, Evaluator, flavoured, value_of, each_argument, accepted, apply_text, apply_if, apply_or, apply_and, each_word, apply_foreach, called, call_by_name, apply_call, apply_value, apply_eval, apply_error, apply_warning, apply_info, apply_other, apply, body_of, value_named, referred, term_of, each_term, expanded}
 use Rattle.kt_syntax.specs.declared.form.Operator.TheVariants as operator
 use Rattle.kt_eval.specs.declared.expanding.function.Function.TheVariants as function
 use Rattle.kt_text.specs.declared.functions.text_function.TextFunction.{TextFunction}
@@ -9,7 +9,7 @@ use Rattle.kt_eval.specs.expanding.TextFunctions.{text_result}
 use Rattle.kt_eval.specs.reading.Conditions.{trimmed}
 use Rattle.kt_eval.specs.macros.Assignments.{assign, is_bad_name, assign_named, assign_line, define}
 use Rattle.kt_eval.specs.Growing.{Grows, IsTooDeep}
-use Rattle.kt_eval.specs.inner.Plain.{appended}
+use Rattle.kt_eval.specs.inner.Plain.{with_term}
 
 pub front_same : {A : Type 0} (xs : List A) → IsPrefix xs xs
 front_same xs = (omega arith, λ count le. refl)
@@ -31,32 +31,32 @@ says : (message : Text) (w : World) → Grows w (say message w)
 says message w = (front_more w.said (message ∷ []), front_same w.asked)
 
 -- the first is too deep, or it is the second
-abbrev pub Agree : {A : Type 0} → Outcome World A → Outcome World A → Type 0
+abbrev pub Agree : {A : Type 0} → StepEnd World A → StepEnd World A → Type 0
 Agree o o' = IsTooDeep o ⊎ (o ≡ o')
 
 -- both, from a world on
-abbrev pub Relates : {A : Type 0} → World → Outcome World A → Outcome World A → Type 0
+abbrev pub Relates : {A : Type 0} → World → StepEnd World A → StepEnd World A → Type 0
 Relates w o o' = Grows w (left_of o) × Agree o o'
 
 -- a step without a level
-pub plain_step : {A : Type 0} (w : World) (o : Outcome World A) → Grows w (left_of o) → Relates w o o
+pub plain_step : {A : Type 0} (w : World) (o : StepEnd World A) → Grows w (left_of o) → Relates w o o
 plain_step w o g = (g, inr refl)
 
-deep_then : {A B : Type 0} (o : Outcome World A) (f : A → Step B) → IsTooDeep o → IsTooDeep (then_do o f)
+deep_then : {A B : Type 0} (o : StepEnd World A) (f : A → Step B) → IsTooDeep o → IsTooDeep (then_do o f)
 deep_then (Gave w x) f h = absurd h
 deep_then (Stopped w x) f h = h
 
-deep_grows : {A B : Type 0} (w : World) (o : Outcome World A) (f : A → Step B) → IsTooDeep o → Grows w (left_of o) → Grows w (left_of (then_do o f))
+deep_grows : {A B : Type 0} (w : World) (o : StepEnd World A) (f : A → Step B) → IsTooDeep o → Grows w (left_of o) → Grows w (left_of (then_do o f))
 deep_grows w (Gave v x) f h g = absurd h
 deep_grows w (Stopped v x) f h g = g
 
-pub related_then : {A B : Type 0} (w : World) (o o' : Outcome World A) (f f' : A → Step B) → Relates w o o' → ((x : A) (v : World) → Relates v (f x v) (f' x v)) → Relates w (then_do o f) (then_do o' f')
+pub related_then : {A B : Type 0} (w : World) (o o' : StepEnd World A) (f f' : A → Step B) → Relates w o o' → ((x : A) (v : World) → Relates v (f x v) (f' x v)) → Relates w (then_do o f) (then_do o' f')
 related_then w o o' f f' (g, inl h) k = (deep_grows w o f h g, inl (deep_then o f h))
-related_then w (Gave v x) o' f f' (g, inr e) k = subst (λ (p : Outcome World _). Relates w (f x v) (then_do p f')) e (further w v (left_of (f x v)) g (k x v).0, (k x v).1)
-related_then w (Stopped v x) o' f f' (g, inr e) k = (g, inr (ap (λ (p : Outcome World _). then_do p f') e))
+related_then w (Gave v x) o' f f' (g, inr e) k = subst (λ (p : StepEnd World _). Relates w (f x v) (then_do p f')) e (further w v (left_of (f x v)) g (k x v).0, (k x v).1)
+related_then w (Stopped v x) o' f f' (g, inr e) k = (g, inr (ap (λ (p : StepEnd World _). then_do p f') e))
 
 -- after a change of the world
-pub related_after : {A : Type 0} (w v : World) (o o' : Outcome World A) → Grows w v → Relates v o o' → Relates w o o'
+pub related_after : {A : Type 0} (w v : World) (o o' : StepEnd World A) → Grows w v → Relates v o o' → Relates w o o'
 related_after w v o o' g r = (further w v (left_of o) g r.0, r.1)
 
 pub related_cond : {A : Type 0} (b : Bool) (s t s' t' : Step A) (w : World) → Relates w (s w) (s' w) → Relates w (t w) (t' w) → Relates w (cond b s t w) (cond b s' t' w)
@@ -79,7 +79,7 @@ module _ (e e' : Evaluator) (h : Related e e') where
   flavoured_related Deferred value w = h.expand value w
   flavoured_related Immediate value w = plain_step w _ (still w)
 
-  pub value_of_related : (found : Option Found) (w : World) → Relates w (value_of e found w) (value_of e' found w)
+  pub value_of_related : (found : Option FoundValue) (w : World) → Relates w (value_of e found w) (value_of e' found w)
   unfolding value_of
   value_of_related None w = plain_step w _ (still w)
   value_of_related (Some found) w = flavoured_related found.flavour found.value w
@@ -246,25 +246,25 @@ module _ (e e' : Evaluator) (h : Related e e') where
       related_then w (value_of e (lookup name w) w) (value_of e' (lookup name w) w) _ _ (value_of_related (lookup name w) w)
       (λ value v. accepted_related (codes "patsubst") (patsubst_of pattern replacement value) v)
 
-  pub referred_related : (asked : Asked) (w : World) → Relates w (referred e asked w) (referred e' asked w)
+  pub referred_related : (asked : Request) (w : World) → Relates w (referred e asked w) (referred e' asked w)
   unfolding referred
   referred_related (calls f arguments) w = apply_related f arguments w
   referred_related (refuses name) w = plain_step w _ (still w)
   referred_related (refers body) w = related_then w (body_of e body w) (body_of e' body w) _ _ (body_of_related body w) (λ x v. value_named_related (naming_of x) v)
 
-  pub term_of_related : (piece : Token) (w : World) → Relates w (term_of e piece w) (term_of e' piece w)
+  pub term_of_related : (piece : Term) (w : World) → Relates w (term_of e piece w) (term_of e' piece w)
   unfolding term_of
   term_of_related (literal bytes) w = plain_step w _ (still w)
   term_of_related dollar w = plain_step w _ (still w)
-  term_of_related (reference mark body) w = referred_related (asked_by mark body) w
+  term_of_related (reference mark body) w = referred_related (request_by_mark mark body) w
   term_of_related unclosed w = plain_step w _ (still w)
 
-  pub appended_related : (out : Text) (piece : Token) (w : World) → Relates w (appended e out piece w) (appended e' out piece w)
-  unfolding appended
+  pub appended_related : (out : Text) (piece : Term) (w : World) → Relates w (with_term e out piece w) (with_term e' out piece w)
+  unfolding with_term
   appended_related out piece w =
       related_then w (term_of e piece w) (term_of e' piece w) _ _ (term_of_related piece w) (λ x v. plain_step v _ (still v))
 
-  pub each_term_related : (out : Text) (pieces : List Token) (w : World) → Relates w (each_term e out pieces w) (each_term e' out pieces w)
+  pub each_term_related : (out : Text) (pieces : List Term) (w : World) → Relates w (each_term e out pieces w) (each_term e' out pieces w)
   unfolding each_term
   each_term_related out [] w = plain_step w _ (still w)
   each_term_related out (piece ∷ pieces) w =
@@ -300,7 +300,7 @@ module _ (e e' : Evaluator) (h : Related e e') where
   assign_line_related name operator.Append text w = assign_expanded_related name operator.Append text w
   assign_line_related name operator.Shell text w = plain_step w _ (still w)
 
-  pub define_related : (rest : Text) (kind : Kind) (body : Text) (w : World) → Relates w (define e rest kind body w) (define e' rest kind body w)
+  pub define_related : (rest : Text) (kind : Form) (body : Text) (w : World) → Relates w (define e rest kind body w) (define e' rest kind body w)
   unfolding define
   define_related rest (assignment name o text) body w = assign_line_related (plain_of name) o body w
   define_related rest blank body w = assign_line_related (trimmed (plain_of rest)) operator.Deferred body w

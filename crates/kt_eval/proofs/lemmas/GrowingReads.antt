@@ -1,7 +1,7 @@
 -- Reading with a given number of levels left, beside the same with one more, like the lemmas of GrowingLemmas on
 -- expanding; and one more level.
 use Rattle.std.proofs.Common.{arith, ◌≡◌, ℕ, zero, suc, ◌+◌, Bool, true, false, cond, nat_lt, List, [], ◌∷◌, length, Option, Some, None, Result, Ok, Err, option_map, inl, inr, refl, sym}
-use Rattle.kt_eval.proofs.Common.{is_utf8, Text, words_of, nul_line, Directive, Missing, Kind, blank, assignment, directive, refused, rule, kind_of, line_kind, Items, Branches, none, line, fault, definition, conditional, no_branch, branch, late, tree_of, plain_of, RuleTexts, line_parts, recipe_of, Rule, rule_of, Function, Source, File, Held, Store, World, set_rule, Outcome, then_do, left_of, Step, stop, Evaluator, too_deep, apply, expanded, Raw, line_at, Sheet, sheet_of, at_number, at_line, read_include, read_kind, read_bare_tab, read_tab_in, read_tab, read_line, body_at, read_define, read_stray, late_else, branch_holds, read_items, read_branches, read_end, read_sheet, read_without_nul, read_text, read_held, largest_file, read_file, read_included, read_bytes, included, read_or, read_first, above, none_left, evaluator}
+use Rattle.kt_eval.proofs.Common.{is_utf8, Text, words_of, nul_line, Directive, Missing, Form, blank, assignment, directive, refused, rule, form_of, line_form, Items, Branches, none, line, fault, definition, conditional, no_branch, branch, late, tree_of, plain_of, RuleParts, line_parts, recipe_of, Entry, rule_of, Function, Source, File, Held, Store, World, set_rule, StepEnd, then_do, left_of, Step, stop, Evaluator, too_deep, apply, expanded, RawLine, line_at, Page, sheet_of, at_number, at_line, read_include, read_kind, read_bare_tab, read_tab_in, read_tab, read_line, body_at, read_define, read_stray, late_else, branch_holds, read_items, read_branches, read_end, read_sheet, read_without_nul, read_text, read_held, largest_file, read_file, read_included, read_bytes, included, read_or, read_first, above, none_left, evaluator}
 use Rattle.kt_syntax.specs.declared.form.Directive.TheVariants as word
 use Rattle.kt_syntax.specs.declared.part.Missing.TheVariants as missing
 use Rattle.kt_syntax.specs.declared.part.Stray.{Stray}
@@ -9,9 +9,9 @@ use Rattle.kt_syntax.specs.declared.part.Stray.TheVariants as stray
 use Rattle.kt_rules.specs.declared.fault_kind.FaultKind.TheVariants as kinds
 use Rattle.kt_rules.specs.Refusals.{Fault as RuleFault}
 use Rattle.kt_rules.specs.Book.{added, refusal_of}
-use Rattle.kt_eval.specs.reading.Conditions.{Compared, compared_of}
+use Rattle.kt_eval.specs.reading.Conditions.{ComparedTexts, compared_of}
 use Rattle.kt_eval.specs.reading.Conditionals.{is_set, is_defined, are_equal, holds, word_before_blank, text_after_word, worded_holds, text_holds, else_holds, line_holds}
-use Rattle.kt_eval.specs.files.Including.{is_pattern, include_named, each_include, include_line}
+use Rattle.kt_eval.specs.files.Including.{is_shell_pattern, include_named, each_include, include_line}
 use Rattle.kt_eval.specs.reading.Rules.{rule_place, entered, enter_rule, close, close_rule, opened, open_rule, rule_of_parts, rule_line, recipe_line}
 use Rattle.kt_eval.specs.Growing.{Grows, TakesNothingBack, IsTooDeep, StaysOneDeeper}
 use Rattle.kt_eval.proofs.lemmas.GrowingLemmas.{front_same, front_more, still, further, Agree, Relates, plain_step, related_then, related_after, related_cond, Related, apply_related, expanded_related, assign_line_related, define_related}
@@ -29,7 +29,7 @@ module _ (e e' : Evaluator) (h : Related e e') where
   is_defined_related text w =
       related_then w (expanded e text w) (expanded e' text w) _ _ (expanded_related e e' h text w) (λ x v. plain_step v _ (is_set_grows (words_of x) v))
 
-  pub are_equal_related : (compared : Option Compared) (w : World) → Relates w (are_equal e compared w) (are_equal e' compared w)
+  pub are_equal_related : (compared : Option ComparedTexts) (w : World) → Relates w (are_equal e compared w) (are_equal e' compared w)
   unfolding are_equal
   are_equal_related None w = plain_step w _ (still w)
   are_equal_related (Some compared) w =
@@ -52,7 +52,7 @@ module _ (e e' : Evaluator) (h : Related e e') where
   holds_related word.Include text w = plain_step w _ (still w)
   holds_related word.OptionalInclude text w = plain_step w _ (still w)
 
-  pub worded_holds_related : (kind : Kind) (text : Text) (w : World) → Relates w (worded_holds e kind text w) (worded_holds e' kind text w)
+  pub worded_holds_related : (kind : Form) (text : Text) (w : World) → Relates w (worded_holds e kind text w) (worded_holds e' kind text w)
   worded_holds_related (directive kind rest) text w = holds_related kind text w
   worded_holds_related blank text w = plain_step w _ (still w)
   worded_holds_related (assignment name o value) text w = plain_step w _ (still w)
@@ -61,14 +61,14 @@ module _ (e e' : Evaluator) (h : Related e e') where
 
   pub text_holds_related : (text : Text) (w : World) → Relates w (text_holds e text w) (text_holds e' text w)
   unfolding text_holds
-  text_holds_related text w = worded_holds_related (kind_of (word_before_blank text) false) (text_after_word text) w
+  text_holds_related text w = worded_holds_related (form_of (word_before_blank text) false) (text_after_word text) w
 
   pub else_holds_related : (condition : Bool) (rest : Text) (w : World) → Relates w (else_holds e condition rest w) (else_holds e' condition rest w)
   unfolding else_holds
   else_holds_related false rest w = plain_step w _ (still w)
   else_holds_related true rest w = text_holds_related (plain_of rest) w
 
-  pub line_holds_related : (condition : Bool) (kind : Kind) (w : World) → Relates w (line_holds e condition kind w) (line_holds e' condition kind w)
+  pub line_holds_related : (condition : Bool) (kind : Form) (w : World) → Relates w (line_holds e condition kind w) (line_holds e' condition kind w)
   unfolding line_holds
   line_holds_related condition (directive word.Else rest) w = else_holds_related condition rest w
   line_holds_related condition (directive word.Ifdef rest) w = holds_related word.Ifdef (plain_of rest) w
@@ -90,7 +90,7 @@ module _ (e e' : Evaluator) (h : Related e e') where
   unfolding include_named
   include_named_related optional name w =
       related_cond (is_utf8 name) _ _ _ _ w
-      (related_cond (is_pattern name) _ _ _ _ w (plain_step w _ (still w)) (h.include optional name w))
+      (related_cond (is_shell_pattern name) _ _ _ _ w (plain_step w _ (still w)) (h.include optional name w))
       (plain_step w _ (still w))
 
   pub each_include_related : (optional : Bool) (names : List Text) (w : World) → Relates w (each_include e optional names w) (each_include e' optional names w)
@@ -105,15 +105,15 @@ module _ (e e' : Evaluator) (h : Related e e') where
       related_then w (expanded e text w) (expanded e' text w) _ _ (expanded_related e e' h text w) (λ x v. each_include_related optional (words_of x) v)
 
   -- rules
-  pub entered_grows : (entry : Rule) (answer : Result (List Text) RuleFault) (w : World) → Grows w (left_of (entered entry answer w))
+  pub entered_grows : (entry : Entry) (answer : Result (List Text) RuleFault) (w : World) → Grows w (left_of (entered entry answer w))
   entered_grows entry (Ok messages) w = (front_more w.said messages, front_same w.asked)
   entered_grows entry (Err x) w = still w
 
-  pub enter_rule_grows : (entry : Rule) (w : World) → Grows w (left_of (enter_rule entry w))
+  pub enter_rule_grows : (entry : Entry) (w : World) → Grows w (left_of (enter_rule entry w))
   unfolding enter_rule
   enter_rule_grows entry w = entered_grows entry (added w.book entry (refusal_of w.book entry)) w
 
-  pub close_grows : (entry : Option Rule) (w : World) → Grows w (left_of (close entry w))
+  pub close_grows : (entry : Option Entry) (w : World) → Grows w (left_of (close entry w))
   close_grows None w = still w
   close_grows (Some entry) w = enter_rule_grows entry (set_rule None w)
 
@@ -121,7 +121,7 @@ module _ (e e' : Evaluator) (h : Related e e') where
   unfolding close_rule
   close_rule_grows w = close_grows w.rule w
 
-  pub opened_grows : (answer : Result Rule RuleFault) (w : World) → Grows w (left_of (opened answer w))
+  pub opened_grows : (answer : Result Entry RuleFault) (w : World) → Grows w (left_of (opened answer w))
   opened_grows (Ok entry) w = still w
   opened_grows (Err x) w = still w
 
@@ -129,7 +129,7 @@ module _ (e e' : Evaluator) (h : Related e e') where
   unfolding open_rule
   open_rule_grows recipe head w = opened_grows (rule_of head recipe (rule_place w.place)) w
 
-  pub rule_of_parts_related : (parts : Option RuleTexts) (w : World) → Relates w (rule_of_parts e parts w) (rule_of_parts e' parts w)
+  pub rule_of_parts_related : (parts : Option RuleParts) (w : World) → Relates w (rule_of_parts e parts w) (rule_of_parts e' parts w)
   unfolding rule_of_parts
   rule_of_parts_related None w = plain_step w _ (still w)
   rule_of_parts_related (Some parts) w =
@@ -140,7 +140,7 @@ module _ (e e' : Evaluator) (h : Related e e') where
   unfolding rule_line
   rule_line_related text w = rule_of_parts_related (line_parts text) w
 
-  pub recipe_line_grows : (entry : Rule) (text : Text) (w : World) → Grows w (left_of (recipe_line entry text w))
+  pub recipe_line_grows : (entry : Entry) (text : Text) (w : World) → Grows w (left_of (recipe_line entry text w))
   unfolding recipe_line
   recipe_line_grows entry text w = still w
 
@@ -171,7 +171,7 @@ module _ (e e' : Evaluator) (h : Related e e') where
   directive_related text word.Define rest w = plain_step w _ (still w)
   directive_related text word.Endef rest w = plain_step w _ (still w)
 
-  pub read_kind_related : (text : Text) (kind : Kind) (w : World) → Relates w (read_kind e text kind w) (read_kind e' text kind w)
+  pub read_kind_related : (text : Text) (kind : Form) (w : World) → Relates w (read_kind e text kind w) (read_kind e' text kind w)
   unfolding read_kind
   read_kind_related text blank w = plain_step w _ (still w)
   read_kind_related text (assignment name o value) w = closing_related _ _ w (λ v. assign_line_related e e' h (plain_of name) o (plain_of value) v)
@@ -179,7 +179,7 @@ module _ (e e' : Evaluator) (h : Related e e') where
   read_kind_related text (refused form) w = plain_step w _ (still w)
   read_kind_related text rule w = closing_related _ _ w (λ v. rule_line_related text v)
 
-  pub read_bare_tab_related : (kind : Kind) (w : World) → Relates w (read_bare_tab e kind w) (read_bare_tab e' kind w)
+  pub read_bare_tab_related : (kind : Form) (w : World) → Relates w (read_bare_tab e kind w) (read_bare_tab e' kind w)
   unfolding read_bare_tab
   read_bare_tab_related blank w = plain_step w _ (still w)
   read_bare_tab_related (assignment name o value) w = assign_line_related e e' h (plain_of name) o (plain_of value) w
@@ -187,26 +187,26 @@ module _ (e e' : Evaluator) (h : Related e e') where
   read_bare_tab_related (refused form) w = plain_step w _ (still w)
   read_bare_tab_related rule w = plain_step w _ (still w)
 
-  pub read_tab_in_related : (text : Text) (entry : Option Rule) (w : World) → Relates w (read_tab_in e text entry w) (read_tab_in e' text entry w)
-  read_tab_in_related text None w = read_bare_tab_related (line_kind text true) w
+  pub read_tab_in_related : (text : Text) (entry : Option Entry) (w : World) → Relates w (read_tab_in e text entry w) (read_tab_in e' text entry w)
+  read_tab_in_related text None w = read_bare_tab_related (line_form text true) w
   read_tab_in_related text (Some entry) w = plain_step w _ (recipe_line_grows entry text w)
 
   pub read_tab_related : (text : Text) (w : World) → Relates w (read_tab e text w) (read_tab e' text w)
   unfolding read_tab
   read_tab_related text w = related_after w (set_rule None w) _ _ (still w) (read_tab_in_related text w.rule (set_rule None w))
 
-  pub read_line_related : (raw : Raw) (w : World) → Relates w (read_line e raw w) (read_line e' raw w)
+  pub read_line_related : (raw : RawLine) (w : World) → Relates w (read_line e raw w) (read_line e' raw w)
   unfolding read_line
   read_line_related raw w =
       tabbed_related raw.tab
     where
-      tabbed_related : (b : Bool) → Relates w (cond b (read_tab e raw.text w) (read_kind e raw.text (line_kind raw.text false) w)) (cond b (read_tab e' raw.text w) (read_kind e' raw.text (line_kind raw.text false) w))
+      tabbed_related : (b : Bool) → Relates w (cond b (read_tab e raw.text w) (read_kind e raw.text (line_form raw.text false) w)) (cond b (read_tab e' raw.text w) (read_kind e' raw.text (line_form raw.text false) w))
       tabbed_related true = read_tab_related raw.text w
-      tabbed_related false = read_kind_related raw.text (line_kind raw.text false) w
+      tabbed_related false = read_kind_related raw.text (line_form raw.text false) w
 
-  pub read_define_related : (kind : Kind) (body : Text) (w : World) → Relates w (read_define e kind body w) (read_define e' kind body w)
+  pub read_define_related : (kind : Form) (body : Text) (w : World) → Relates w (read_define e kind body w) (read_define e' kind body w)
   unfolding read_define
-  read_define_related (directive word.Define rest) body w = closing_related _ _ w (λ v. define_related e e' h rest (kind_of rest true) body v)
+  read_define_related (directive word.Define rest) body w = closing_related _ _ w (λ v. define_related e e' h rest (form_of rest true) body v)
   read_define_related (directive word.Ifdef rest) body w = plain_step w _ (still w)
   read_define_related (directive word.Ifndef rest) body w = plain_step w _ (still w)
   read_define_related (directive word.Ifeq rest) body w = plain_step w _ (still w)
@@ -228,7 +228,7 @@ module _ (e e' : Evaluator) (h : Related e e') where
   read_stray_grows stray.Endif w = still w
   read_stray_grows stray.Endef w = still w
 
-  module _ (sheet : Sheet) where
+  module _ (sheet : Page) where
     pub at_line_grows : (place : ℕ) (w : World) → Grows w (at_line sheet place w)
     at_line_grows place w = at_number_grows sheet.source (line_at sheet.lines place).number w
 
@@ -243,7 +243,7 @@ module _ (e e' : Evaluator) (h : Related e e') where
     unfolding branch_holds
     branch_holds_related place condition w =
         related_after w (at_line sheet place w) _ _ (at_line_grows place w)
-        (line_holds_related condition (line_kind (line_at sheet.lines place).text false) (at_line sheet place w))
+        (line_holds_related condition (line_form (line_at sheet.lines place).text false) (at_line sheet place w))
 
     mutual
       unfolding read_items
@@ -261,7 +261,7 @@ module _ (e e' : Evaluator) (h : Related e e') where
           (related_then v (read_stray kind v) (read_stray kind v) _ _ (plain_step v _ (read_stray_grows kind v)) (λ _ u. read_items_related next u))
       read_items_related (definition place body_end next) w =
           let v : World = at_line sheet place w in
-          let kind : Kind = line_kind (line_at sheet.lines place).text false in
+          let kind : Form = line_form (line_at sheet.lines place).text false in
           let body : Text = body_at sheet (place + 1) body_end in
           related_after w v _ _ (at_line_grows place w)
           (related_then v (read_define e kind body v) (read_define e' kind body v) _ _ (read_define_related kind body v) (λ _ u. read_items_related next u))
@@ -298,7 +298,7 @@ module _ (e e' : Evaluator) (h : Related e e') where
   read_end_grows source (Some (missing.Endef number)) w = at_number_grows source number w
 
   -- texts and files
-  pub read_sheet_related : (sheet : Sheet) (w : World) → Relates w (read_sheet e sheet w) (read_sheet e' sheet w)
+  pub read_sheet_related : (sheet : Page) (w : World) → Relates w (read_sheet e sheet w) (read_sheet e' sheet w)
   unfolding read_sheet
   read_sheet_related sheet w =
       let items : Items = tree_of sheet.blocks.steps in
@@ -365,7 +365,7 @@ module _ (e e' : Evaluator) (h : Related e e') where
       include = λ optional name w. included_related optional name w;
     }
 
-too_deep_first : {A : Type 0} (w : World) (o : Outcome World A) → Relates w (too_deep w) o
+too_deep_first : {A : Type 0} (w : World) (o : StepEnd World A) → Relates w (too_deep w) o
 too_deep_first w o = (still w, inl refl)
 
 pub one_more_level : (reads : Bool) (store : Store) (levels : ℕ) → Related (evaluator reads store levels) (evaluator reads store (suc levels))
@@ -373,7 +373,7 @@ unfolding evaluator none_left above
 one_more_level reads store zero = grind (arith, too_deep_first)
 one_more_level reads store (suc levels) = above_related (evaluator reads store levels) (evaluator reads store (suc levels)) (one_more_level reads store levels) store
 
-agreed : {A : Type 0} (o o' : Outcome World A) → (IsTooDeep o → ⊥) → Agree o o' → o' ≡ o
+agreed : {A : Type 0} (o o' : StepEnd World A) → (IsTooDeep o → ⊥) → Agree o o' → o' ≡ o
 agreed o o' deep (inl d) = absurd (deep d)
 agreed o o' deep (inr e) = sym e
 
@@ -387,7 +387,7 @@ module _ (reads : Bool) (store : Store) where
   pub reading_grows : (levels : ℕ) (names : List Text) → TakesNothingBack (read_first store (evaluator reads store levels) names)
   reading_grows levels names w = (read_first_related (evaluator reads store levels) (evaluator reads store (suc levels)) (one_more_level reads store levels) store names w).0
 
-  pub tree_grows : (levels : ℕ) (sheet : Sheet) (items : Items) → TakesNothingBack (read_items (evaluator reads store levels) sheet items)
+  pub tree_grows : (levels : ℕ) (sheet : Page) (items : Items) → TakesNothingBack (read_items (evaluator reads store levels) sheet items)
   tree_grows levels sheet items w = (read_items_related (evaluator reads store levels) (evaluator reads store (suc levels)) (one_more_level reads store levels) sheet items w).0
 
   pub text_grows : (levels : ℕ) (source : Source) (text : Text) → TakesNothingBack (read_text (evaluator reads store levels) source text)
@@ -405,7 +405,7 @@ module _ (reads : Bool) (store : Store) where
   reading_stays names levels w deep =
       agreed _ _ deep (read_first_related (evaluator reads store levels) (evaluator reads store (suc levels)) (one_more_level reads store levels) store names w).1
 
-  pub tree_stays : (sheet : Sheet) (items : Items) → StaysOneDeeper (λ levels. read_items (evaluator reads store levels) sheet items)
+  pub tree_stays : (sheet : Page) (items : Items) → StaysOneDeeper (λ levels. read_items (evaluator reads store levels) sheet items)
   tree_stays sheet items levels w deep =
       agreed _ _ deep (read_items_related (evaluator reads store levels) (evaluator reads store (suc levels)) (one_more_level reads store levels) sheet items w).1
 

@@ -1,13 +1,13 @@
 -- Messages and names asked for before a step are a prefix of those at its end, for each step before which something may
 -- fail. The second and third of each are the two parts of the first, in the form that tactics take.
 use Rattle.std.proofs.Common.{◌≡◌, ℕ, zero, suc, ◌≤◌, Bool, true, List, [], ◌∷◌, ◌++◌, refl, arith, length, take, Option}
-use Rattle.kt_eval.proofs.Common.{Text, Directive, Operator, Missing, Kind, Token, Items, RuleTexts, Rule, Function, Found, Source, Assigning, Store, World, Outcome, left_of, Trail, told, asked_for, one_of, trail, GoesOn, Asked, Naming, value_of, each_argument, accepted, apply, apply_or, apply_and, each_word, called, call_by_name, value_named, referred, each_term, expanded, Sheet, branch_holds, read_bare_tab, read_define, read_kind, read_items, read_end, read_sheet, read_without_nul, read_text, read_file, read_included, read_first, evaluator}
+use Rattle.kt_eval.proofs.Common.{Text, Directive, Operator, Missing, Form, Term, Items, RuleParts, Entry, Function, FoundValue, Source, Assigning, Store, World, StepEnd, left_of, Trail, told, asked_for, one_of, trail, GoesOn, Request, Naming, value_of, each_argument, accepted, apply, apply_or, apply_and, each_word, called, call_by_name, value_named, referred, each_term, expanded, Page, branch_holds, read_bare_tab, read_define, read_kind, read_items, read_end, read_sheet, read_without_nul, read_text, read_file, read_included, read_first, evaluator}
 use Rattle.kt_eval.specs.macros.Assignments.{assign, assign_named, assign_line, define}
 use Rattle.kt_eval.specs.reading.Conditionals.{is_set, holds, text_holds}
 use Rattle.kt_eval.specs.files.Including.{each_include, include_line}
 use Rattle.kt_eval.specs.reading.Rules.{enter_rule, close_rule, open_rule, rule_of_parts, rule_line}
 use Rattle.kt_eval.specs.Growing.{Grows}
-use Rattle.kt_eval.specs.inner.Plain.{appended}
+use Rattle.kt_eval.specs.inner.Plain.{with_term}
 use Rattle.kt_eval.proofs.lemmas.GrowingLemmas.{front_more, value_of_related, each_argument_related, accepted_related, apply_related, apply_or_related, apply_and_related, each_word_related, called_related, call_by_name_related, value_named_related, referred_related, appended_related, each_term_related, expanded_related, assign_related, assign_named_related, assign_line_related, define_related}
 use Rattle.kt_eval.proofs.lemmas.GrowingReads.{read_items_related, branch_holds_related, read_first_related, one_more_level, read_bare_tab_related, read_define_related, read_kind_related, holds_related, text_holds_related, each_include_related, include_line_related, rule_of_parts_related, rule_line_related, read_sheet_related, read_text_related, read_without_nul_related, read_file_related, read_included_related, is_set_grows, close_rule_grows, open_rule_grows, read_end_grows, enter_rule_grows}
 
@@ -23,7 +23,7 @@ on_same asked_for v w g = g.1.1
 pub goes_on : (v w : World) → Grows v w → GoesOn v w
 goes_on v w g = (λ of. on_longer of v w g, λ of. on_same of v w g)
 
-pub grown_front : {A : Type 0} (w : World) (o : Outcome World A) → Grows w (left_of o) → GoesOn w (left_of o)
+pub grown_front : {A : Type 0} (w : World) (o : StepEnd World A) → Grows w (left_of o) → GoesOn w (left_of o)
 grown_front w o g = goes_on w (left_of o) g
 
 -- one more name that is asked for
@@ -80,23 +80,23 @@ read_end_longer of source end w = (read_end_front source end w).0 of
 pub read_end_same : (of : Trail) (source : Source) (end : Option Missing) (w : World) (count : ℕ) → count ≤ length (trail of w) → take count (trail of (left_of (read_end source end w))) ≡ take count (trail of w)
 read_end_same of source end w count le = (read_end_front source end w).1 of count le
 
-pub enter_rule_front : (entry : Rule) (w : World) → GoesOn w (left_of (enter_rule entry w))
+pub enter_rule_front : (entry : Entry) (w : World) → GoesOn w (left_of (enter_rule entry w))
 enter_rule_front entry w = grown_front w (enter_rule entry w) ((enter_rule_grows (evaluator true [] zero) (evaluator true [] (suc zero)) (one_more_level true [] zero) entry w))
 
-pub enter_rule_longer : (of : Trail) (entry : Rule) (w : World) → length (trail of w) ≤ length (trail of (left_of (enter_rule entry w)))
+pub enter_rule_longer : (of : Trail) (entry : Entry) (w : World) → length (trail of w) ≤ length (trail of (left_of (enter_rule entry w)))
 enter_rule_longer of entry w = (enter_rule_front entry w).0 of
 
-pub enter_rule_same : (of : Trail) (entry : Rule) (w : World) (count : ℕ) → count ≤ length (trail of w) → take count (trail of (left_of (enter_rule entry w))) ≡ take count (trail of w)
+pub enter_rule_same : (of : Trail) (entry : Entry) (w : World) (count : ℕ) → count ≤ length (trail of w) → take count (trail of (left_of (enter_rule entry w))) ≡ take count (trail of w)
 enter_rule_same of entry w count le = (enter_rule_front entry w).1 of count le
 
 module _ (reads : Bool) (store : Store) (levels : ℕ) where
-  pub value_of_front : (found : Option Found) (w : World) → GoesOn w (left_of (value_of (evaluator reads store levels) found w))
+  pub value_of_front : (found : Option FoundValue) (w : World) → GoesOn w (left_of (value_of (evaluator reads store levels) found w))
   value_of_front found w = grown_front w (value_of (evaluator reads store levels) found w) ((value_of_related (evaluator reads store levels) (evaluator reads store (suc levels)) (one_more_level reads store levels) found w).0)
 
-  pub value_of_longer : (of : Trail) (found : Option Found) (w : World) → length (trail of w) ≤ length (trail of (left_of (value_of (evaluator reads store levels) found w)))
+  pub value_of_longer : (of : Trail) (found : Option FoundValue) (w : World) → length (trail of w) ≤ length (trail of (left_of (value_of (evaluator reads store levels) found w)))
   value_of_longer of found w = (value_of_front found w).0 of
 
-  pub value_of_same : (of : Trail) (found : Option Found) (w : World) (count : ℕ) → count ≤ length (trail of w) → take count (trail of (left_of (value_of (evaluator reads store levels) found w))) ≡ take count (trail of w)
+  pub value_of_same : (of : Trail) (found : Option FoundValue) (w : World) (count : ℕ) → count ≤ length (trail of w) → take count (trail of (left_of (value_of (evaluator reads store levels) found w))) ≡ take count (trail of w)
   value_of_same of found w count le = (value_of_front found w).1 of count le
 
   pub each_argument_front : (out texts : List Text) (w : World) → GoesOn w (left_of (each_argument (evaluator reads store levels) out texts w))
@@ -171,31 +171,31 @@ module _ (reads : Bool) (store : Store) (levels : ℕ) where
   pub apply_same : (of : Trail) (function : Function) (arguments : List Text) (w : World) (count : ℕ) → count ≤ length (trail of w) → take count (trail of (left_of (apply (evaluator reads store levels) function arguments w))) ≡ take count (trail of w)
   apply_same of function arguments w count le = (apply_front function arguments w).1 of count le
 
-  pub referred_front : (asked : Asked) (w : World) → GoesOn w (left_of (referred (evaluator reads store levels) asked w))
+  pub referred_front : (asked : Request) (w : World) → GoesOn w (left_of (referred (evaluator reads store levels) asked w))
   referred_front asked w = grown_front w (referred (evaluator reads store levels) asked w) ((referred_related (evaluator reads store levels) (evaluator reads store (suc levels)) (one_more_level reads store levels) asked w).0)
 
-  pub referred_longer : (of : Trail) (asked : Asked) (w : World) → length (trail of w) ≤ length (trail of (left_of (referred (evaluator reads store levels) asked w)))
+  pub referred_longer : (of : Trail) (asked : Request) (w : World) → length (trail of w) ≤ length (trail of (left_of (referred (evaluator reads store levels) asked w)))
   referred_longer of asked w = (referred_front asked w).0 of
 
-  pub referred_same : (of : Trail) (asked : Asked) (w : World) (count : ℕ) → count ≤ length (trail of w) → take count (trail of (left_of (referred (evaluator reads store levels) asked w))) ≡ take count (trail of w)
+  pub referred_same : (of : Trail) (asked : Request) (w : World) (count : ℕ) → count ≤ length (trail of w) → take count (trail of (left_of (referred (evaluator reads store levels) asked w))) ≡ take count (trail of w)
   referred_same of asked w count le = (referred_front asked w).1 of count le
 
-  pub appended_front : (out : Text) (piece : Token) (w : World) → GoesOn w (left_of (appended (evaluator reads store levels) out piece w))
-  appended_front out piece w = grown_front w (appended (evaluator reads store levels) out piece w) ((appended_related (evaluator reads store levels) (evaluator reads store (suc levels)) (one_more_level reads store levels) out piece w).0)
+  pub appended_front : (out : Text) (piece : Term) (w : World) → GoesOn w (left_of (with_term (evaluator reads store levels) out piece w))
+  appended_front out piece w = grown_front w (with_term (evaluator reads store levels) out piece w) ((appended_related (evaluator reads store levels) (evaluator reads store (suc levels)) (one_more_level reads store levels) out piece w).0)
 
-  pub appended_longer : (of : Trail) (out : Text) (piece : Token) (w : World) → length (trail of w) ≤ length (trail of (left_of (appended (evaluator reads store levels) out piece w)))
+  pub appended_longer : (of : Trail) (out : Text) (piece : Term) (w : World) → length (trail of w) ≤ length (trail of (left_of (with_term (evaluator reads store levels) out piece w)))
   appended_longer of out piece w = (appended_front out piece w).0 of
 
-  pub appended_same : (of : Trail) (out : Text) (piece : Token) (w : World) (count : ℕ) → count ≤ length (trail of w) → take count (trail of (left_of (appended (evaluator reads store levels) out piece w))) ≡ take count (trail of w)
+  pub appended_same : (of : Trail) (out : Text) (piece : Term) (w : World) (count : ℕ) → count ≤ length (trail of w) → take count (trail of (left_of (with_term (evaluator reads store levels) out piece w))) ≡ take count (trail of w)
   appended_same of out piece w count le = (appended_front out piece w).1 of count le
 
-  pub each_term_front : (out : Text) (pieces : List Token) (w : World) → GoesOn w (left_of (each_term (evaluator reads store levels) out pieces w))
+  pub each_term_front : (out : Text) (pieces : List Term) (w : World) → GoesOn w (left_of (each_term (evaluator reads store levels) out pieces w))
   each_term_front out pieces w = grown_front w (each_term (evaluator reads store levels) out pieces w) ((each_term_related (evaluator reads store levels) (evaluator reads store (suc levels)) (one_more_level reads store levels) out pieces w).0)
 
-  pub each_term_longer : (of : Trail) (out : Text) (pieces : List Token) (w : World) → length (trail of w) ≤ length (trail of (left_of (each_term (evaluator reads store levels) out pieces w)))
+  pub each_term_longer : (of : Trail) (out : Text) (pieces : List Term) (w : World) → length (trail of w) ≤ length (trail of (left_of (each_term (evaluator reads store levels) out pieces w)))
   each_term_longer of out pieces w = (each_term_front out pieces w).0 of
 
-  pub each_term_same : (of : Trail) (out : Text) (pieces : List Token) (w : World) (count : ℕ) → count ≤ length (trail of w) → take count (trail of (left_of (each_term (evaluator reads store levels) out pieces w))) ≡ take count (trail of w)
+  pub each_term_same : (of : Trail) (out : Text) (pieces : List Term) (w : World) (count : ℕ) → count ≤ length (trail of w) → take count (trail of (left_of (each_term (evaluator reads store levels) out pieces w))) ≡ take count (trail of w)
   each_term_same of out pieces w count le = (each_term_front out pieces w).1 of count le
 
   pub expanded_front : (text : Text) (w : World) → GoesOn w (left_of (expanded (evaluator reads store levels) text w))
@@ -234,13 +234,13 @@ module _ (reads : Bool) (store : Store) (levels : ℕ) where
   pub assign_line_same : (of : Trail) (name : Text) (o : Operator) (text : Text) (w : World) (count : ℕ) → count ≤ length (trail of w) → take count (trail of (left_of (assign_line (evaluator reads store levels) name o text w))) ≡ take count (trail of w)
   assign_line_same of name o text w count le = (assign_line_front name o text w).1 of count le
 
-  pub define_front : (rest : Text) (kind : Kind) (body : Text) (w : World) → GoesOn w (left_of (define (evaluator reads store levels) rest kind body w))
+  pub define_front : (rest : Text) (kind : Form) (body : Text) (w : World) → GoesOn w (left_of (define (evaluator reads store levels) rest kind body w))
   define_front rest kind body w = grown_front w (define (evaluator reads store levels) rest kind body w) ((define_related (evaluator reads store levels) (evaluator reads store (suc levels)) (one_more_level reads store levels) rest kind body w).0)
 
-  pub define_longer : (of : Trail) (rest : Text) (kind : Kind) (body : Text) (w : World) → length (trail of w) ≤ length (trail of (left_of (define (evaluator reads store levels) rest kind body w)))
+  pub define_longer : (of : Trail) (rest : Text) (kind : Form) (body : Text) (w : World) → length (trail of w) ≤ length (trail of (left_of (define (evaluator reads store levels) rest kind body w)))
   define_longer of rest kind body w = (define_front rest kind body w).0 of
 
-  pub define_same : (of : Trail) (rest : Text) (kind : Kind) (body : Text) (w : World) (count : ℕ) → count ≤ length (trail of w) → take count (trail of (left_of (define (evaluator reads store levels) rest kind body w))) ≡ take count (trail of w)
+  pub define_same : (of : Trail) (rest : Text) (kind : Form) (body : Text) (w : World) (count : ℕ) → count ≤ length (trail of w) → take count (trail of (left_of (define (evaluator reads store levels) rest kind body w))) ≡ take count (trail of w)
   define_same of rest kind body w count le = (define_front rest kind body w).1 of count le
 
   pub holds_front : (kind : Directive) (text : Text) (w : World) → GoesOn w (left_of (holds (evaluator reads store levels) kind text w))
@@ -279,13 +279,13 @@ module _ (reads : Bool) (store : Store) (levels : ℕ) where
   pub include_line_same : (of : Trail) (optional : Bool) (text : Text) (w : World) (count : ℕ) → count ≤ length (trail of w) → take count (trail of (left_of (include_line (evaluator reads store levels) optional text w))) ≡ take count (trail of w)
   include_line_same of optional text w count le = (include_line_front optional text w).1 of count le
 
-  pub rule_of_parts_front : (parts : Option RuleTexts) (w : World) → GoesOn w (left_of (rule_of_parts (evaluator reads store levels) parts w))
+  pub rule_of_parts_front : (parts : Option RuleParts) (w : World) → GoesOn w (left_of (rule_of_parts (evaluator reads store levels) parts w))
   rule_of_parts_front parts w = grown_front w (rule_of_parts (evaluator reads store levels) parts w) ((rule_of_parts_related (evaluator reads store levels) (evaluator reads store (suc levels)) (one_more_level reads store levels) parts w).0)
 
-  pub rule_of_parts_longer : (of : Trail) (parts : Option RuleTexts) (w : World) → length (trail of w) ≤ length (trail of (left_of (rule_of_parts (evaluator reads store levels) parts w)))
+  pub rule_of_parts_longer : (of : Trail) (parts : Option RuleParts) (w : World) → length (trail of w) ≤ length (trail of (left_of (rule_of_parts (evaluator reads store levels) parts w)))
   rule_of_parts_longer of parts w = (rule_of_parts_front parts w).0 of
 
-  pub rule_of_parts_same : (of : Trail) (parts : Option RuleTexts) (w : World) (count : ℕ) → count ≤ length (trail of w) → take count (trail of (left_of (rule_of_parts (evaluator reads store levels) parts w))) ≡ take count (trail of w)
+  pub rule_of_parts_same : (of : Trail) (parts : Option RuleParts) (w : World) (count : ℕ) → count ≤ length (trail of w) → take count (trail of (left_of (rule_of_parts (evaluator reads store levels) parts w))) ≡ take count (trail of w)
   rule_of_parts_same of parts w count le = (rule_of_parts_front parts w).1 of count le
 
   pub rule_line_front : (text : Text) (w : World) → GoesOn w (left_of (rule_line (evaluator reads store levels) text w))
@@ -297,13 +297,13 @@ module _ (reads : Bool) (store : Store) (levels : ℕ) where
   pub rule_line_same : (of : Trail) (text : Text) (w : World) (count : ℕ) → count ≤ length (trail of w) → take count (trail of (left_of (rule_line (evaluator reads store levels) text w))) ≡ take count (trail of w)
   rule_line_same of text w count le = (rule_line_front text w).1 of count le
 
-  pub read_sheet_front : (sheet : Sheet) (w : World) → GoesOn w (left_of (read_sheet (evaluator reads store levels) sheet w))
+  pub read_sheet_front : (sheet : Page) (w : World) → GoesOn w (left_of (read_sheet (evaluator reads store levels) sheet w))
   read_sheet_front sheet w = grown_front w (read_sheet (evaluator reads store levels) sheet w) ((read_sheet_related (evaluator reads store levels) (evaluator reads store (suc levels)) (one_more_level reads store levels) sheet w).0)
 
-  pub read_sheet_longer : (of : Trail) (sheet : Sheet) (w : World) → length (trail of w) ≤ length (trail of (left_of (read_sheet (evaluator reads store levels) sheet w)))
+  pub read_sheet_longer : (of : Trail) (sheet : Page) (w : World) → length (trail of w) ≤ length (trail of (left_of (read_sheet (evaluator reads store levels) sheet w)))
   read_sheet_longer of sheet w = (read_sheet_front sheet w).0 of
 
-  pub read_sheet_same : (of : Trail) (sheet : Sheet) (w : World) (count : ℕ) → count ≤ length (trail of w) → take count (trail of (left_of (read_sheet (evaluator reads store levels) sheet w))) ≡ take count (trail of w)
+  pub read_sheet_same : (of : Trail) (sheet : Page) (w : World) (count : ℕ) → count ≤ length (trail of w) → take count (trail of (left_of (read_sheet (evaluator reads store levels) sheet w))) ≡ take count (trail of w)
   read_sheet_same of sheet w count le = (read_sheet_front sheet w).1 of count le
 
   pub read_text_front : (source : Source) (text : Text) (w : World) → GoesOn w (left_of (read_text (evaluator reads store levels) source text w))
@@ -342,49 +342,49 @@ module _ (reads : Bool) (store : Store) (levels : ℕ) where
   pub read_included_same : (of : Trail) (optional : Bool) (name : Text) (found : Option Text) (w : World) (count : ℕ) → count ≤ length (trail of w) → take count (trail of (left_of (read_included (evaluator reads store levels) optional name found w))) ≡ take count (trail of w)
   read_included_same of optional name found w count le = (read_included_front optional name found w).1 of count le
 
-  pub read_items_front : (sheet : Sheet) (items : Items) (w : World) → GoesOn w (left_of (read_items (evaluator reads store levels) sheet items w))
+  pub read_items_front : (sheet : Page) (items : Items) (w : World) → GoesOn w (left_of (read_items (evaluator reads store levels) sheet items w))
   read_items_front sheet items w = grown_front w (read_items (evaluator reads store levels) sheet items w) ((read_items_related (evaluator reads store levels) (evaluator reads store (suc levels)) (one_more_level reads store levels) sheet items w).0)
 
-  pub read_items_longer : (of : Trail) (sheet : Sheet) (items : Items) (w : World) → length (trail of w) ≤ length (trail of (left_of (read_items (evaluator reads store levels) sheet items w)))
+  pub read_items_longer : (of : Trail) (sheet : Page) (items : Items) (w : World) → length (trail of w) ≤ length (trail of (left_of (read_items (evaluator reads store levels) sheet items w)))
   read_items_longer of sheet items w = (read_items_front sheet items w).0 of
 
-  pub read_items_same : (of : Trail) (sheet : Sheet) (items : Items) (w : World) (count : ℕ) → count ≤ length (trail of w) → take count (trail of (left_of (read_items (evaluator reads store levels) sheet items w))) ≡ take count (trail of w)
+  pub read_items_same : (of : Trail) (sheet : Page) (items : Items) (w : World) (count : ℕ) → count ≤ length (trail of w) → take count (trail of (left_of (read_items (evaluator reads store levels) sheet items w))) ≡ take count (trail of w)
   read_items_same of sheet items w count le = (read_items_front sheet items w).1 of count le
 
-  pub read_kind_front : (text : Text) (kind : Kind) (w : World) → GoesOn w (left_of (read_kind (evaluator reads store levels) text kind w))
+  pub read_kind_front : (text : Text) (kind : Form) (w : World) → GoesOn w (left_of (read_kind (evaluator reads store levels) text kind w))
   read_kind_front text kind w = grown_front w (read_kind (evaluator reads store levels) text kind w) ((read_kind_related (evaluator reads store levels) (evaluator reads store (suc levels)) (one_more_level reads store levels) text kind w).0)
 
-  pub read_kind_longer : (of : Trail) (text : Text) (kind : Kind) (w : World) → length (trail of w) ≤ length (trail of (left_of (read_kind (evaluator reads store levels) text kind w)))
+  pub read_kind_longer : (of : Trail) (text : Text) (kind : Form) (w : World) → length (trail of w) ≤ length (trail of (left_of (read_kind (evaluator reads store levels) text kind w)))
   read_kind_longer of text kind w = (read_kind_front text kind w).0 of
 
-  pub read_kind_same : (of : Trail) (text : Text) (kind : Kind) (w : World) (count : ℕ) → count ≤ length (trail of w) → take count (trail of (left_of (read_kind (evaluator reads store levels) text kind w))) ≡ take count (trail of w)
+  pub read_kind_same : (of : Trail) (text : Text) (kind : Form) (w : World) (count : ℕ) → count ≤ length (trail of w) → take count (trail of (left_of (read_kind (evaluator reads store levels) text kind w))) ≡ take count (trail of w)
   read_kind_same of text kind w count le = (read_kind_front text kind w).1 of count le
 
-  pub read_bare_tab_front : (kind : Kind) (w : World) → GoesOn w (left_of (read_bare_tab (evaluator reads store levels) kind w))
+  pub read_bare_tab_front : (kind : Form) (w : World) → GoesOn w (left_of (read_bare_tab (evaluator reads store levels) kind w))
   read_bare_tab_front kind w = grown_front w (read_bare_tab (evaluator reads store levels) kind w) ((read_bare_tab_related (evaluator reads store levels) (evaluator reads store (suc levels)) (one_more_level reads store levels) kind w).0)
 
-  pub read_bare_tab_longer : (of : Trail) (kind : Kind) (w : World) → length (trail of w) ≤ length (trail of (left_of (read_bare_tab (evaluator reads store levels) kind w)))
+  pub read_bare_tab_longer : (of : Trail) (kind : Form) (w : World) → length (trail of w) ≤ length (trail of (left_of (read_bare_tab (evaluator reads store levels) kind w)))
   read_bare_tab_longer of kind w = (read_bare_tab_front kind w).0 of
 
-  pub read_bare_tab_same : (of : Trail) (kind : Kind) (w : World) (count : ℕ) → count ≤ length (trail of w) → take count (trail of (left_of (read_bare_tab (evaluator reads store levels) kind w))) ≡ take count (trail of w)
+  pub read_bare_tab_same : (of : Trail) (kind : Form) (w : World) (count : ℕ) → count ≤ length (trail of w) → take count (trail of (left_of (read_bare_tab (evaluator reads store levels) kind w))) ≡ take count (trail of w)
   read_bare_tab_same of kind w count le = (read_bare_tab_front kind w).1 of count le
 
-  pub read_define_front : (kind : Kind) (body : Text) (w : World) → GoesOn w (left_of (read_define (evaluator reads store levels) kind body w))
+  pub read_define_front : (kind : Form) (body : Text) (w : World) → GoesOn w (left_of (read_define (evaluator reads store levels) kind body w))
   read_define_front kind body w = grown_front w (read_define (evaluator reads store levels) kind body w) ((read_define_related (evaluator reads store levels) (evaluator reads store (suc levels)) (one_more_level reads store levels) kind body w).0)
 
-  pub read_define_longer : (of : Trail) (kind : Kind) (body : Text) (w : World) → length (trail of w) ≤ length (trail of (left_of (read_define (evaluator reads store levels) kind body w)))
+  pub read_define_longer : (of : Trail) (kind : Form) (body : Text) (w : World) → length (trail of w) ≤ length (trail of (left_of (read_define (evaluator reads store levels) kind body w)))
   read_define_longer of kind body w = (read_define_front kind body w).0 of
 
-  pub read_define_same : (of : Trail) (kind : Kind) (body : Text) (w : World) (count : ℕ) → count ≤ length (trail of w) → take count (trail of (left_of (read_define (evaluator reads store levels) kind body w))) ≡ take count (trail of w)
+  pub read_define_same : (of : Trail) (kind : Form) (body : Text) (w : World) (count : ℕ) → count ≤ length (trail of w) → take count (trail of (left_of (read_define (evaluator reads store levels) kind body w))) ≡ take count (trail of w)
   read_define_same of kind body w count le = (read_define_front kind body w).1 of count le
 
-  pub branch_holds_front : (sheet : Sheet) (place : ℕ) (condition : Bool) (w : World) → GoesOn w (left_of (branch_holds (evaluator reads store levels) sheet place condition w))
+  pub branch_holds_front : (sheet : Page) (place : ℕ) (condition : Bool) (w : World) → GoesOn w (left_of (branch_holds (evaluator reads store levels) sheet place condition w))
   branch_holds_front sheet place condition w = grown_front w (branch_holds (evaluator reads store levels) sheet place condition w) ((branch_holds_related (evaluator reads store levels) (evaluator reads store (suc levels)) (one_more_level reads store levels) sheet place condition w).0)
 
-  pub branch_holds_longer : (of : Trail) (sheet : Sheet) (place : ℕ) (condition : Bool) (w : World) → length (trail of w) ≤ length (trail of (left_of (branch_holds (evaluator reads store levels) sheet place condition w)))
+  pub branch_holds_longer : (of : Trail) (sheet : Page) (place : ℕ) (condition : Bool) (w : World) → length (trail of w) ≤ length (trail of (left_of (branch_holds (evaluator reads store levels) sheet place condition w)))
   branch_holds_longer of sheet place condition w = (branch_holds_front sheet place condition w).0 of
 
-  pub branch_holds_same : (of : Trail) (sheet : Sheet) (place : ℕ) (condition : Bool) (w : World) (count : ℕ) → count ≤ length (trail of w) → take count (trail of (left_of (branch_holds (evaluator reads store levels) sheet place condition w))) ≡ take count (trail of w)
+  pub branch_holds_same : (of : Trail) (sheet : Page) (place : ℕ) (condition : Bool) (w : World) (count : ℕ) → count ≤ length (trail of w) → take count (trail of (left_of (branch_holds (evaluator reads store levels) sheet place condition w))) ≡ take count (trail of w)
   branch_holds_same of sheet place condition w count le = (branch_holds_front sheet place condition w).1 of count le
 
   pub read_first_front : (names : List Text) (w : World) → GoesOn w (left_of (read_first store (evaluator reads store levels) names w))

@@ -2,7 +2,7 @@
 use Rattle.std.proofs.Common.{get_or, suc, ◌≡◌, ◌∙◌, ◌≤◌, ℕ, ap, sym, refl, arith, inl, inr, ◌⊎◌, List, [], ◌∷◌, ◌++◌, Bool, true, false, Option, Some, None, if◌then◌else◌}
 use Rattle.kt_eval.proofs.Common.{All-cons, All-contains, All-nil, Contains-get_or, Contains-append_cases, Contains-append_right, Contains-append_left, Contains-push, Contains-push_cases, bytes_eq-Decides, Contains, bytes_eq, AgreeWith, Answer, AnswersGrow, Store, differing, look, same_found}
 use Rattle.kt_eval.specs.files.Agreement.{AreSteady, HoldsEach, store_of, with_found}
-use Rattle.kt_eval.specs.files.Memory.{Memory, answers_from, seen_of}
+use Rattle.kt_eval.specs.files.Memory.{MemFiles, answers_from, seen_of}
 use Rattle.kt_eval.proofs.lemmas.AgreementLemmas.{held_by, off}
 
 grown : (store : Store) (old added : List Answer) → differing store old ≤ differing store (old ++ added)
@@ -44,7 +44,7 @@ unfolding differing
 store_agrees store [] = refl
 store_agrees store (name ∷ names) = omega (arith, none_off store (name, look store name) refl, store_agrees store names)
 
-pub memory_agrees : (memory : Memory) → AgreeWith memory.store (seen_of memory).answers
+pub memory_agrees : (memory : MemFiles) → AgreeWith memory.store (seen_of memory).answers
 memory_agrees memory = store_agrees memory.store memory.answered
 
 -- ---- when there is one

@@ -1,12 +1,12 @@
 -- How the arguments of a call are cut (GNU make manual, "Function Call Syntax").
 use Rattle.std.specs.Prelude.{◌≡◌, ℕ, ◌-◌, ◌<◌, ◌≤◌, List, ◌∷◌, ◌++◌, length, take, drop, Option, Some, None}
-use Rattle.kt_eval.specs.Prelude.{All, join_with_byte, Text, Mark, count_of, IsBalanced}
+use Rattle.kt_eval.specs.Prelude.{All, join_with_byte, Text, Mark, byte_count, IsBalanced}
 use Rattle.kt_eval.specs.expanding.Calls.{opener, closer, arguments_of}
 
 -- each mark that opens in the text is closed in it: no end part of it has more opening than closing marks (kati's own:
 -- only marks of the reference's own kind count)
 abbrev pub IsClosed : Mark → Text → Type 0
-IsClosed mark text = (n : ℕ) → count_of (opener mark) (drop n text) ≤ count_of (closer mark) (drop n text)
+IsClosed mark text = (n : ℕ) → byte_count (opener mark) (drop n text) ≤ byte_count (closer mark) (drop n text)
 
 -- each comma of the text is inside marks that are open there
 abbrev pub HoldsNoCut : Mark → Text → Type 0

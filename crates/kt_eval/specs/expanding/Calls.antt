@@ -7,8 +7,8 @@ use Rattle.kt_text.specs.Words.{Text, is_separator, stripped_start, is_colon, is
 use Rattle.kt_text.specs.Match.{has_percent}
 use Rattle.kt_eval.specs.Prelude.{Mark, Byte, Parentheses, Braces, Function, TextFunction, arity, text_function}
 use Rattle.kt_eval.specs.declared.expanding.function.Function.TheVariants as function
-use Rattle.kt_eval.specs.declared.expanding.calls.Asked.{Asked as AskedType}
-use Rattle.kt_eval.specs.declared.expanding.calls.Asked.TheVariants as asked
+use Rattle.kt_eval.specs.declared.expanding.calls.Request.{Request as RequestType}
+use Rattle.kt_eval.specs.declared.expanding.calls.Request.TheVariants as asked
 
 -- the functions that expand by themselves, bind names, read text or report
 unfoldable pub other_function : Text → Option Function
@@ -70,8 +70,8 @@ may_cut (Some zero) = false
 may_cut (Some (suc more)) = true
 
 -- whether a byte cuts: a comma that isn't nested, if one more may
-abbrev pub cuts : ℕ → ℕ → Option ℕ → Bool
-cuts byte depth left = byte == 44 && (depth == 0 && may_cut left)
+abbrev pub cuts_arguments : ℕ → ℕ → Option ℕ → Bool
+cuts_arguments byte depth left = byte == 44 && (depth == 0 && may_cut left)
 
 -- how many commas may cut after one did
 abbrev pub one_less : Option ℕ → Option ℕ
@@ -87,42 +87,42 @@ nested mark depth byte = if byte == opener mark then depth + 1 else (if byte == 
 unfoldable pub arguments_from : Mark → Option ℕ → ℕ → Text → Text → List Text
 arguments_from mark left depth argument [] = argument ∷ []
 arguments_from mark left depth argument (byte ∷ text) =
-    if cuts byte depth left then argument ∷ arguments_from mark (one_less left) depth [] text
+    if cuts_arguments byte depth left then argument ∷ arguments_from mark (one_less left) depth [] text
     else arguments_from mark left (nested mark depth byte) (argument ++ byte ∷ []) text
 
 unfoldable pub arguments_of : Mark → Option ℕ → Text → List Text
 arguments_of mark left text = arguments_from mark left 0 [] text
 
 -- what a reference asks for
-pub data Asked : Type 0 where
-  calls : (function : Function) (arguments : List Text) → Asked
-  refuses : (name : Text) → Asked
-  refers : (body : Text) → Asked
+pub data Request : Type 0 where
+  calls : (function : Function) (arguments : List Text) → Request
+  refuses : (name : Text) → Request
+  refers : (body : Text) → Request
 
 -- what the body of a reference asks for, from its first word and the text after the separators
-abbrev pub asked_after : Mark → Text → Text → Text → Option Function → Asked
-asked_after mark body name rest (Some function) = calls function (arguments_of mark (commas function) rest)
-asked_after mark body name rest None = if is_refused_function name then refuses name else refers body
+abbrev pub request_by_word : Mark → Text → Text → Text → Option Function → Request
+request_by_word mark body name rest (Some function) = calls function (arguments_of mark (commas function) rest)
+request_by_word mark body name rest None = if is_refused_function name then refuses name else refers body
 
 -- a function's name directly after the opening mark, with a separator after it, makes a call
-unfoldable pub asked_of : Mark → Text → Asked
+unfoldable pub asked_of : Mark → Text → Request
 asked_of mark body =
     let place = position_or_len is_separator body in
     if place == length body then refers body
-    else asked_after mark body (take place body) (stripped_start (drop place body)) (function_of (take place body))
+    else request_by_word mark body (take place body) (stripped_start (drop place body)) (function_of (take place body))
 
 -- the name in a reference of one byte; a continuation counts as a blank (kati's own)
 abbrev pub byte_name : Text → Text
 byte_name body = if length body == 1 then body else codes " "
 
 -- what a reference with a mark asks for: a reference of one byte is no call
-unfoldable pub asked_by : Mark → Text → Asked
-asked_by Byte body = refers (byte_name body)
-asked_by Parentheses body = asked_of Parentheses body
-asked_by Braces body = asked_of Braces body
+unfoldable pub request_by_mark : Mark → Text → Request
+request_by_mark Byte body = refers (byte_name body)
+request_by_mark Parentheses body = asked_of Parentheses body
+request_by_mark Braces body = asked_of Braces body
 
 -- what is asked for, in the code's own type
-abbrev pub asked_view : AskedType → Asked
+abbrev pub asked_view : RequestType → Request
 asked_view (asked.Calls function arguments) = calls function (map (λ argument. argument.now) arguments.items)
 asked_view (asked.Refuses name) = refuses name.now
 asked_view (asked.Refers body) = refers body.now

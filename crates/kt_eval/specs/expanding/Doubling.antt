@@ -1,6 +1,6 @@
 -- What a text with each dollar doubled expands to (POSIX.1-2024 make, "Macros": `:::=`).
 use Rattle.std.specs.Prelude.{◌≡◌, ℕ, suc, Bool, Some}
-use Rattle.kt_eval.specs.Prelude.{Text, Deferred, Store, set_by_makefile, doubled, World, found_of, Gave}
+use Rattle.kt_eval.specs.Prelude.{Text, Deferred, Store, set_by_makefile, with_dollars_doubled, World, found_of, Gave}
 use Rattle.kt_eval.specs.expanding.Expansion.{value_of, expanded}
 use Rattle.kt_eval.specs.expanding.Levels.{evaluator}
 
@@ -8,7 +8,8 @@ use Rattle.kt_eval.specs.expanding.Levels.{evaluator}
 -- fault, and no macro changes. So the value of the macro that `:::=` sets expands to the text if a level is left for it
 pub record DoublingLaw : Type 0 where
   pub expands : (reads : Bool) (store : Store) (levels : ℕ) (text : Text) (w : World)
-      → expanded (evaluator reads store levels) (doubled text) w ≡ Gave w text
+      → expanded (evaluator reads store levels) (with_dollars_doubled text) w ≡ Gave w text
   pub gives : (reads : Bool) (store : Store) (levels : ℕ) (text : Text) (w : World)
-      → value_of (evaluator reads store (suc levels)) (Some (found_of (set_by_makefile Deferred (doubled text)))) w
+      → value_of (evaluator reads store (suc levels)) (Some (found_of
+      (set_by_makefile Deferred (with_dollars_doubled text)))) w
       ≡ Gave w text

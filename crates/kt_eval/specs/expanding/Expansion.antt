@@ -1,15 +1,15 @@
 -- What a text expands to, level by level (POSIX.1-2024 make, "Macros"; GNU make manual, "Basics of Variable References"
 -- and "Functions for Transforming Text"). How levels are counted is kati's own.
 use Rattle.std.specs.Prelude.{Bool, ◌==◌, ◌||◌, List, [], ◌∷◌, ◌++◌, length, Option, Some, None, codes, if◌then◌else◌}
-use Rattle.kt_eval.specs.Prelude.{list_any, Text, words_of, stripped, Token, literal, dollar, reference, unclosed}
-use Rattle.kt_eval.specs.Prelude.{terms_of, Flavour, Deferred, Immediate, TextFunction, Function, Found, lookup}
+use Rattle.kt_eval.specs.Prelude.{list_any, Text, words_of, stripped, Term, literal, dollar, reference, unclosed}
+use Rattle.kt_eval.specs.Prelude.{terms_of, Flavour, Deferred, Immediate, TextFunction, Function, FoundValue, lookup}
 use Rattle.kt_eval.specs.Prelude.{raw_value, bind, unbind, say, warn, Step, stop, change, arity, text_function_name}
 use Rattle.kt_text.specs.Functions.{patsubst_of}
 use Rattle.kt_rules.specs.declared.fault_kind.FaultKind.TheVariants as kinds
 use Rattle.kt_eval.specs.declared.expanding.function.Function.TheVariants as function
 use Rattle.kt_eval.specs.declared.state.Frame.TheVariants.{Loop, Call}
 use Rattle.kt_eval.specs.Outcome.{Gave, ◌>>=◌, ◌>>◌, done}
-use Rattle.kt_eval.specs.expanding.Calls.{Asked, calls, refuses, refers, asked_by, Naming, plainly, substituting}
+use Rattle.kt_eval.specs.expanding.Calls.{Request, calls, refuses, refers, request_by_mark, Naming, plainly, substituting}
 use Rattle.kt_eval.specs.expanding.Calls.{naming_of, is_function_name}
 use Rattle.kt_eval.specs.expanding.TextFunctions.{text_result}
 
@@ -37,7 +37,7 @@ flavoured e Deferred value = e.expand value
 flavoured e Immediate value = done value
 
 -- the expansion of what was found for a name
-unfoldable pub value_of : Evaluator → Option Found → Step Text
+unfoldable pub value_of : Evaluator → Option FoundValue → Step Text
 value_of e None = done []
 value_of e (Some found) = flavoured e found.flavour found.value
 
@@ -193,7 +193,7 @@ value_named e (substituting name pattern replacement) w =
       accepted (codes "patsubst") (patsubst_of pattern replacement value)) w
 
 -- the expansion of a reference
-unfoldable pub referred : Evaluator → Asked → Step Text
+unfoldable pub referred : Evaluator → Request → Step Text
 referred e (calls function arguments) = apply e function arguments
 referred e (refuses name) = refused_function name
 referred e (refers body) = do
@@ -201,14 +201,14 @@ referred e (refers body) = do
   value_named e (naming_of x)
 
 -- the expansion of a term
-unfoldable pub term_of : Evaluator → Token → Step Text
+unfoldable pub term_of : Evaluator → Term → Step Text
 term_of e (literal bytes) = done bytes
 term_of e dollar = done (codes "$")
-term_of e (reference mark body) = referred e (asked_by mark body)
+term_of e (reference mark body) = referred e (request_by_mark mark body)
 term_of e unclosed = stop kinds.UnterminatedReference []
 
 -- each term in turn, appended to the text so far
-unfoldable pub each_term : Evaluator → Text → List Token → Step Text
+unfoldable pub each_term : Evaluator → Text → List Term → Step Text
 each_term e out [] = done out
 each_term e out (piece ∷ pieces) = do
   x ← term_of e piece

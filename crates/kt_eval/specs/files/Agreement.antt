@@ -1,7 +1,7 @@
 -- What it says that a store agrees with answers, and for which answers there is such a store.
 use Rattle.std.specs.Prelude.{◌≡◌, ℕ, List, [], ◌∷◌, ◌++◌, Option, Some, None}
 use Rattle.kt_eval.specs.Prelude.{All, Contains, AgreeWith, Answer, AnswersGrow, Store, look}
-use Rattle.kt_eval.specs.files.Memory.{Memory, seen_of}
+use Rattle.kt_eval.specs.files.Memory.{MemFiles, seen_of}
 
 -- a store holds what was answered, each time
 abbrev pub HoldsEach : Store → List Answer → Type 0
@@ -41,4 +41,4 @@ AgreeingAreSteady = (store : Store) (answers : List Answer) → AgreeWith store 
 
 -- files in memory agree with what they hold, at any time
 abbrev pub MemoryAgrees : Type 0
-MemoryAgrees = (memory : Memory) → AgreeWith memory.store (seen_of memory).answers
+MemoryAgrees = (memory : MemFiles) → AgreeWith memory.store (seen_of memory).answers

@@ -7,13 +7,14 @@ use Rattle.kt_eval.specs.Outcome.{◌>>=◌, ◌>>◌, done}
 use Rattle.kt_eval.specs.expanding.Expansion.{Evaluator, expanded}
 
 -- a name that is a shell pattern, which is refused (kati's own)
-unfoldable pub is_pattern : Text → Bool
-is_pattern [] = false
-is_pattern (first ∷ name) = first == 126 || list_any (λ byte. byte == 42 || (byte == 63 || byte == 91)) (first ∷ name)
+unfoldable pub is_shell_pattern : Text → Bool
+is_shell_pattern [] = false
+is_shell_pattern (first ∷ name) =
+    first == 126 || list_any (λ byte. byte == 42 || (byte == 63 || byte == 91)) (first ∷ name)
 
 unfoldable pub include_named : Evaluator → Bool → Text → Step (Unit {0})
 include_named e optional name =
-    if is_utf8 name then (if is_pattern name then stop kinds.RefusedName name else e.include optional name)
+    if is_utf8 name then (if is_shell_pattern name then stop kinds.RefusedName name else e.include optional name)
     else stop kinds.IncludeNameNotUtf8 []
 
 -- each name in turn

@@ -5,11 +5,11 @@ use Rattle.kt_rules.specs.declared.fault.RuleFault.{RuleFault}
 use Rattle.kt_rules.specs.declared.fault.RuleFault.TheVariants.{Memory, Refused}
 use Rattle.kt_eval.specs.declared.macros.assigning.Assigning.{Assigning as AssigningType}
 use Rattle.kt_eval.specs.declared.macros.assigning.Assigning.TheVariants as does
-use Rattle.kt_eval.specs.declared.reading.conditions.Compared.{Compared as ComparedType}
-use Rattle.kt_eval.specs.declared.reading.page.RawLine.{RawLine}
+use Rattle.kt_eval.specs.declared.reading.conditions.ComparedTexts.{ComparedTexts as ComparedType}
+use Rattle.kt_eval.specs.declared.reading.page.RawLine.{RawLine as HeldRawLine}
 use Rattle.kt_eval.specs.declared.stop.Stop.TheVariants as stops
-use Rattle.kt_eval.specs.reading.Conditions.{Compared}
-use Rattle.kt_eval.specs.reading.Reading.{Raw}
+use Rattle.kt_eval.specs.reading.Conditions.{ComparedTexts}
+use Rattle.kt_eval.specs.reading.Reading.{RawLine}
 use Rattle.kt_eval.specs.expanding.Calls.{Naming, plainly, substituting}
 use Rattle.kt_eval.specs.declared.expanding.calls.Naming.{Naming as NamingType}
 use Rattle.kt_eval.specs.declared.expanding.calls.Naming.TheVariants as naming
@@ -27,11 +27,11 @@ assigning_view (does.Expands front) = expands (front_view front)
 assigning_view does.Escapes = escapes
 
 -- a line of a page
-abbrev pub raw_view : RawLine → Raw
+abbrev pub raw_view : HeldRawLine → RawLine
 raw_view line = record { number = line.number; tab = line.tab; text = line.text.now }
 
 -- two texts that are compared
-abbrev pub compared_view : ComparedType → Compared
+abbrev pub compared_view : ComparedType → ComparedTexts
 compared_view compared = record { first = compared.first.now; second = compared.second.now }
 
 -- why a rule is refused

@@ -12,16 +12,16 @@ use Rattle.kt_eval.specs.declared.macros.Origin.TheVariants.{Makefile, CommandLi
 use Rattle.kt_eval.specs.declared.macros.Macro.{Macro}
 
 -- names with their macros, in the order in which they were first set; each name is there once
-abbrev pub Table : Type 0
-Table = List (Text × Macro)
+abbrev pub Macros : Type 0
+Macros = List (Text × Macro)
 
 -- the macro with a name
-unfoldable pub find : Text → Table → Option Macro
+unfoldable pub find : Text → Macros → Option Macro
 find name [] = None
 find name (entry ∷ table) = if bytes_eq name entry.0 then Some entry.1 else find name table
 
 -- a name that is there keeps its place, and a new one is added at the end
-unfoldable pub put : Text → Macro → Table → Table
+unfoldable pub put : Text → Macro → Macros → Macros
 put name value [] = (name, value) ∷ []
 put name value (entry ∷ table) = if bytes_eq name entry.0 then (entry.0, value) ∷ table
     else entry ∷ put name value table
@@ -75,5 +75,5 @@ assigning operator None = assigning_new operator
 assigning operator (Some old) = assigning_over operator old old.origin
 
 -- a text with each dollar doubled, which expands to the text
-unfoldable pub doubled : Text → Text
-doubled text = flat_map (λ byte. if byte == 36 then 36 ∷ 36 ∷ [] else byte ∷ []) text
+unfoldable pub with_dollars_doubled : Text → Text
+with_dollars_doubled text = flat_map (λ byte. if byte == 36 then 36 ∷ 36 ∷ [] else byte ∷ []) text

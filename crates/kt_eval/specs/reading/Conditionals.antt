@@ -1,12 +1,12 @@
 -- Which conditions hold (GNU make manual, "Syntax of Conditionals").
 use Rattle.std.specs.Prelude.{Bool, true, false, not, List, [], ◌∷◌, take, drop, bytes_eq, Option, Some, None}
-use Rattle.kt_eval.specs.Prelude.{prefix_len, Kind, directive, kind_of, plain_of, lookup, raw_value, Step, stop}
+use Rattle.kt_eval.specs.Prelude.{prefix_len, Form, directive, form_of, plain_of, lookup, raw_value, Step, stop}
 use Rattle.kt_text.specs.Words.{Text, is_blank, is_nonempty, trimmed_start, words_of}
 use Rattle.kt_syntax.specs.declared.form.Directive.{Directive}
 use Rattle.kt_syntax.specs.declared.form.Directive.TheVariants as word
 use Rattle.kt_rules.specs.declared.fault_kind.FaultKind.TheVariants as kinds
 use Rattle.kt_eval.specs.Outcome.{Gave, ◌>>=◌, done}
-use Rattle.kt_eval.specs.reading.Conditions.{Compared, compared_of}
+use Rattle.kt_eval.specs.reading.Conditions.{ComparedTexts, compared_of}
 use Rattle.kt_eval.specs.expanding.Expansion.{Evaluator, expanded}
 
 abbrev pub bad_conditional : {A : Type 0} → Step A
@@ -23,7 +23,7 @@ is_defined e text = do
   is_set (words_of x)
 
 -- whether two texts are the same after they are expanded
-unfoldable pub are_equal : Evaluator → Option Compared → Step Bool
+unfoldable pub are_equal : Evaluator → Option ComparedTexts → Step Bool
 are_equal e None = bad_conditional
 are_equal e (Some compared) = do
   x ← expanded e compared.first
@@ -50,12 +50,12 @@ abbrev pub text_after_word : Text → Text
 text_after_word text = trimmed_start (drop (prefix_len (λ byte. not (is_blank byte)) text) text)
 
 -- whether a condition holds, from its classified word and the text after it
-abbrev pub worded_holds : Evaluator → Kind → Text → Step Bool
+abbrev pub worded_holds : Evaluator → Form → Text → Step Bool
 worded_holds e (directive word rest) text = holds e word text
 worded_holds e other text = bad_conditional
 
 unfoldable pub text_holds : Evaluator → Text → Step Bool
-text_holds e text = worded_holds e (kind_of (word_before_blank text) false) (text_after_word text)
+text_holds e text = worded_holds e (form_of (word_before_blank text) false) (text_after_word text)
 
 -- whether an `else` is taken: without a condition it always is
 unfoldable pub else_holds : Evaluator → Bool → Text → Step Bool
@@ -64,7 +64,7 @@ else_holds e true rest = text_holds e (plain_of rest)
 
 -- whether the branch of a line is taken: of the first line of a conditional, and of a further one with or without a
 -- condition
-unfoldable pub line_holds : Evaluator → Bool → Kind → Step Bool
+unfoldable pub line_holds : Evaluator → Bool → Form → Step Bool
 line_holds e condition (directive word.Else rest) = else_holds e condition rest
 line_holds e condition (directive word rest) = holds e word (plain_of rest)
 line_holds e condition other = bad_conditional

@@ -6,7 +6,7 @@ use Rattle.std.specs.Option.{option_and_then}
 use Rattle.kt_text.specs.Words.{Text, trimmed_start, trimmed_end}
 
 -- the two texts that are compared
-pub record Compared : Type 0 where
+pub record ComparedTexts : Type 0 where
   pub first : Text
   pub second : Text
 
@@ -25,12 +25,12 @@ abbrev pub trimmed : Text → Text
 trimmed text = trimmed_end (trimmed_start text)
 
 -- the text between a comma and the closing parenthesis
-abbrev pub second_in : Text → Text → Option Compared
+abbrev pub second_in : Text → Text → Option ComparedTexts
 second_in first rest =
     option_map (λ end. record { first = trimmed first; second = trimmed (take end rest) }) (bare_place 41 0 0 rest)
 
 -- two texts in parentheses, given the text after the opening one
-unfoldable pub in_parentheses : Text → Option Compared
+unfoldable pub in_parentheses : Text → Option ComparedTexts
 in_parentheses text = option_and_then (λ comma. second_in (take comma text) (drop (comma + 1) text))
     (bare_place 44 0 0 text)
 
@@ -39,17 +39,18 @@ abbrev pub quoted_by : ℕ → Text → Option (Text × Text)
 quoted_by quote text = option_map (λ end. (take end text, drop (end + 1) text)) (position (λ byte. byte == quote) text)
 
 -- a text in quotes of either kind, and the text after it
-unfoldable pub quoted : Text → Option (Text × Text)
-quoted [] = None
-quoted (byte ∷ text) = if byte == 34 || byte == 39 then quoted_by byte text else None
+unfoldable pub quoted_front : Text → Option (Text × Text)
+quoted_front [] = None
+quoted_front (byte ∷ text) = if byte == 34 || byte == 39 then quoted_by byte text else None
 
 -- two texts in quotes
-unfoldable pub in_quotes : Text → Option Compared
+unfoldable pub in_quotes : Text → Option ComparedTexts
 in_quotes text =
     option_and_then (λ first. option_map
-    (λ second. record { first = first.0; second = second.0 }) (quoted (trimmed_start first.1))) (quoted text)
+    (λ second. record { first = first.0; second = second.0 }) (quoted_front (trimmed_start first.1))) (quoted_front
+    text)
 
 -- the two texts of a condition; text after them is ignored
-unfoldable pub compared_of : Text → Option Compared
+unfoldable pub compared_of : Text → Option ComparedTexts
 compared_of [] = None
 compared_of (byte ∷ text) = if byte == 40 then in_parentheses text else in_quotes (byte ∷ text)

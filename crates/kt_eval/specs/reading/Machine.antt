@@ -1,39 +1,39 @@
 -- The result of reading makefiles, and what a machine holds between two readings (kati's own; GNU make manual, "What
 -- Name to Give Your Makefile").
 use Rattle.std.specs.Prelude.{◌≡◌, ℕ, string_bytes, true, List, [], Option, Some, None, codes, Result, Ok, Err}
-use Rattle.kt_eval.specs.Prelude.{Text, Rule, Deferred, Macro, Stop, Store, IsPrefix, World, Step}
+use Rattle.kt_eval.specs.Prelude.{Text, Entry, Deferred, Macro, Stop, Store, IsPrefix, World, Step}
 use Rattle.kt_eval.specs.declared.stop.Stop.TheVariants as stops
-use Rattle.kt_eval.specs.macros.Macros.{Table, find, put, set_by_makefile}
-use Rattle.kt_eval.specs.Outcome.{Outcome, Gave, StepOver, ◌>>◌, leaving}
+use Rattle.kt_eval.specs.macros.Macros.{Macros, find, put, set_by_makefile}
+use Rattle.kt_eval.specs.Outcome.{StepEnd, Gave, StepOver, ◌>>◌, leaving}
 use Rattle.kt_eval.specs.expanding.Expansion.{Evaluator}
 use Rattle.kt_eval.specs.expanding.Levels.{evaluator}
 use Rattle.kt_eval.specs.reading.Reading.{read_first}
 
 -- the limit of levels, macros, rules and messages so far, and why nothing more is read, if something was refused
-pub record Held : Type 0 where
+pub record Machine : Type 0 where
   pub limit : ℕ
-  pub table : Table
-  pub book : List Rule
+  pub table : Macros
+  pub book : List Entry
   pub said : List Text
   pub refusal : Option Stop
 
 -- a deferred macro, unless it is set
-abbrev pub default_by : Text → Text → Table → Option Macro → Table
+abbrev pub default_by : Text → Text → Macros → Option Macro → Macros
 default_by name value table None = put name (set_by_makefile Deferred value) table
 default_by name value table (Some entry) = table
 
-unfoldable pub with_default : Text → Text → Table → Table
+unfoldable pub with_default : Text → Text → Macros → Macros
 with_default name value table = default_by name value table (find name table)
 
 -- the macros that are there before any makefile is read
-abbrev pub predefined : Table → Table
+abbrev pub predefined : Macros → Macros
 predefined table =
     with_default (codes "MAKE") (codes "make")
     (with_default (codes ".SHELLFLAGS") (codes "-c") (with_default (codes "SHELL") (codes "/bin/sh") table))
 
 -- nothing is read yet
-abbrev pub nothing_read : ℕ → Table → Held
-nothing_read limit table = record { limit = limit; table = predefined table; book = []; said = []; refusal = None }
+abbrev pub new_machine : ℕ → Macros → Machine
+new_machine limit table = record { limit = limit; table = predefined table; book = []; said = []; refusal = None }
 
 -- what a run shows: its messages, and the names that it asks for
 pub record Trace : Type 0 where
@@ -51,15 +51,15 @@ abbrev pub ComesBefore : Trace → Trace → Type 0
 ComesBefore old new = IsPrefix old.said new.said × IsPrefix old.asked new.asked
 
 -- the macros and rules of a makefile
-pub record Read : Type 0 where
-  pub table : Table
-  pub book : List Rule
+pub record Makefile : Type 0 where
+  pub table : Macros
+  pub book : List Entry
 
-abbrev pub read_of : Table → List Rule → Read
+abbrev pub read_of : Macros → List Entry → Makefile
 read_of table book = record { table = table; book = book }
 
 -- before the first line of a reading
-abbrev pub first_world : Read → Trace → World
+abbrev pub first_world : Makefile → Trace → World
 first_world before trace = record {
   table = before.table;
   automatic = [];
@@ -72,24 +72,24 @@ first_world before trace = record {
 }
 
 -- reads the first of these files that exists, and returns what is known then
-abbrev pub first_read : Store → Evaluator → List Text → Step Read
+abbrev pub first_read : Store → Evaluator → List Text → Step Makefile
 first_read store e names = do
   read_first store e names
   λ w. Gave w (read_of w.table w.book)
 
 -- the reading of the first of these files that exists, with these macros and rules before it
-abbrev pub reading : Store → List Text → ℕ → Read → StepOver Trace Read
+abbrev pub reading : Store → List Text → ℕ → Makefile → StepOver Trace Makefile
 reading store names limit before trace =
     leaving trace_of (first_read store (evaluator true store limit) names (first_world before trace))
 
 -- the same, from what a machine holds
-abbrev pub read_by : Held → Read
+abbrev pub read_by : Machine → Makefile
 read_by held = read_of held.table held.book
 
-abbrev pub traced_by : Held → List Text → Trace
+abbrev pub traced_by : Machine → List Text → Trace
 traced_by held asked = traced held.said asked
 
-abbrev pub reading_by : Store → List Text → Held → List Text → Outcome Trace Read
+abbrev pub reading_by : Store → List Text → Machine → List Text → StepEnd Trace Makefile
 reading_by store names held asked = reading store names held.limit (read_by held) (traced_by held asked)
 
 abbrev pub IsDeviceOf : Text → Stop → Type 0

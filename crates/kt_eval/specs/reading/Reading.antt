@@ -2,12 +2,12 @@
 -- Makefiles" and "Conditional Parts of Makefiles").
 use Rattle.std.specs.Prelude.{ℕ, ◌+◌, Bool, true, false, nat_lt, List, [], ◌∷◌, length, map, Option, Some, None}
 use Rattle.std.specs.Prelude.{unwrap_or, if◌then◌else◌}
-use Rattle.kt_eval.specs.Prelude.{slice_get, slice_range, Text, logical_lines_of, nul_line, plain_of, Rule, Store, look}
+use Rattle.kt_eval.specs.Prelude.{slice_get, slice_range, Text, logical_lines_of, nul_line, plain_of, Entry, Store, look}
 use Rattle.kt_eval.specs.Prelude.{World, move_to, ask, set_rule, Step, stop, change}
 use Rattle.kt_text.specs.declared.line.Line.{Line}
 use Rattle.kt_syntax.specs.declared.form.Directive.TheVariants as word
-use Rattle.kt_syntax.specs.Kinds.{Kind, blank, assignment, directive, refused, rule, kind_of, line_kind}
-use Rattle.kt_syntax.specs.Blocks.{Items, Branches, Flat, none, line, fault, definition, conditional, no_branch, branch}
+use Rattle.kt_syntax.specs.Kinds.{Form, blank, assignment, directive, refused, rule, form_of, line_form}
+use Rattle.kt_syntax.specs.Blocks.{Items, Branches, Blocks, none, line, fault, definition, conditional, no_branch, branch}
 use Rattle.kt_syntax.specs.Blocks.{late, blocks_of, tree_of}
 use Rattle.kt_syntax.specs.Roles.{line_text, heads_of}
 use Rattle.kt_syntax.specs.declared.part.Missing.{Missing}
@@ -25,25 +25,25 @@ use Rattle.kt_eval.specs.files.Including.{include_line}
 use Rattle.kt_eval.specs.reading.Rules.{close_rule, rule_line, recipe_line}
 
 -- a logical line as written
-pub record Raw : Type 0 where
+pub record RawLine : Type 0 where
   pub number : ℕ
   pub tab : Bool
   pub text : Text
 
-abbrev pub raw_line : Text → Line → Raw
+abbrev pub raw_line : Text → Line → RawLine
 raw_line text l = record { number = l.number; tab = l.tab; text = line_text text l }
 
 -- the line at a place
-unfoldable pub line_at : List Raw → ℕ → Raw
+unfoldable pub line_at : List RawLine → ℕ → RawLine
 line_at lines place = unwrap_or (slice_get lines place) (record { number = 0; tab = false; text = [] })
 
 -- a text that is read: its source, its lines, and their blocks
-pub record Sheet : Type 0 where
+pub record Page : Type 0 where
   pub source : Source
-  pub lines : List Raw
-  pub blocks : Flat
+  pub lines : List RawLine
+  pub blocks : Blocks
 
-abbrev pub sheet_of : Source → Text → Sheet
+abbrev pub sheet_of : Source → Text → Page
 sheet_of source text = record {
   source = source;
   lines = map (raw_line text) (logical_lines_of text);
@@ -55,7 +55,7 @@ unfoldable pub at_number : Source → ℕ → World → World
 at_number Held number w = w
 at_number (File name) number w = move_to (Some (record { file = name; line = number })) w
 
-abbrev pub at_line : Sheet → ℕ → World → World
+abbrev pub at_line : Page → ℕ → World → World
 at_line sheet place w = at_number sheet.source (line_at sheet.lines place).number w
 
 unfoldable pub read_include : Evaluator → Bool → Text → Step (Unit {0})
@@ -64,7 +64,7 @@ read_include e optional rest = do
   include_line e optional (plain_of rest)
 
 -- a line outside blocks, by its kind; an assignment, an include and a rule line close the open rule
-unfoldable pub read_kind : Evaluator → Text → Kind → Step (Unit {0})
+unfoldable pub read_kind : Evaluator → Text → Form → Step (Unit {0})
 read_kind e text blank = done tt
 read_kind e text (assignment name operator value) = do
   close_rule
@@ -78,31 +78,31 @@ read_kind e text rule = do
   rule_line e text
 
 -- a line that begins with a tab while no rule is open
-unfoldable pub read_bare_tab : Evaluator → Kind → Step (Unit {0})
+unfoldable pub read_bare_tab : Evaluator → Form → Step (Unit {0})
 read_bare_tab e blank = done tt
 read_bare_tab e (assignment name operator value) = assign_line e (plain_of name) operator (plain_of value)
 read_bare_tab e other = stop kinds.RecipeBeforeTarget []
 
 -- a line that begins with a tab belongs to the recipe of the open rule, if there is one
-abbrev pub read_tab_in : Evaluator → Text → Option Rule → Step (Unit {0})
-read_tab_in e text None = read_bare_tab e (line_kind text true)
+abbrev pub read_tab_in : Evaluator → Text → Option Entry → Step (Unit {0})
+read_tab_in e text None = read_bare_tab e (line_form text true)
 read_tab_in e text (Some started) = recipe_line started text
 
 unfoldable pub read_tab : Evaluator → Text → Step (Unit {0})
 read_tab e text w = read_tab_in e text w.rule (set_rule None w)
 
-unfoldable pub read_line : Evaluator → Raw → Step (Unit {0})
-read_line e raw w = if raw.tab then read_tab e raw.text w else read_kind e raw.text (line_kind raw.text false) w
+unfoldable pub read_line : Evaluator → RawLine → Step (Unit {0})
+read_line e raw w = if raw.tab then read_tab e raw.text w else read_kind e raw.text (line_form raw.text false) w
 
 -- the lines from one place up to another, as the value of a define
-abbrev pub body_at : Sheet → ℕ → ℕ → Text
+abbrev pub body_at : Page → ℕ → ℕ → Text
 body_at sheet start end = body_text (map (λ raw. raw.text) (slice_range sheet.lines start end))
 
 -- a define with its body; it closes the open rule
-unfoldable pub read_define : Evaluator → Kind → Text → Step (Unit {0})
+unfoldable pub read_define : Evaluator → Form → Text → Step (Unit {0})
 read_define e (directive word.Define rest) body = do
   close_rule
-  define e rest (kind_of rest true) body
+  define e rest (form_of rest true) body
 read_define e other body = done tt
 
 -- a line that continues or ends no block
@@ -113,7 +113,7 @@ read_stray stray.Endif = stop kinds.StrayEndif []
 read_stray stray.Endef = stop kinds.StrayEndef []
 
 -- the first late `else` of branches, which is met after the branch that was read
-unfoldable pub late_else : Sheet → Branches → Step (Unit {0})
+unfoldable pub late_else : Page → Branches → Step (Unit {0})
 late_else sheet no_branch = done tt
 late_else sheet (branch place condition items others) = late_else sheet others
 late_else sheet (late place items others) = do
@@ -121,14 +121,14 @@ late_else sheet (late place items others) = do
   read_stray stray.LateElse
 
 -- whether the branch of the line at a place is taken
-unfoldable pub branch_holds : Evaluator → Sheet → ℕ → Bool → Step Bool
+unfoldable pub branch_holds : Evaluator → Page → ℕ → Bool → Step Bool
 branch_holds e sheet place condition = do
   change (at_line sheet place)
-  line_holds e condition (line_kind (line_at sheet.lines place).text false)
+  line_holds e condition (line_form (line_at sheet.lines place).text false)
 
 -- items one after another; of a conditional, the first branch that is taken is read
 unfoldable mutual
-  pub read_items : Evaluator → Sheet → Items → Step (Unit {0})
+  pub read_items : Evaluator → Page → Items → Step (Unit {0})
   read_items e sheet none = done tt
   read_items e sheet (line place next) = do
     change (at_line sheet place)
@@ -140,7 +140,7 @@ unfoldable mutual
     read_items e sheet next
   read_items e sheet (definition place body_end next) = do
     change (at_line sheet place)
-    read_define e (line_kind (line_at sheet.lines place).text false) (body_at sheet (place + 1) body_end)
+    read_define e (line_form (line_at sheet.lines place).text false) (body_at sheet (place + 1) body_end)
     read_items e sheet next
   read_items e sheet (conditional place first others next) = do
     chosen ← branch_holds e sheet place true
@@ -148,7 +148,7 @@ unfoldable mutual
     late_else sheet others
     read_items e sheet next
 
-  pub read_branches : Evaluator → Sheet → Branches → Step (Unit {0})
+  pub read_branches : Evaluator → Page → Branches → Step (Unit {0})
   read_branches e sheet no_branch = done tt
   read_branches e sheet (branch place condition items others) = do
     chosen ← branch_holds e sheet place condition
@@ -166,7 +166,7 @@ read_end source (Some (missing.Endef number)) = do
   stop kinds.MissingEndef []
 
 -- the tree of a text's lines; at its end the open rule is closed, and then a missing end is reported
-unfoldable pub read_sheet : Evaluator → Sheet → Step (Unit {0})
+unfoldable pub read_sheet : Evaluator → Page → Step (Unit {0})
 read_sheet e sheet = do
   read_items e sheet (tree_of sheet.blocks.steps)
   close_rule

@@ -17,7 +17,7 @@ use crate::expanding::calls::is_function_name;
 use crate::expanding::function::Function;
 use crate::expanding::text_functions::text_result;
 use crate::files::Files;
-use crate::macros::scope::Scope;
+use crate::macros::scope::MacroScope;
 use crate::state::Frame;
 use crate::stop::Stop;
 use crate::value::Value;
@@ -26,7 +26,7 @@ use kt_rules::FaultKind;
 use kt_text::functions::TextFunction;
 use kt_text::{stripped, words};
 
-impl<'a, M: Scope, F: Files> Evaluation<'a, M, F> {
+impl<'a, M: MacroScope, F: Files> Evaluation<'a, M, F> {
     // Applies a function. The contract lists the parts of `Does`: no lemma can name the arms, so the search closes them
     // alone.
     #[cycle(evaluate)]

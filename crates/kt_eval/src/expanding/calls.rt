@@ -4,8 +4,8 @@ ghost use Rattle.std.specs.Prelude.{drop, take, Some, position, MatchOption, tru
 ghost use Rattle.std.specs.List.{after_first, before_first, list_all, list_any, position_or_len};
 ghost use Rattle.std.specs.Str.{bytes_eq};
 ghost use Rattle.kt_text.specs.Words.{is_separator};
-ghost use Rattle.kt_eval.specs.expanding.Calls.{arguments_of, asked_by, asked_of, asked_view, byte_name, closer};
-ghost use Rattle.kt_eval.specs.expanding.Calls.{commas, cuts, function_of, is_function_name, is_name_byte};
+ghost use Rattle.kt_eval.specs.expanding.Calls.{arguments_of, asked_of, asked_view, byte_name, closer, request_by_mark};
+ghost use Rattle.kt_eval.specs.expanding.Calls.{commas, cuts_arguments, function_of, is_function_name, is_name_byte};
 ghost use Rattle.kt_eval.specs.expanding.Calls.{is_refused_function, may_cut, names_plainly, naming_of, nested, one_less};
 ghost use Rattle.kt_eval.specs.expanding.Calls.{opener, other_function};
 ghost use Rattle.kt_eval.specs.inner.Views.{naming_view};
@@ -19,7 +19,7 @@ use std::alloc::{AllocError, Global};
 
 /// What a reference asks for.
 #[derive(Drop)]
-pub enum Asked<'a> {
+pub enum Request<'a> {
     /// A call of a function with its arguments, unexpanded.
     Calls(Function, Vec<&'a [u8]>),
     /// A call of a function with this name, which is refused.
@@ -28,14 +28,14 @@ pub enum Asked<'a> {
     Refers(&'a [u8]),
 }
 
-impl<'a> Asked<'a> {
+impl<'a> Request<'a> {
     /// What a reference asks for, from its mark and its body.
-    #[tactic(auto, unfolding(crate::specs::expanding::Calls::asked_by))]
-    pub fn by(alloc: Global, mark: Mark, body: &'a [u8]) -> Result<Asked<'a>, AllocError>
-        ensures { IfOk result (λ asked. asked_view asked ≡ asked_by mark body.now) }
+    #[tactic(auto, unfolding(crate::specs::expanding::Calls::request_by_mark))]
+    pub fn by(alloc: Global, mark: Mark, body: &'a [u8]) -> Result<Request<'a>, AllocError>
+        ensures { IfOk result (λ asked. asked_view asked ≡ request_by_mark mark body.now) }
     {
         match mark {
-            Mark::Byte => Ok(Asked::Refers(byte_name(body))),
+            Mark::Byte => Ok(Request::Refers(byte_name(body))),
             Mark::Parentheses | Mark::Braces => asked_of(alloc, mark, body),
         }
     }
@@ -57,21 +57,21 @@ fn byte_name(body: &[u8]) -> &[u8]
 
 // A function's name directly after the opening mark, with a separator after it, makes a call.
 #[tactic(auto, unfolding(crate::specs::expanding::Calls::asked_of))]
-fn asked_of(alloc: Global, mark: Mark, body: &[u8]) -> Result<Asked<'_>, AllocError>
+fn asked_of(alloc: Global, mark: Mark, body: &[u8]) -> Result<Request<'_>, AllocError>
     ensures { IfOk result (λ asked. asked_view asked ≡ asked_of mark body.now) }
 {
     let place = word_end(body);
     if place == body.len() {
-        return Ok(Asked::Refers(body));
+        return Ok(Request::Refers(body));
     }
     let name = &body[..place];
     match function_of(name) {
         Some(function) => {
             let rest = stripped_start(&body[place..]);
-            Ok(Asked::Calls(function, arguments_of(alloc, mark, commas(function), rest)?))
+            Ok(Request::Calls(function, arguments_of(alloc, mark, commas(function), rest)?))
         }
-        None if is_refused_function(name) => Ok(Asked::Refuses(name)),
-        None => Ok(Asked::Refers(body)),
+        None if is_refused_function(name) => Ok(Request::Refuses(name)),
+        None => Ok(Request::Refers(body)),
     }
 }
 
@@ -147,7 +147,7 @@ fn push<'a>(arguments: &mut Vec<&'a [u8]>, argument: &'a [u8]) -> Result<(), All
 
 // Whether a byte cuts: a comma that isn't nested, if one more may cut.
 fn cuts(byte: u8, depth: usize, left: Option<usize>) -> bool
-    ensures { result ≡ cuts byte depth left }
+    ensures { result ≡ cuts_arguments byte depth left }
 {
     byte == b',' && depth == 0 && may_cut(left)
 }

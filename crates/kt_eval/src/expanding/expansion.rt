@@ -8,16 +8,16 @@ ghost use Rattle.std.specs.Cow.{cow_slice_items};
 ghost use Rattle.kt_syntax.specs.Terms.{token_of};
 ghost use Rattle.kt_eval.specs.State.{lookup};
 ghost use Rattle.kt_eval.specs.inner.Doing.{Does};
-ghost use Rattle.kt_eval.specs.inner.Plain.{appended};
+ghost use Rattle.kt_eval.specs.inner.Plain.{with_term};
 ghost use Rattle.kt_eval.specs.expanding.Calls.{asked_view, naming_of};
 ghost use Rattle.kt_eval.specs.expanding.Expansion.{apply, expanded, referred, term_of, value_named, value_of};
 
 use crate::evaluation::Evaluation;
-use crate::expanding::calls::{Asked, Naming, name_in};
+use crate::expanding::calls::{Naming, Request, name_in};
 use crate::files::Files;
 use crate::macros::has_dollar;
-use crate::macros::scope::Scope;
-use crate::state::Left;
+use crate::macros::scope::MacroScope;
+use crate::state::TermRest;
 use crate::stop::Stop;
 use kt_rules::FaultKind;
 use kt_syntax::{Term, Unterminated, terms};
@@ -27,7 +27,7 @@ use std::borrow::CowSlice;
 // An expansion is mostly longer than its text, by less than this.
 const SPARE: usize = 64;
 
-impl<'a, M: Scope, F: Files> Evaluation<'a, M, F> {
+impl<'a, M: MacroScope, F: Files> Evaluation<'a, M, F> {
     // Expands a text one level deeper than its caller.
     #[cycle(evaluate)]
     #[tactic(auto, using(crate::proofs::LevelLemmas::evaluator_above), unfolding(crate::proofs::LevelLemmas::opened))]
@@ -71,7 +71,7 @@ impl<'a, M: Scope, F: Files> Evaluation<'a, M, F> {
 
     // Appends the expansion of a term. If it needs no further level, no text is allocated for it.
     #[cycle(evaluate)]
-    #[tactic(auto, using(crate::proofs::Steps::appended_goes), unfolding(crate::specs::inner::Plain::appended))]
+    #[tactic(auto, using(crate::proofs::Steps::appended_goes), unfolding(crate::specs::inner::Plain::with_term))]
     pub(crate) fn put_term(
         &mut self,
         below: u64,
@@ -79,16 +79,16 @@ impl<'a, M: Scope, F: Files> Evaluation<'a, M, F> {
         out: &mut Vec<u8>,
     ) -> Result<(), Stop>
         ensures { Does (λ _. out.new.items) M.writable below
-            (λ e. appended e out.old.items (token_of term.entry)) result self.old self.new }
+            (λ e. with_term e out.old.items (token_of term.entry)) result self.old self.new }
     {
         match self.put_plain(below, term, out)? {
-            Left::Nothing => Ok(()),
-            Left::Value(value) => {
+            TermRest::Nothing => Ok(()),
+            TermRest::Value(value) => {
                 let x = self.expand(below, value.as_slice())?;
                 out.extend_from_slice(&x)?;
                 Ok(())
             }
-            Left::Whole => {
+            TermRest::Whole => {
                 let x = self.expand_term(below, term)?;
                 out.extend_from_slice(&x)?;
                 Ok(())
@@ -109,7 +109,7 @@ impl<'a, M: Scope, F: Files> Evaluation<'a, M, F> {
             Ok(Term::Lit(bytes)) => Ok(Vec::from_slice(self.alloc, bytes)?),
             Ok(Term::Dollar) => Ok(Vec::from_slice(self.alloc, b"$")?),
             Ok(Term::Ref(mark, body)) => {
-                let asked = Asked::by(self.alloc, mark, body)?;
+                let asked = Request::by(self.alloc, mark, body)?;
                 self.refer(below, asked)
             }
             Err(Unterminated) => {
@@ -120,16 +120,16 @@ impl<'a, M: Scope, F: Files> Evaluation<'a, M, F> {
 
     #[cycle(evaluate)]
     #[tactic(auto, using(crate::proofs::Steps::value_named_goes), unfolding(crate::proofs::Steps::referred_open))]
-    pub(crate) fn refer(&mut self, below: u64, asked: Asked<'_>) -> Result<Vec<u8>, Stop>
+    pub(crate) fn refer(&mut self, below: u64, asked: Request<'_>) -> Result<Vec<u8>, Stop>
         ensures { Does (λ v. v.items) M.writable below
             (λ e. referred e (asked_view asked.entry)) result self.old self.new }
     {
         match asked {
-            Asked::Calls(function, arguments) => self.apply(below, function, &arguments),
-            Asked::Refuses(name) => {
+            Request::Calls(function, arguments) => self.apply(below, function, &arguments),
+            Request::Refuses(name) => {
                 Err(Stop::Fault(self.fault(FaultKind::RefusedFunction, name)?))
             }
-            Asked::Refers(body) => {
+            Request::Refers(body) => {
                 if !has_dollar(body) {
                     return self.value_named(below, body);
                 }

@@ -4,15 +4,15 @@ ghost use Rattle.std.specs.Prelude.{◌≡◌, ◌<◌, ◌≤◌, ◌+◌, ◌*
 ghost use Rattle.std.specs.Char.{digit_value, is_ascii_digit};
 ghost use Rattle.std.specs.List.{list_all};
 ghost use Rattle.std.specs.Str.Parse.{digits_value};
-ghost use Rattle.kt_eval.specs.State.{argument, innermost, is_digits, is_padded, seen};
+ghost use Rattle.kt_eval.specs.State.{innermost_value, is_digits, is_padded, numbered_argument, seen};
 
 use crate::state::Frame;
 use crate::value::Value;
 
 // The value of a name in the innermost binding that has one.
-#[tactic(auto, unfolding(crate::specs::State::innermost))]
+#[tactic(auto, unfolding(crate::specs::State::innermost_value))]
 pub(crate) fn innermost<'f>(frames: &'f [Frame], name: &[u8]) -> Option<&'f [u8]>
-    ensures { option_map (λ value. value.now) result ≡ innermost name.now None frames.now }
+    ensures { option_map (λ value. value.now) result ≡ innermost_value name.now None frames.now }
 {
     let mut left = frames;
     while let Some((frame, outer)) = left.split_last() {
@@ -70,7 +70,7 @@ fn is_padded(name: &[u8]) -> bool
 // The argument with this number, or an empty text after the last.
 fn argument<'f>(arguments: &'f [Value], name: &[u8]) -> &'f [u8]
     requires { list_all is_ascii_digit name.now ≡ true }
-    ensures { result.now ≡ argument name.now arguments.now }
+    ensures { result.now ≡ numbered_argument name.now arguments.now }
 {
     if is_padded(name) {
         return b"";

@@ -6,7 +6,7 @@ use crate::evaluation::Evaluation;
 use crate::files::{FileFault, Files};
 use crate::macros::Macros;
 use crate::macros::automatic::Automatic;
-use crate::macros::scope::Frozen;
+use crate::macros::scope::FrozenMacros;
 use crate::reading::recipe_texts::RecipeTexts;
 use crate::stop::Stop;
 use kt_list::Sequence;
@@ -38,7 +38,7 @@ impl Macros {
         };
         let mut evaluation = Evaluation {
             alloc,
-            macros: Frozen {
+            macros: FrozenMacros {
                 macros: self,
                 automatic,
             },

@@ -15,10 +15,10 @@ ghost use Rattle.kt_eval.specs.reading.Conditionals.{are_equal};
 use crate::evaluation::Evaluation;
 use crate::expanding::calls::names_plainly;
 use crate::files::Files;
-use crate::macros::scope::Scope;
+use crate::macros::scope::MacroScope;
 use crate::macros::{has_dollar, is_plain};
-use crate::reading::conditions::Compared;
-use crate::state::Found;
+use crate::reading::conditions::ComparedTexts;
+use crate::state::FoundValue;
 use kt_syntax::{Term, terms};
 
 // The name of a macro, if the text is just a reference to it.
@@ -40,7 +40,7 @@ fn sole_name(text: &[u8]) -> Option<&[u8]>
 
 // Whether what was found for a name is this text; `None` where it has to be expanded first.
 #[tactic(auto, unfolding(crate::proofs::Steps::value_open))]
-fn is_found(below: u64, found: Option<Found>, text: &[u8]) -> Option<bool>
+fn is_found(below: u64, found: Option<FoundValue>, text: &[u8]) -> Option<bool>
     ensures plain { IfSome result (λ _. None ≡ still_deferred below found) }
     ensures same { IfSome result (λ same. same ≡ bytes_eq (put_of below found) text.now) }
 {
@@ -56,7 +56,7 @@ fn is_found(below: u64, found: Option<Found>, text: &[u8]) -> Option<bool>
     }
 }
 
-impl<'a, M: Scope, F: Files> Evaluation<'a, M, F> {
+impl<'a, M: MacroScope, F: Files> Evaluation<'a, M, F> {
     // Whether the value of a name is this text; `None` where it has to be expanded first, or was refused.
     fn has_value(&self, below: u64, name: &[u8], text: &[u8]) -> Option<bool>
         ensures plain { IfSome result (λ _. None ≡ still_deferred below (lookup name.now self.now.world)) }
@@ -71,7 +71,11 @@ impl<'a, M: Scope, F: Files> Evaluation<'a, M, F> {
 
     // Whether two texts are the same after they are expanded, where the second has no dollar and the first is a
     // reference to a value that needs no expansion; `None` for other texts.
-    pub(crate) fn plainly_equal(&self, below: u64, compared: Option<Compared<'_>>) -> Option<bool>
+    pub(crate) fn plainly_equal(
+        &self,
+        below: u64,
+        compared: Option<ComparedTexts<'_>>,
+    ) -> Option<bool>
         ensures { IfSome result (λ same. (reads : Bool) → (store : Store)
             → are_equal (evaluator reads store below) (option_map compared_view compared.entry) self.now.world
             ≡ Gave self.now.world same) }

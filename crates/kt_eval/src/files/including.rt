@@ -3,7 +3,7 @@ ghost use Rattle.std.specs.Prelude.{◌≡◌, ◌==◌, ◌||◌, ◌<◌, Matc
 ghost use Rattle.std.specs.Str.{is_utf8};
 ghost use Rattle.std.specs.List.{list_any};
 ghost use Rattle.kt_text.specs.Words.{words_of};
-ghost use Rattle.kt_eval.specs.files.Including.{each_include, include_line, include_named, is_pattern};
+ghost use Rattle.kt_eval.specs.files.Including.{each_include, include_line, include_named, is_shell_pattern};
 ghost use Rattle.kt_eval.specs.files.Files.{AgreeWith, Store};
 ghost use Rattle.kt_eval.specs.reading.Reading.{included, read_file, read_first, read_included};
 ghost use Rattle.kt_eval.specs.inner.Doing.{Does, DoesIn};
@@ -13,7 +13,7 @@ ghost use Rattle.kt_eval.specs.Step.{Blames, GoesOn, Keeps, files_of};
 
 use crate::evaluation::Evaluation;
 use crate::files::Files;
-use crate::macros::scope::Scope;
+use crate::macros::scope::MacroScope;
 use crate::reading::page::Source;
 use crate::stop::Stop;
 use kt_list::Shared;
@@ -25,9 +25,9 @@ use std::str::from_utf8;
 pub const LARGEST_FILE: usize = 16_777_216;
 
 // Whether the name is a shell pattern.
-#[tactic(auto, unfolding(crate::specs::files::Including::is_pattern))]
+#[tactic(auto, unfolding(crate::specs::files::Including::is_shell_pattern))]
 fn is_pattern(name: &[u8]) -> bool
-    ensures { result ≡ is_pattern name.now }
+    ensures { result ≡ is_shell_pattern name.now }
 {
     match name {
         [] => false,
@@ -54,7 +54,7 @@ fn has_wildcard(name: &[u8]) -> bool
         .any(|byte| *byte == b'*' || *byte == b'?' || *byte == b'[')
 }
 
-impl<'a, M: Scope, F: Files> Evaluation<'a, M, F> {
+impl<'a, M: MacroScope, F: Files> Evaluation<'a, M, F> {
     #[cycle(evaluate)]
     #[tactic(auto, using(crate::proofs::Steps::each_include_goes), unfolding(crate::specs::files::Including::include_line))]
     pub(crate) fn include_line(

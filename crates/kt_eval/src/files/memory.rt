@@ -20,9 +20,9 @@ pub struct MemFiles {
 
 impl Model for MemFiles {
     ghost use Rattle.std.specs.Prelude.{map, string_bytes};
-    ghost use Rattle.kt_eval.specs.files.Memory.{Memory};
+    ghost use Rattle.kt_eval.specs.files.Memory.{MemFiles};
 
-    ghost Value = { Memory };
+    ghost Value = { MemFiles };
 
     ghost view = { λ s. record {
       store = map (λ p. (string_bytes p.0, p.1.items)) s.pairs.items;
@@ -36,7 +36,7 @@ impl Model for MemFiles {
 
 impl MemFiles {
     ghost use Rattle.std.specs.Prelude.{◌≡◌, [], map, string_bytes};
-    ghost use Rattle.kt_eval.specs.files.Memory.{Memory};
+    ghost use Rattle.kt_eval.specs.files.Memory.{MemFiles as MemFilesSeen};
 
     /// The bytes of the file with each name; of two pairs with one name the first counts. The nth read, counted from 1,
     /// fails; with 0 none does.

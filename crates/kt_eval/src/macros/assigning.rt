@@ -1,6 +1,6 @@
 //! What an assignment does, from its operator and the old macro.
 ghost use Rattle.std.specs.Prelude.{◌≡◌, IfOk, option_map};
-ghost use Rattle.kt_eval.specs.macros.Macros.{appending, assigning, reassigning, assigning_new, doubled};
+ghost use Rattle.kt_eval.specs.macros.Macros.{appending, assigning, reassigning, assigning_new, with_dollars_doubled};
 ghost use Rattle.kt_eval.specs.inner.Views.{assigning_view};
 
 use crate::macros::{Flavour, Macro, Origin};
@@ -74,9 +74,9 @@ fn appending(old: &Macro) -> Result<Assigning, AllocError>
 }
 
 // A text with each dollar doubled.
-#[tactic(auto, unfolding(crate::specs::macros::Macros::doubled))]
+#[tactic(auto, unfolding(crate::specs::macros::Macros::with_dollars_doubled))]
 pub(crate) fn doubled(alloc: Global, text: &[u8]) -> Result<Vec<u8>, AllocError>
-    ensures { IfOk result (λ whole. whole.items ≡ doubled text.now) }
+    ensures { IfOk result (λ whole. whole.items ≡ with_dollars_doubled text.now) }
 {
     let mut whole = Vec::new(alloc);
     for byte in text {

@@ -3,7 +3,7 @@ ghost use Rattle.std.specs.Prelude.{◌≡◌, ◌==◌, ◌||◌, length, true}
 ghost use Rattle.std.specs.List.{list_any};
 ghost use Rattle.kt_text.specs.Words.{is_separator};
 ghost use Rattle.kt_syntax.specs.Comments.{plain_of};
-ghost use Rattle.kt_syntax.specs.Kinds.{kind_view};
+ghost use Rattle.kt_syntax.specs.Kinds.{line_form_view};
 ghost use Rattle.kt_eval.specs.macros.Assignments.{assign, assign_line, assign_named, define, is_bad_name};
 ghost use Rattle.kt_eval.specs.inner.Doing.{Does};
 ghost use Rattle.kt_eval.specs.Step.{Keeps};
@@ -13,7 +13,7 @@ use crate::evaluation::Evaluation;
 use crate::files::Files;
 use crate::macros::Flavour;
 use crate::macros::assigning::{Assigning, doubled};
-use crate::macros::scope::Scope;
+use crate::macros::scope::MacroScope;
 use crate::reading::conditions::trimmed;
 use crate::stop::Stop;
 use kt_rules::FaultKind;
@@ -33,7 +33,7 @@ fn has_separator(name: &[u8]) -> bool
     name.iter().any(|byte| is_separator(*byte))
 }
 
-impl<'a, M: Scope, F: Files> Evaluation<'a, M, F> {
+impl<'a, M: MacroScope, F: Files> Evaluation<'a, M, F> {
     #[cycle(evaluate)]
     #[tactic(auto, unfolding(crate::specs::macros::Assignments::assign))]
     pub(crate) fn assign(
@@ -118,7 +118,7 @@ impl<'a, M: Scope, F: Files> Evaluation<'a, M, F> {
     ) -> Result<(), Stop>
         requires { M.writable ≡ true }
         ensures { Does (λ u. u) M.writable below
-            (λ e. define e rest.now (kind_view form.entry) body.now) result self.old self.new }
+            (λ e. define e rest.now (line_form_view form.entry) body.now) result self.old self.new }
     {
         match form {
             Form::Assignment(name, operator, _) => {

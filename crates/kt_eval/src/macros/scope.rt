@@ -2,9 +2,9 @@
 ghost use Rattle.std.specs.Prelude.{◌≡◌, ◌++◌, ◌∷◌, [], Bool, List, codes, false, option_map, IfOk, IfSome};
 ghost use Rattle.std.specs.Prelude.{MatchOption, OnErr, OnOk};
 ghost use Rattle.kt_rules.specs.Book.{added, refusal_of};
-ghost use Rattle.kt_rules.specs.Entry.{Rule};
+ghost use Rattle.kt_rules.specs.Entry.{Entry as EntrySeen};
 ghost use Rattle.kt_rules.specs.Refusals.{GivesExpected};
-ghost use Rattle.kt_eval.specs.macros.Macros.{Table, find, put, set_by_makefile};
+ghost use Rattle.kt_eval.specs.macros.Macros.{Macros as MacrosSeen, find, put, set_by_makefile};
 ghost use Rattle.kt_eval.specs.State.{unbound};
 ghost use Rattle.kt_eval.specs.files.Files.{Store};
 ghost use Rattle.kt_eval.specs.declared.macros.Macro.{Macro};
@@ -12,21 +12,21 @@ ghost use Rattle.kt_eval.specs.inner.Plain.{put_of, still_deferred};
 
 use crate::macros::automatic::Automatic;
 use crate::macros::{Flavour, Macro, Macros};
-use crate::state::Found;
+use crate::state::FoundValue;
 use crate::value::Value;
 use kt_rules::{Book, Entry, RuleFault, Warnings};
 use std::alloc::AllocError;
 
 /// Macros, with automatic ones before them, and rules.
-pub(crate) trait Scope {
+pub(crate) trait MacroScope {
     /// The macros that were set.
-    ghost table: { Self → Table };
+    ghost table: { Self → MacrosSeen };
 
     /// The automatic macros, which hide the others.
     ghost automatic: { Self → Store };
 
     /// The rules that were closed.
-    ghost book: { Self → List Rule };
+    ghost book: { Self → List EntrySeen };
 
     /// Whether macros may be set and rules made: a makefile may, a recipe may not.
     ghost writable: { Bool };
@@ -34,7 +34,7 @@ pub(crate) trait Scope {
     fn is_writable(&self) -> bool
         ensures { result ≡ writable };
 
-    fn find(&self, name: &[u8]) -> Result<Option<Found>, AllocError>
+    fn find(&self, name: &[u8]) -> Result<Option<FoundValue>, AllocError>
         ensures { IfOk result (λ found. found ≡ unbound name.now (automatic self.now) (table self.now)) };
 
     // Appends the value of a name if it needs no expansion with `below` levels left, and otherwise returns it.
@@ -89,7 +89,7 @@ pub struct Makefile {
     pub book: Book,
 }
 
-impl Scope for Makefile {
+impl MacroScope for Makefile {
     ghost use Rattle.std.specs.Prelude.{[], true};
 
     ghost table = { λ s. s.macros };
@@ -104,7 +104,7 @@ impl Scope for Makefile {
         true
     }
 
-    fn find(&self, name: &[u8]) -> Result<Option<Found>, AllocError> {
+    fn find(&self, name: &[u8]) -> Result<Option<FoundValue>, AllocError> {
         self.macros.found(name)
     }
 
@@ -142,12 +142,12 @@ impl Scope for Makefile {
 
 /// The macros of a makefile and the automatic ones of a recipe, neither of which changes.
 #[derive(Drop)]
-pub(crate) struct Frozen<'a, A: Automatic> {
+pub(crate) struct FrozenMacros<'a, A: Automatic> {
     pub(crate) macros: &'a Macros,
     pub(crate) automatic: &'a A,
 }
 
-impl<'a, A: Automatic> Scope for Frozen<'a, A> {
+impl<'a, A: Automatic> MacroScope for FrozenMacros<'a, A> {
     ghost use Rattle.std.specs.Prelude.{[], false};
 
     ghost table = { λ s. s.macros.now };
@@ -162,11 +162,11 @@ impl<'a, A: Automatic> Scope for Frozen<'a, A> {
         false
     }
 
-    fn find(&self, name: &[u8]) -> Result<Option<Found>, AllocError> {
+    fn find(&self, name: &[u8]) -> Result<Option<FoundValue>, AllocError> {
         match self.automatic.value(name)? {
             Some(value) => {
                 let macros = self.macros;
-                Ok(Some(Found {
+                Ok(Some(FoundValue {
                     flavour: Flavour::Immediate,
                     value: Value::copied(macros.alloc, value.as_slice())?,
                 }))

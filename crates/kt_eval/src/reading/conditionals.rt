@@ -1,7 +1,7 @@
 //! Conditions of conditionals.
 ghost use Rattle.std.specs.Prelude.{◌≡◌, Bool, option_map, bytes_eq, true};
 ghost use Rattle.kt_text.specs.Words.{is_nonempty, words_of};
-ghost use Rattle.kt_syntax.specs.Kinds.{kind_view};
+ghost use Rattle.kt_syntax.specs.Kinds.{line_form_view};
 ghost use Rattle.kt_eval.specs.reading.Conditionals.{are_equal, bad_conditional, else_holds, holds, is_defined, is_set};
 ghost use Rattle.kt_eval.specs.reading.Conditionals.{line_holds, text_holds, worded_holds};
 ghost use Rattle.kt_eval.specs.State.{lookup, raw_value};
@@ -12,14 +12,16 @@ ghost use Rattle.kt_eval.specs.inner.Views.{compared_view};
 
 use crate::evaluation::Evaluation;
 use crate::files::Files;
-use crate::macros::scope::Scope;
-use crate::reading::conditions::{Compared, compared_texts, text_after_word, word_before_blank};
+use crate::macros::scope::MacroScope;
+use crate::reading::conditions::{
+    ComparedTexts, compared_texts, text_after_word, word_before_blank,
+};
 use crate::stop::Stop;
 use kt_rules::FaultKind;
 use kt_syntax::{Directive, Form, classify_text, plain};
 use kt_text::words;
 
-impl<'a, M: Scope, F: Files> Evaluation<'a, M, F> {
+impl<'a, M: MacroScope, F: Files> Evaluation<'a, M, F> {
     fn bad_conditional(&self) -> Result<bool, Stop>
         ensures gives { Gives (λ b. b) result self.now.world (bad_conditional self.now.world) }
         ensures cut { IfCut result (GoesOn self.now.world (left_of (bad_conditional {A = Bool} self.now.world))) }
@@ -63,7 +65,7 @@ impl<'a, M: Scope, F: Files> Evaluation<'a, M, F> {
     pub(crate) fn are_equal(
         &mut self,
         below: u64,
-        compared: Option<Compared<'_>>,
+        compared: Option<ComparedTexts<'_>>,
     ) -> Result<bool, Stop>
         requires { M.writable ≡ true }
         ensures { Does (λ b. b) M.writable below
@@ -81,7 +83,7 @@ impl<'a, M: Scope, F: Files> Evaluation<'a, M, F> {
     pub(crate) fn expanded_equal(
         &mut self,
         below: u64,
-        compared: Option<Compared<'_>>,
+        compared: Option<ComparedTexts<'_>>,
     ) -> Result<bool, Stop>
         requires { M.writable ≡ true }
         ensures { Does (λ b. b) M.writable below
@@ -120,7 +122,7 @@ impl<'a, M: Scope, F: Files> Evaluation<'a, M, F> {
     ) -> Result<bool, Stop>
         requires { M.writable ≡ true }
         ensures { Does (λ b. b) M.writable below
-            (λ e. worded_holds e (kind_view form.entry) text.now) result self.old self.new }
+            (λ e. worded_holds e (line_form_view form.entry) text.now) result self.old self.new }
     {
         match form {
             Form::Directive(word, _) => self.holds(below, word, text),
@@ -170,7 +172,7 @@ impl<'a, M: Scope, F: Files> Evaluation<'a, M, F> {
     ) -> Result<bool, Stop>
         requires { M.writable ≡ true }
         ensures { Does (λ b. b) M.writable below
-            (λ e. line_holds e condition (kind_view form.entry)) result self.old self.new }
+            (λ e. line_holds e condition (line_form_view form.entry)) result self.old self.new }
     {
         match form {
             Form::Directive(Directive::Else, rest) => self.else_holds(below, condition, rest),

@@ -3,7 +3,7 @@ ghost use Rattle.std.specs.Prelude.{◌≡◌, ◌<◌, ◌≤◌, ◌==◌, ◌
 ghost use Rattle.std.specs.List.{prefix_len};
 ghost use Rattle.kt_text.specs.Words.{is_blank};
 ghost use Rattle.kt_eval.specs.reading.Conditionals.{text_after_word, word_before_blank};
-ghost use Rattle.kt_eval.specs.reading.Conditions.{bare_place, compared_of, in_parentheses, in_quotes, quoted};
+ghost use Rattle.kt_eval.specs.reading.Conditions.{bare_place, compared_of, in_parentheses, in_quotes, quoted_front};
 ghost use Rattle.kt_eval.specs.reading.Conditions.{quoted_by, second_in, trimmed};
 ghost use Rattle.kt_eval.specs.inner.Views.{compared_view};
 
@@ -11,14 +11,14 @@ use kt_text::{is_blank, trim_end, trim_start};
 
 /// Two texts that are compared.
 #[derive(Clone, Copy)]
-pub(crate) struct Compared<'a> {
+pub(crate) struct ComparedTexts<'a> {
     pub first: &'a [u8],
     pub second: &'a [u8],
 }
 
 // The two texts, in parentheses or in quotes. Text after them is ignored.
 #[tactic(auto, unfolding(crate::specs::reading::Conditions::compared_of))]
-pub(crate) fn compared_texts(text: &[u8]) -> Option<Compared<'_>>
+pub(crate) fn compared_texts(text: &[u8]) -> Option<ComparedTexts<'_>>
     ensures { option_map compared_view result ≡ compared_of text.now }
 {
     match text {
@@ -29,18 +29,18 @@ pub(crate) fn compared_texts(text: &[u8]) -> Option<Compared<'_>>
 }
 
 #[tactic(auto, unfolding(crate::specs::reading::Conditions::in_parentheses))]
-fn in_parentheses(text: &[u8]) -> Option<Compared<'_>>
+fn in_parentheses(text: &[u8]) -> Option<ComparedTexts<'_>>
     ensures { option_map compared_view result ≡ in_parentheses text.now }
 {
     let comma = bare_place(b',', text)?;
     second_in(&text[..comma], &text[comma + 1..])
 }
 
-fn second_in<'a>(first: &'a [u8], rest: &'a [u8]) -> Option<Compared<'a>>
+fn second_in<'a>(first: &'a [u8], rest: &'a [u8]) -> Option<ComparedTexts<'a>>
     ensures { option_map compared_view result ≡ second_in first.now rest.now }
 {
     let end = bare_place(b')', rest)?;
-    Some(Compared {
+    Some(ComparedTexts {
         first: trimmed(first),
         second: trimmed(&rest[..end]),
     })
@@ -70,18 +70,18 @@ fn bare_place(wanted: u8, text: &[u8]) -> Option<usize>
 }
 
 #[tactic(auto, unfolding(crate::specs::reading::Conditions::in_quotes))]
-fn in_quotes(text: &[u8]) -> Option<Compared<'_>>
+fn in_quotes(text: &[u8]) -> Option<ComparedTexts<'_>>
     ensures { option_map compared_view result ≡ in_quotes text.now }
 {
     let (first, rest) = quoted(text)?;
     let (second, _) = quoted(trim_start(rest))?;
-    Some(Compared { first, second })
+    Some(ComparedTexts { first, second })
 }
 
 // A text in quotes, and the text after it.
-#[tactic(auto, unfolding(crate::specs::reading::Conditions::quoted))]
+#[tactic(auto, unfolding(crate::specs::reading::Conditions::quoted_front))]
 fn quoted(text: &[u8]) -> Option<(&[u8], &[u8])>
-    ensures { option_map (λ cut. (cut.0.now, cut.1.now)) result ≡ quoted text.now }
+    ensures { option_map (λ cut. (cut.0.now, cut.1.now)) result ≡ quoted_front text.now }
 {
     match text {
         [quote, rest @ ..] if is_quote(*quote) => quoted_by(*quote, rest),

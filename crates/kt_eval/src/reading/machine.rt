@@ -3,7 +3,7 @@
 ghost use Rattle.std.specs.Prelude.{◌≡◌, ◌≤◌, IfErr, IfOk, None, OnOk, Some, map, true};
 ghost use Rattle.kt_eval.specs.files.Files.{AgreeWith, AnswersGrow, Store};
 ghost use Rattle.kt_list.specs.Prefixes.{IsPrefix};
-ghost use Rattle.kt_eval.specs.reading.Machine.{ComesBefore, IsCopy, Remembers, Repeats, nothing_read, read_by};
+ghost use Rattle.kt_eval.specs.reading.Machine.{ComesBefore, IsCopy, Remembers, Repeats, new_machine, read_by};
 ghost use Rattle.kt_eval.specs.reading.Machine.{read_of, reading, reading_by, traced, traced_by, with_default};
 ghost use Rattle.kt_eval.specs.Outcome.{Gives, IfCut, left_of};
 ghost use Rattle.kt_eval.specs.Step.{Blames};
@@ -44,9 +44,9 @@ pub struct Machine {
 }
 
 impl Model for Machine {
-    ghost use Rattle.kt_eval.specs.reading.Machine.{Held};
+    ghost use Rattle.kt_eval.specs.reading.Machine.{Machine};
 
-    ghost Value = { Held };
+    ghost Value = { Machine };
 
     ghost view = { λ machine. record {
       limit = machine.limit;
@@ -60,7 +60,7 @@ impl Model for Machine {
 impl Machine {
     /// A machine that has read nothing yet. Sets `SHELL`, `.SHELLFLAGS` and `MAKE`, unless they are set.
     pub fn new(alloc: Global, macros: Macros, limit: u64) -> Result<Machine, AllocError>
-        ensures { IfOk result (λ machine. machine ≡ nothing_read limit macros) }
+        ensures { IfOk result (λ machine. machine ≡ new_machine limit macros) }
     {
         let mut macros = macros;
         set_default(alloc, &mut macros, b"SHELL", b"/bin/sh")?;

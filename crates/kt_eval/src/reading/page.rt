@@ -5,8 +5,8 @@ ghost use Rattle.std.specs.Prelude.{◌≡◌, ◌+◌, ◌<◌, ◌≤◌, ◌^
 ghost use Rattle.std.specs.List.{slice_get, slice_range};
 ghost use Rattle.kt_syntax.specs.Reading.{IsAhead, ReadsOn, left_at};
 ghost use Rattle.kt_syntax.specs.Blocks.{none, tree_of};
-ghost use Rattle.kt_syntax.specs.declared.step.Step.TheVariants as step;
-ghost use Rattle.kt_syntax.specs.Kinds.{blank, line_kind};
+ghost use Rattle.kt_syntax.specs.declared.step.BlockStep.TheVariants as step;
+ghost use Rattle.kt_syntax.specs.Kinds.{blank, line_form};
 ghost use Rattle.kt_syntax.specs.Roles.{line_text};
 ghost use Rattle.kt_text.specs.Lines.{AreInOrder, logical_lines_of};
 ghost use Rattle.kt_eval.specs.macros.Assignments.{body_text};
@@ -15,8 +15,8 @@ ghost use Rattle.kt_eval.specs.inner.Doing.{ReadsAlike};
 ghost use Rattle.kt_eval.specs.inner.Views.{raw_view};
 
 use kt_list::Shared;
-use kt_syntax::{Blocks, Missing, Step, begins_comment, marked_blocks};
-use kt_text::{Line, Mark, condensed};
+use kt_syntax::{BlockStep, Blocks, Missing, begins_comment, marked_blocks};
+use kt_text::{Line, LineMark, condensed};
 use std::alloc::{AllocError, Global};
 use std::marker::Model;
 
@@ -42,7 +42,7 @@ pub(crate) struct RawLine<'a> {
 pub(crate) struct Page<'a> {
     source: &'a Source,
     text: &'a [u8],
-    lines: Vec<Mark>,
+    lines: Vec<LineMark>,
     blocks: Blocks,
 }
 
@@ -50,9 +50,9 @@ impl<'a> Model for Page<'a> {
     ghost use Rattle.std.specs.Prelude.{◌≡◌, length, map};
     ghost use Rattle.kt_syntax.specs.Blocks.{tree_of};
     ghost use Rattle.kt_syntax.specs.Reading.{left_at};
-    ghost use Rattle.kt_eval.specs.reading.Reading.{Sheet, raw_line};
+    ghost use Rattle.kt_eval.specs.reading.Reading.{Page, raw_line};
 
-    ghost Value = { Sheet };
+    ghost Value = { Page };
 
     ghost view = { λ page. record {
       source = page.source.now;
@@ -70,7 +70,7 @@ impl<'a> Page<'a> {
         alloc: Global,
         source: &'a Source,
         text: &'a [u8],
-        lines: Vec<Mark>,
+        lines: Vec<LineMark>,
     ) -> Result<Page<'a>, AllocError>
         requires lines { lines.items ≡ logical_lines_of text.now }
         requires order { AreInOrder (length text.now) lines.items }
@@ -103,7 +103,7 @@ impl<'a> Page<'a> {
 
     // The step of a line, counted from 0, or `None` after the last line.
     #[tactic(auto, using(crate::proofs::RootLemmas::none_left_past, std::proofs::lemmas::Option::slice_get_within))]
-    pub(crate) fn step(&self, place: usize) -> Option<Step>
+    pub(crate) fn step(&self, place: usize) -> Option<BlockStep>
         ensures value { result ≡ slice_get self.now.blocks.steps place }
         ensures reads { IfSome result (ReadsOn self.now.blocks.steps place) }
         ensures ahead { IfSome result (IsAhead place (length self.now.blocks.steps)) }
@@ -115,7 +115,7 @@ impl<'a> Page<'a> {
 
     // The last of the lines, from one on, of which each but the last is blank at its first byte and comes before an
     // ordinary line: reading such a line only moves the place, and the next one moves it too.
-    pub(crate) fn past_comments(&self, place: usize, step: Step) -> usize
+    pub(crate) fn past_comments(&self, place: usize, step: BlockStep) -> usize
         requires step { slice_get self.now.blocks.steps place ≡ Some step }
         requires reads { ReadsOn self.now.blocks.steps place step }
         requires ahead { IsAhead place (length self.now.blocks.steps) step }
@@ -142,7 +142,7 @@ impl<'a> Page<'a> {
         ensures next { result ≡ true → slice_get self.now.blocks.steps (place + 1) ≡ Some step.Line }
         ensures reads { result ≡ true → ReadsOn self.now.blocks.steps (place + 1) step.Line }
         ensures tab { result ≡ true → (line_at self.now.lines place).tab ≡ false }
-        ensures blank { result ≡ true → line_kind (line_at self.now.lines place).text false ≡ blank }
+        ensures blank { result ≡ true → line_form (line_at self.now.lines place).text false ≡ blank }
     {
         place < self.lines.len()
             && self.begins_comment(place)
@@ -161,7 +161,7 @@ impl<'a> Page<'a> {
 
     fn begins_comment(&self, place: usize) -> bool
         ensures tab { result ≡ true → (line_at self.now.lines place).tab ≡ false }
-        ensures kind { result ≡ true → line_kind (line_at self.now.lines place).text false ≡ blank }
+        ensures kind { result ≡ true → line_form (line_at self.now.lines place).text false ≡ blank }
     {
         let line = self.line(place);
         !line.tab && begins_comment(line.text)
@@ -179,7 +179,7 @@ impl<'a> Page<'a> {
     {
         match self.blocks.get(place) {
             Some(
-                Step::Branch {
+                BlockStep::Branch {
                     condition,
                     next,
                     ..
@@ -271,7 +271,7 @@ fn line_text<'a>(text: &'a [u8], line: &Line) -> &'a [u8]
 
 // Lines joined with newlines, each without its continuations.
 #[tactic(auto, using(crate::proofs::BodyLemmas::whole_body), unfolding(crate::proofs::BodyLemmas::left_of_body))]
-fn body_text(alloc: Global, text: &[u8], lines: &[Mark]) -> Result<Vec<u8>, AllocError>
+fn body_text(alloc: Global, text: &[u8], lines: &[LineMark]) -> Result<Vec<u8>, AllocError>
     ensures { IfOk result (λ body. body.items ≡ body_text (map (line_text text.now) lines.now)) }
 {
     let mut body = Vec::new(alloc);

@@ -1,6 +1,6 @@
 //! What references ask for, and what text functions give.
 use crate::sameness::same;
-use kt_eval::{Asked, Function, TextFunction, Value, names_plainly, text_result};
+use kt_eval::{Function, Request, TextFunction, Value, names_plainly, text_result};
 use kt_syntax::Mark;
 use kt_testing::put;
 use std::alloc::Global;
@@ -19,9 +19,9 @@ const REFERENCES: [(Mark, &str, &str); 8] = [
 ];
 
 /// What a reference asks for, in words.
-fn put_asked(out: &mut Vec<u8>, asked: &Asked<'_>) {
+fn put_asked(out: &mut Vec<u8>, asked: &Request<'_>) {
     match asked {
-        Asked::Calls(function, arguments) => {
+        Request::Calls(function, arguments) => {
             put(out, name_of(*function));
             for argument in arguments {
                 put(out, b"[");
@@ -29,11 +29,11 @@ fn put_asked(out: &mut Vec<u8>, asked: &Asked<'_>) {
                 put(out, b"]");
             }
         }
-        Asked::Refuses(name) => {
+        Request::Refuses(name) => {
             put(out, b"refused ");
             put(out, *name);
         }
-        Asked::Refers(body) => {
+        Request::Refers(body) => {
             put(out, b"name ");
             put(out, *body);
         }
@@ -51,7 +51,7 @@ fn name_of(function: Function) -> &'static [u8] {
 #[test]
 fn tells_what_is_asked(rt: HostRuntime) -> Result<(), Fail> {
     for (mark, body, expected) in REFERENCES {
-        let asked = Asked::by(rt.alloc(), mark, body.as_bytes())?;
+        let asked = Request::by(rt.alloc(), mark, body.as_bytes())?;
         let mut told = Vec::new(rt.alloc());
         put_asked(&mut told, &asked);
         same(&rt, body, told.as_slice(), expected.as_bytes());

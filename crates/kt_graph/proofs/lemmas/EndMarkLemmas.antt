@@ -2,7 +2,7 @@
 use Rattle.std.proofs.Common.{◌≡◌, ℕ, zero, suc, ◌+◌, ◌<◌, ◌≤◌, Bool, true, false, not, ◌&&◌, if◌then◌else◌, List, [], ◌∷◌, ◌++◌, length, get_or, fold, slice_get, slice_set, Option, Some, None, option_map, unwrap_or, refl, sym, ap, ◌∙◌, arith, ⊎_elim, true≢false, length-append, ◌==◌}
 use Rattle.kt_graph.proofs.Common.{cases_eq, cases_lt, eqb-true, ltb-false, append_assoc, drop_all, get_or-append-add, get_or_past, bytes_eq-Decides, and_nothing, or_first, or_second, place_of, number_found, Text, has_percent, pattern_back, pattern_front, list_any-place, after_dots, is_among, with_name, without_dots, IsFixedEnd, needed_name}
 use Rattle.kt_rules.proofs.BookLemmas.{among_fold}
-use Rattle.kt_graph.specs.inner.EndMarks.{AreMarked, AreMarkedTo, KeepsEnds, end_place, is_marked, with_end, with_end_of}
+use Rattle.kt_graph.specs.inner.EndMarks.{AreMarked, AreMarkedTo, KeepsEnds, end_mark_place, has_marked_end, with_end, with_end_of}
 
 -- ---- one more mark
 
@@ -19,10 +19,10 @@ set_kept (mark ∷ marks) (suc place) zero h = h
 set_kept (mark ∷ marks) (suc place) (suc other) h = set_kept marks place other h
 
 pub end_kept : (ends : List Bool) (name : Text) → KeepsEnds ends (with_end ends name)
-end_kept ends name text h = set_kept ends (end_place name) (end_place text) h
+end_kept ends name text h = set_kept ends (end_mark_place name) (end_mark_place text) h
 
-pub end_itself : (ends : List Bool) (name : Text) → is_marked (with_end ends name) name ≡ true
-end_itself ends name = set_itself ends (end_place name)
+pub end_itself : (ends : List Bool) (name : Text) → has_marked_end (with_end ends name) name ≡ true
+end_itself ends name = set_itself ends (end_mark_place name)
 
 -- ---- the ends of several names
 
@@ -58,7 +58,7 @@ book_marked now new known names others chosen told marked is name h = by (place_
         (λ (past : length chosen ≤ number). absurd (true≢false (sym picked ∙ get_or_past chosen number false past)))
         (cases_lt number (length chosen))
 
-    by : (place : Option ℕ) → place_of names name ≡ place → is_marked new name ≡ true
+    by : (place : Option ℕ) → place_of names name ≡ place → has_marked_end new name ≡ true
     by (Some number) at =
         let picked : get_or chosen number false ≡ true
         = sym (ap (λ found. unwrap_or (option_map (λ n. get_or chosen n false) found) (is_among others name)) at) ∙ sym (told name) ∙ h in
@@ -74,11 +74,11 @@ both_marked ends now new listed list book are is kept marked name h = grind (ari
 
 -- ---- what ends alike
 
-same_place : (front end : Text) → 2 ≤ length end → end_place (front ++ end) ≡ end_place end
+same_place : (front end : Text) → 2 ≤ length end → end_mark_place (front ++ end) ≡ end_mark_place end
 same_place front end long = grind (arith, length, length-append, get_or-append-add)
 
 -- a name is unknown where its end isn't marked
-pub unmarked : (ends : List Bool) (known : List Text) (name : Text) → AreMarked ends known → is_marked ends name ≡ false → is_among known name ≡ false
+pub unmarked : (ends : List Bool) (known : List Text) (name : Text) → AreMarked ends known → has_marked_end ends name ≡ false → is_among known name ≡ false
 unmarked ends known name marked none = grind (arith, true≢false)
 
 -- ---- ends without a slash

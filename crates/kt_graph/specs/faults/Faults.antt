@@ -1,9 +1,9 @@
 -- What is reported if there is no graph (kati's own).
 use Rattle.std.specs.Prelude.{◌≡◌, ℕ, List, [], Option, None, Some}
-use Rattle.kt_graph.specs.Prelude.{Text, Rule, Node}
+use Rattle.kt_graph.specs.Prelude.{Text, Entry, Node}
 use Rattle.kt_rules.specs.declared.fault_kind.FaultKind.{FaultKind}
 use Rattle.kt_rules.specs.declared.fault_kind.FaultKind.TheVariants as kind
-use Rattle.kt_rules.specs.FaultKinds.{number_of, words_with}
+use Rattle.kt_rules.specs.FaultKinds.{fault_kind_number, words_with}
 use Rattle.kt_graph.specs.declared.faults.fault.GraphFault.{GraphFault}
 use Rattle.kt_graph.specs.declared.faults.fault.GraphFault.TheVariants.{Memory, Refused}
 use Rattle.kt_graph.specs.declared.faults.trouble.Trouble.{Trouble as HeldTrouble}
@@ -20,7 +20,7 @@ kind_and_name (one_file name) = (kind.TwoTargetsOfOneFile, name)
 
 -- the number and message of the fault
 abbrev pub fault_number : Trouble → ℕ
-fault_number trouble = number_of (kind_and_name trouble).0
+fault_number trouble = fault_kind_number (kind_and_name trouble).0
 
 abbrev pub fault_words : Trouble → Text
 fault_words trouble = let told = kind_and_name trouble in words_with told.0 told.1
@@ -31,13 +31,13 @@ ReportsTrouble Memory trouble = Unit {0}
 ReportsTrouble (Refused number words) trouble = (number ≡ fault_number trouble) × (words ≡ fault_words trouble)
 
 -- the first trouble is reported
-abbrev pub ReportsFirst : List Rule → List Text → List Text → GraphFault → Type 0
+abbrev pub ReportsFirst : List Entry → List Text → List Text → GraphFault → Type 0
 ReportsFirst rules known goals Memory = Unit {0}
 ReportsFirst rules known goals (Refused number words) =
     (trouble : Trouble) × ComesFirst rules known goals (Some trouble) × ReportsTrouble (Refused number words) trouble
 
 -- what is wrong with the files of names, if anything is
-abbrev pub IsFileTrouble : List Rule → List Text → List Text → Option Trouble → Type 0
+abbrev pub IsFileTrouble : List Entry → List Text → List Text → Option Trouble → Type 0
 IsFileTrouble rules known goals None =
     ((name : Text) → ¬ IsReserved rules known goals name) × ((name : Text) → ¬ IsDoubled rules known goals name)
 IsFileTrouble rules known goals (Some reserved_name) = (name : Text) × IsReserved rules known goals name
@@ -46,7 +46,7 @@ IsFileTrouble rules known goals (Some (one_file name)) =
 IsFileTrouble rules known goals (Some other) = ⊥
 
 -- a graph with what goals need, all of it and nothing else, and with nothing wrong
-abbrev pub IsSoundGraph : List Rule → List Text → List Text → List Node → Type 0
+abbrev pub IsSoundGraph : List Entry → List Text → List Text → List Node → Type 0
 IsSoundGraph rules known goals nodes = ComesFirst rules known goals None × IsGraph rules known goals nodes
 
 -- a trouble as the code holds it

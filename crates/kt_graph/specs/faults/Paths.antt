@@ -36,13 +36,13 @@ with_part rooted parts part =
     if is_idle part then parts else (if bytes_eq part above_name then step_up rooted parts else part ∷ parts)
 
 -- the components of a name's file
-unfoldable pub parts_of : Text → List Text
-parts_of name = reverse (fold (with_part (is_rooted name)) [] (slice_split (λ byte. byte == 47) name))
+unfoldable pub components_of : Text → List Text
+components_of name = reverse (fold (with_part (is_rooted name)) [] (slice_split (λ byte. byte == 47) name))
 
 -- Canon: the canonical spelling of a name's file (POSIX.1-2024, "Pathname Resolution", without looking at any file;
 -- that `..` removes a name is kati's own)
 unfoldable pub canon_of : Text → Text
-canon_of name = (if is_rooted name then 47 ∷ [] else []) ++ join_with_byte 47 (parts_of name)
+canon_of name = (if is_rooted name then 47 ∷ [] else []) ++ join_with_byte 47 (components_of name)
 
 -- the input of the statements of phony targets with commands (kati's own)
 abbrev pub always_name : Text

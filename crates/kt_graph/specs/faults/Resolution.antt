@@ -2,7 +2,7 @@
 -- looking at any file; that `..` removes a name is kati's own).
 use Rattle.std.specs.Prelude.{◌≡◌, ◌⊎◌, ◌==◌, ℕ, zero, Bool, true, false, List, [], ◌∷◌, ◌++◌, All, bytes_eq, replicate}
 use Rattle.kt_graph.specs.Prelude.{slice_split, Text}
-use Rattle.kt_graph.specs.faults.Paths.{above_name, is_idle, is_rooted, parts_of}
+use Rattle.kt_graph.specs.faults.Paths.{above_name, components_of, is_idle, is_rooted}
 use Rattle.kt_graph.specs.Reach.{Reaches}
 
 -- the components of a name as it is written
@@ -46,5 +46,5 @@ pub record IsResolved (rooted : Bool) (parts resolved : List Text) : Type 0 wher
 
 -- this remains of a name's components, and nothing else can
 pub record IsResolution (name : Text) : Type 0 where
-  pub resolved : IsResolved (is_rooted name) (components name) (parts_of name)
-  pub only : (other : List Text) → IsResolved (is_rooted name) (components name) other → other ≡ parts_of name
+  pub resolved : IsResolved (is_rooted name) (components name) (components_of name)
+  pub only : (other : List Text) → IsResolved (is_rooted name) (components name) other → other ≡ components_of name

@@ -1,7 +1,7 @@
 -- Which made nodes one making makes (GNU make manual, "Multiple Targets in a Rule", "Introduction to Pattern Rules").
 use Rattle.std.specs.Prelude.{◌≡◌, ◌↔◌, Bool, false, not, ◌&&◌, ◌||◌, nat_eq, List, [], ◌∷◌, All, map, filter, find}
 use Rattle.std.specs.Prelude.{bytes_eq, Option, Some}
-use Rattle.kt_graph.specs.Prelude.{Contains, IsStrictlySortedBy, option_map_or, nat_cmp, slice_cmp, Text, Rule}
+use Rattle.kt_graph.specs.Prelude.{Contains, IsStrictlySortedBy, option_map_or, nat_cmp, slice_cmp, Text, Entry}
 use Rattle.kt_graph.specs.nodes.Node.{Instance, Node, of_group, of_pattern, inputs_of, is_leaf, order_only_of}
 use Rattle.kt_graph.specs.Reach.{IsInGroup}
 
@@ -62,7 +62,7 @@ leader_name [] = []
 leader_name (node ∷ nodes) = node.name
 
 -- the groups of the nodes of a graph
-pub record AreGroups (rules : List Rule) (known goals : List Text) (nodes : List Node)
+pub record AreGroups (rules : List Entry) (known goals : List Text) (nodes : List Node)
     (groups : List (List Node)) : Type 0 where
   -- each has a member
   pub filled : (group : List Node) → Contains groups group → (node : Node) × Contains group node

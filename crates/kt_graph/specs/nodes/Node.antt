@@ -9,7 +9,7 @@ use Rattle.kt_rules.specs.declared.entry.Needs.{Needs}
 use Rattle.kt_rules.specs.declared.entry.RecipeLine.{RecipeLine}
 use Rattle.kt_rules.specs.declared.entry.Target.{Target}
 use Rattle.kt_rules.specs.Names.{is_among, without_repeats}
-use Rattle.kt_rules.specs.Entry.{Rule, needs_for}
+use Rattle.kt_rules.specs.Entry.{Entry, needs_for}
 use Rattle.kt_rules.specs.Suffixes.{suffixes_of}
 use Rattle.kt_rules.specs.Book.{explicit_rules, has_recipe, is_double, is_group, is_phony, patterns_of}
 use Rattle.kt_graph.specs.declared.nodes.node.NodeKind.{NodeKind}
@@ -41,7 +41,7 @@ pub record Node : Type 0 where
 -- ---- explicit rules
 
 -- the prerequisites of rules of a name, joined in order
-unfoldable pub joined_needs : List (Rule × Target) → Needs
+unfoldable pub joined_needs : List (Entry × Target) → Needs
 joined_needs rules = record {
   prerequisites = flat_map (λ made. (needs_for made.0 made.1).prerequisites) rules;
   order_only = flat_map (λ made. (needs_for made.0 made.1).order_only) rules;
@@ -54,11 +54,11 @@ needs_after first later = record {
 }
 
 -- the rule whose recipe is used: the last that has one [Multiple Rules for One Target]
-abbrev pub used_rule : List (Rule × Target) → Option (Rule × Target)
+abbrev pub used_rule : List (Entry × Target) → Option (Entry × Target)
 used_rule rules = last_or None (filter has_recipe rules)
 
 -- the other rules
-abbrev pub other_rules : List (Rule × Target) → List (Rule × Target)
+abbrev pub other_rules : List (Entry × Target) → List (Entry × Target)
 other_rules rules = before_last has_recipe rules ++ after_last has_recipe rules
 
 -- a name without the first of the suffixes that it ends with; without one there is no stem (GNU make manual,
@@ -69,14 +69,14 @@ suffix_stem suffixes name =
     (λ suffix. ends_with nat_eq name suffix) suffixes) []
 
 -- the stem in an explicit rule: that of its static pattern, if it has one (GNU make manual, "Static Pattern Rules")
-abbrev pub stem_for : List Text → Rule × Target → Text
+abbrev pub stem_for : List Text → Entry × Target → Text
 stem_for suffixes made = option_map_or (λ stemmed. stemmed.stem) made.1.stemmed (suffix_stem suffixes made.1.name)
 
-abbrev pub part_of : List Text → Rule × Target → Needs → Part
+abbrev pub part_of : List Text → Entry × Target → Needs → Part
 part_of suffixes made needs = record { recipe = made.0.recipe; stem = stem_for suffixes made; needs = needs }
 
 -- the part of a rule by itself
-abbrev pub own_part : List Text → Rule × Target → Part
+abbrev pub own_part : List Text → Entry × Target → Part
 own_part suffixes made = part_of suffixes made (needs_for made.0 made.1)
 
 -- the part of a name that no recipe makes
@@ -87,18 +87,18 @@ abbrev pub first_name : List Target → Text
 first_name [] = []
 first_name (target ∷ targets) = target.name
 
-abbrev pub group_of : Rule → Option Instance
+abbrev pub group_of : Entry → Option Instance
 group_of rule = if is_group rule.kind then Some (of_group (first_name rule.targets)) else None
 
 -- ---- nodes
 
 -- the node of a name with double-colon rules, each of them a part [Double-Colon Rules]; there is no search (kati's own)
-abbrev pub double_node : List Text → Text → List (Rule × Target) → Node
+abbrev pub double_node : List Text → Text → List (Entry × Target) → Node
 double_node suffixes name rules =
     record { name = name; kind = DoubleColon; parts = map (own_part suffixes) rules; made_with = None }
 
 -- the node of a name with a recipe: the prerequisites of the rule with that recipe come first (kati's own)
-abbrev pub explicit_node : List Text → Text → List (Rule × Target) → Rule × Target → Node
+abbrev pub explicit_node : List Text → Text → List (Entry × Target) → Entry × Target → Node
 explicit_node suffixes name rules used = record {
   name = name;
   kind = Explicit;
@@ -108,11 +108,11 @@ explicit_node suffixes name rules used = record {
 
 -- the prerequisites of the chosen rule come first (kati's own); one with several targets makes them all at once (GNU
 -- make manual, "Introduction to Pattern Rules")
-abbrev pub pattern_instance : Rule → Candidate → Option Instance
+abbrev pub pattern_instance : Entry → Candidate → Option Instance
 pattern_instance rule chosen =
     if nat_lt 1 (length rule.targets) then Some (of_pattern chosen.rule chosen.directory chosen.stem) else None
 
-abbrev pub implicit_node : Text → List (Rule × Target) → Candidate → Rule → Node
+abbrev pub implicit_node : Text → List (Entry × Target) → Candidate → Entry → Node
 implicit_node name rules chosen rule = record {
   name = name;
   kind = Implicit;
@@ -125,12 +125,12 @@ implicit_node name rules chosen rule = record {
 }
 
 -- the kind of a node of a name without a recipe
-abbrev pub kind_without : List (Rule × Target) → Bool → NodeKind
+abbrev pub kind_without : List (Entry × Target) → Bool → NodeKind
 kind_without (made ∷ rules) phony = Explicit
 kind_without [] true = Phony
 kind_without [] false = Leaf
 
-abbrev pub plain_node : List Text → Text → List (Rule × Target) → Bool → Node
+abbrev pub plain_node : List Text → Text → List (Entry × Target) → Bool → Node
 plain_node suffixes name rules phony = record {
   name = name;
   kind = kind_without rules phony;
@@ -139,27 +139,28 @@ plain_node suffixes name rules phony = record {
 }
 
 -- the candidate that the search chooses, with its pattern rule; for a phony name there is no search [Phony Targets]
-abbrev pub chosen_rule : List Rule → Candidate → Option (Candidate × Rule)
+abbrev pub chosen_rule : List Entry → Candidate → Option (Candidate × Entry)
 chosen_rule patterns chosen = option_map (λ rule. (chosen, rule)) (slice_get patterns chosen.rule)
 
-abbrev pub searched : List Rule → List Text → Text → Option (Candidate × Rule)
+abbrev pub searched : List Entry → List Text → Text → Option (Candidate × Entry)
 searched rules known name =
     if is_phony rules name then None
     else option_and_then (chosen_rule (patterns_of rules)) (choice_of (patterns_of rules) known name)
 
-abbrev pub node_by : List Rule → Text → List (Rule × Target) → Option (Rule × Target) → Option (Candidate × Rule) → Node
+abbrev pub node_by : List Entry → Text → List (Entry × Target) → Option (Entry × Target) → Option (Candidate × Entry)
+    → Node
 node_by rules name made (Some used) found = explicit_node (suffixes_of rules) name made used
 node_by rules name made None (Some found) = implicit_node name made found.0 found.1
 node_by rules name made None None = plain_node (suffixes_of rules) name made (is_phony rules name)
 
 -- the node of a name, given its explicit rules
-abbrev pub node_with : List Rule → List Text → Text → List (Rule × Target) → Node
+abbrev pub node_with : List Entry → List Text → Text → List (Entry × Target) → Node
 node_with rules known name made =
     if list_any (λ rule. is_double rule.0.kind) made then double_node (suffixes_of rules) name made
     else node_by rules name made (used_rule made) (searched rules known name)
 
 -- the node of a name
-unfoldable pub node_of : List Rule → List Text → Text → Node
+unfoldable pub node_of : List Entry → List Text → Text → Node
 node_of rules known name = node_with rules known name (explicit_rules rules name)
 
 -- ---- what a node needs

@@ -12,14 +12,14 @@ use Rattle.kt_rules.specs.declared.entry.Needs.{Needs}
 use Rattle.kt_rules.specs.declared.entry.Target.{Target}
 use Rattle.kt_rules.specs.Names.{without_dots}
 use Rattle.kt_rules.specs.Suffixes.{all_needs, percent}
-use Rattle.kt_rules.specs.Entry.{Rule}
+use Rattle.kt_rules.specs.Entry.{Entry}
 use Rattle.kt_rules.specs.Patterns.{is_terminal}
 
 -- ---- a name and a pattern
 
 -- the part of a name up to its last slash and with it
-abbrev pub directory_of : Text → Text
-directory_of name = take (name_place name) name
+abbrev pub directory_with_slash : Text → Text
+directory_with_slash name = take (name_place name) name
 
 abbrev pub has_slash : Text → Bool
 has_slash text = list_any (λ byte. byte == 47) text
@@ -35,7 +35,7 @@ stem_of pattern text = option_and_then (λ place. nonempty (slice_range text pla
 -- the part of a name that a pattern is matched with: a pattern without a slash leaves the directory out [How Patterns
 -- Match]
 abbrev pub left_out : Text → Text → Text
-left_out pattern name = if has_slash pattern then [] else directory_of name
+left_out pattern name = if has_slash pattern then [] else directory_with_slash name
 
 abbrev pub matched_part : Text → Text → Text
 matched_part pattern name = if has_slash pattern then name else name_part name
@@ -88,7 +88,7 @@ pub record Candidate : Type 0 where
 abbrev pub size_of : Candidate → ℕ
 size_of candidate = length candidate.directory + length candidate.stem
 
-abbrev pub candidate_with : ℕ → Rule → Text → Text × Text → Candidate
+abbrev pub candidate_with : ℕ → Entry → Text → Text × Text → Candidate
 candidate_with number rule pattern fit = record {
   rule = number;
   directory = fit.0;
@@ -99,7 +99,7 @@ candidate_with number rule pattern fit = record {
 }
 
 -- a rule as a candidate for a name by one of its targets, if the target matches
-abbrev pub candidate_by : ℕ → Rule → Text → Target → Option Candidate
+abbrev pub candidate_by : ℕ → Entry → Text → Target → Option Candidate
 candidate_by number rule name target = option_map (candidate_with number rule target.name) (fit_of target.name name)
 
 abbrev pub shorter : Candidate → Candidate → Candidate
@@ -110,17 +110,17 @@ abbrev pub shortest : List Candidate → Option Candidate
 shortest [] = None
 shortest (candidate ∷ candidates) = Some (fold shorter candidate candidates)
 
-abbrev pub unless_long : Rule → Candidate → Option Candidate
+abbrev pub unless_long : Entry → Candidate → Option Candidate
 unless_long rule candidate = if are_short candidate.directory candidate.stem rule.needs then Some candidate else None
 
 -- a rule as a candidate for a name: by the target with the shortest stem (kati's own if it has several), and only if no
 -- prerequisite gets too long
-unfoldable pub candidate_of : ℕ → Rule → Text → Option Candidate
+unfoldable pub candidate_of : ℕ → Entry → Text → Option Candidate
 candidate_of number rule name =
     option_and_then (unless_long rule) (shortest (filter_map (candidate_by number rule name) rule.targets))
 
 -- the candidates of rules that are numbered from a number on, in order of definition
-unfoldable pub matching_from : ℕ → List Rule → Text → List Candidate
+unfoldable pub matching_from : ℕ → List Entry → Text → List Candidate
 matching_from number [] name = []
 matching_from number (rule ∷ rules) name = option_to_list (candidate_of number rule name)
     ++ matching_from (number + 1) rules name
@@ -141,5 +141,5 @@ by_size name candidates =
     flat_map (λ size. filter (λ candidate. size_of candidate == size) candidates) (range_with_len 0 (length name + 1))
 
 -- the candidates for a name in the order in which they are tried, with or without a chain before it
-unfoldable pub candidates_for : List Rule → Bool → Text → List Candidate
+unfoldable pub candidates_for : List Entry → Bool → Text → List Candidate
 candidates_for rules in_chain name = by_size name (without_any in_chain (matching_from 0 rules name))

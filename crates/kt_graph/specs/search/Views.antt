@@ -1,7 +1,7 @@
 -- The code's own types of a search as those of the definitions (kati's own).
 use Rattle.std.specs.Prelude.{◌≡◌, ℕ, ◌+◌, ◌-◌, ◌<◌, ◌≤◌, Bool, true, not, ◌||◌, ◌==◌, nat_le, All, length, take}
 use Rattle.std.specs.Prelude.{filter, flat_map, filter_map, Some, None, option_map, unwrap_or, slice_get, if◌then◌else◌}
-use Rattle.kt_graph.specs.Prelude.{option_and_then, Text, Rule, Question, Chosen, Candidate, needs_with, Sought, List}
+use Rattle.kt_graph.specs.Prelude.{option_and_then, Text, Entry, HeldQuestion, Chosen, Candidate, needs_with, Question, List}
 use Rattle.kt_graph.specs.Prelude.{Option, list_any, range_with_len, slice_range}
 use Rattle.kt_rules.specs.Patterns.{is_terminal}
 use Rattle.kt_graph.specs.declared.search.candidate.Candidate.{Candidate as HeldCandidate}
@@ -19,7 +19,7 @@ abbrev pub fit_view : Text → Fit → Text × Text
 fit_view name fit = (take fit.directory name, slice_range name fit.start fit.end)
 
 -- a candidate of a rule
-abbrev pub candidate_at : Text → Rule → HeldCandidate → Candidate
+abbrev pub candidate_at : Text → Entry → HeldCandidate → Candidate
 candidate_at name rule candidate = record {
   rule = candidate.rule;
   directory = take candidate.fit.directory name;
@@ -31,18 +31,18 @@ candidate_at name rule candidate = record {
 }
 
 -- a candidate, with the rule that has its number
-abbrev pub candidate_view : List Rule → Text → HeldCandidate → Option Candidate
+abbrev pub candidate_view : List Entry → Text → HeldCandidate → Option Candidate
 candidate_view rules name candidate = option_map
     (λ rule. candidate_at name rule candidate) (slice_get rules candidate.rule)
 
-abbrev pub candidates_view : List Rule → Text → List HeldCandidate → List Candidate
+abbrev pub candidates_view : List Entry → Text → List HeldCandidate → List Candidate
 candidates_view rules name candidates = filter_map (candidate_view rules name) candidates
 
-abbrev pub found_view : List Rule → Text → Option HeldCandidate → Option Candidate
+abbrev pub found_view : List Entry → Text → Option HeldCandidate → Option Candidate
 found_view rules name found = option_and_then (candidate_view rules name) found
 
 -- each candidate has a rule, and its places are in the name
-abbrev pub AreWithin : List Rule → Text → List HeldCandidate → Type 0
+abbrev pub AreWithin : List Entry → Text → List HeldCandidate → Type 0
 AreWithin rules name candidates = All (λ candidate. (candidate.rule < length rules)
     × IsFitWithin name candidate.fit) candidates
 
@@ -53,14 +53,14 @@ shorter_of None (Some other) = Some other
 shorter_of (Some best) (Some other) = if nat_le best.fit.size other.fit.size then Some best else Some other
 
 -- whether the rule with a number is terminal; if there is no rule, it counts as terminal
-abbrev pub is_last_at : List Rule → ℕ → Bool
+abbrev pub is_last_at : List Entry → ℕ → Bool
 is_last_at rules number = unwrap_or (option_map (λ rule. is_terminal rule.kind) (slice_get rules number)) true
 
 -- `without_any` and `by_size`, for candidates as the code holds them
-abbrev pub stays : List Rule → HeldCandidate → Bool
+abbrev pub stays : List Entry → HeldCandidate → Bool
 stays rules candidate = not candidate.is_any || is_last_at rules candidate.rule
 
-abbrev pub held_without_any : List Rule → Bool → List HeldCandidate → List HeldCandidate
+abbrev pub held_without_any : List Entry → Bool → List HeldCandidate → List HeldCandidate
 held_without_any rules in_chain candidates =
     if in_chain || list_any (λ candidate. not candidate.is_any) candidates then filter (stays rules) candidates
     else candidates
@@ -74,5 +74,5 @@ abbrev pub choice_view : Candidate → Chosen
 choice_view candidate = record { rule = candidate.rule; directory = candidate.directory; stem = candidate.stem }
 
 -- ---- questions
-abbrev pub question_view : Question → Sought
+abbrev pub question_view : HeldQuestion → Question
 question_view question = (question.name, question.used.items)

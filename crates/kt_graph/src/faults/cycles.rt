@@ -7,7 +7,7 @@ ghost use Rattle.std.specs.Prelude.{flat_map, replicate, set, slice_get, false, 
 ghost use Rattle.kt_graph.specs.inner.faults.Arrivals.{AreCounted, IsLeftIn, LeavesCircular, is_left, with_arrival};
 ghost use Rattle.kt_graph.specs.inner.faults.Arrivals.{without_arrival};
 ghost use Rattle.kt_graph.specs.inner.faults.Edges.{LeadToVertices, HoldsCircular, IsFirstBack, LeadsBack, Visits};
-ghost use Rattle.kt_graph.specs.inner.faults.Edges.{count_of, holds_in, next_of, rows_of, work_with};
+ghost use Rattle.kt_graph.specs.inner.faults.Edges.{edge_rows, holds_in, next_of, vertex_count, work_with};
 
 use crate::faults::edges::Edges;
 use crate::nodes::stored::StoredNodes;
@@ -36,7 +36,7 @@ pub(crate) fn first_circular(
     let reversed = edges.reversed(none)?;
     let departures = arrivals_left(alloc, &reversed)?;
     let held = left_in_both(alloc, arrivals.as_slice(), departures.as_slice())?;
-    Left { alloc, held }.first_back(edges, order)
+    LeftVertices { alloc, held }.first_back(edges, order)
 }
 
 // For each vertex, the number of edges to it from remaining vertices, after each vertex without any was removed.
@@ -55,7 +55,7 @@ fn arrivals_left(alloc: Global, edges: &Edges<'_>) -> Result<Vec<u32>, AllocErro
 // The number of edges to each vertex, and one more until the vertex has had its turn.
 fn arrivals(alloc: Global, edges: &Edges<'_>) -> Result<Vec<u32>, AllocError>
     ensures { IfOk result (λ counts. counts.items
-        ≡ fold with_arrival (replicate (count_of edges.now) 1) (flat_map (λ row. row) (rows_of edges.now))) }
+        ≡ fold with_arrival (replicate (vertex_count edges.now) 1) (flat_map (λ row. row) (edge_rows edges.now))) }
 {
     let mut counts = vec![in alloc; 1u32; edges.count()]?;
     for vertex in 0..edges.count() {
@@ -183,12 +183,12 @@ fn is_left(counts: &[u32], vertex: usize) -> bool
 
 // The vertices that remain.
 #[derive(Drop)]
-struct Left {
+struct LeftVertices {
     alloc: Global,
     held: Vec<bool>,
 }
 
-impl Left {
+impl LeftVertices {
     fn holds(&self, vertex: usize) -> bool
         ensures { result ≡ holds_in self.now.held.items vertex }
     {

@@ -3,8 +3,8 @@
 //! it once. Spares a list for each node, and the product of targets and prerequisites in a group.
 ghost use Rattle.std.specs.Prelude.{◌≡◌, ◌++◌, [], IfOk, OnOk, true};
 ghost use Rattle.kt_graph.specs.inner.faults.Edges.{AddsNode, AreEdgesOf, AreMadeBelow, AreNeededBelow, AreReversed};
-ghost use Rattle.kt_graph.specs.inner.faults.Edges.{HaveEdges, IsRepeated, LeadToVertices, count_of, making_edges};
-ghost use Rattle.kt_graph.specs.inner.faults.Edges.{needed_numbers, next_of, numbers_after, one_at, row_of, rows_held};
+ghost use Rattle.kt_graph.specs.inner.faults.Edges.{HaveEdges, IsRepeated, LeadToVertices, making_edges, vertex_count};
+ghost use Rattle.kt_graph.specs.inner.faults.Edges.{edge_row, listed_number, needed_numbers, next_of, numbers_after, rows_held};
 ghost use Rattle.kt_graph.specs.inner.faults.Edges.{makings_edges, with_edges};
 ghost use Rattle.kt_graph.specs.inner.nodes.Stored.{stored_at};
 
@@ -51,7 +51,7 @@ impl<'n> Edges<'n> {
 
     /// The number of vertices.
     pub(crate) fn count(&self) -> usize
-        ensures { result ≡ count_of self.now }
+        ensures { result ≡ vertex_count self.now }
     {
         self.nodes.len() + self.rows.len()
     }
@@ -89,7 +89,7 @@ impl<'n> Edges<'n> {
 
     // The vertices that a name leads to, from its node.
     fn next_by(&self, name: usize) -> (&[u32], &[u32])
-        ensures { result.0.now ++ result.1.now ≡ row_of self.now.makings.items (stored_at self.now.nodes.now name) }
+        ensures { result.0.now ++ result.1.now ≡ edge_row self.now.makings.items (stored_at self.now.nodes.now name) }
     {
         match self.nodes.made_with(name) {
             None => (self.nodes.inputs(name), self.nodes.order_only(name)),
@@ -99,7 +99,7 @@ impl<'n> Edges<'n> {
 }
 
 fn one_at(numbers: &[u32], place: usize) -> &[u32]
-    ensures { result.now ≡ one_at numbers.now place }
+    ensures { result.now ≡ listed_number numbers.now place }
 {
     match numbers.get(place) {
         Some(number) => from_ref(number),

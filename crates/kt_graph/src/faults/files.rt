@@ -72,18 +72,18 @@ fn is_canonical_if_made(node: &Node<'_>) -> bool
 
 /// The files of made names.
 #[derive(Drop)]
-pub(crate) struct Files {
+pub(crate) struct FileSpellings {
     alloc: Global,
     // Each file, and whether several made names are names of it.
     several: IndexMap<Name, bool>,
 }
 
-impl Files {
+impl FileSpellings {
     /// The files of nodes.
-    pub(crate) fn of(alloc: Global, nodes: Nodes<'_>) -> Result<Files, AllocError>
+    pub(crate) fn of(alloc: Global, nodes: Nodes<'_>) -> Result<FileSpellings, AllocError>
         ensures { IfOk result (λ files. HasFiles files (made_names nodes.entry)) }
     {
-        let mut files = Files {
+        let mut files = FileSpellings {
             alloc,
             several: IndexMap::new(alloc),
         };

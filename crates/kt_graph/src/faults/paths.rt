@@ -23,7 +23,7 @@ pub(crate) fn canon(alloc: Global, name: &[u8]) -> Result<Vec<u8>, AllocError>
 }
 
 // The same, component by component.
-#[tactic(auto, unfolding(crate::specs::faults::Paths::canon_of, crate::specs::faults::Paths::parts_of))]
+#[tactic(auto, unfolding(crate::specs::faults::Paths::canon_of, crate::specs::faults::Paths::components_of))]
 fn resolved(alloc: Global, name: &[u8]) -> Result<Vec<u8>, AllocError>
     ensures { IfOk result (λ canon. canon.items ≡ canon_of name.now) }
 {

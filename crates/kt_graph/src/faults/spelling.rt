@@ -1,6 +1,6 @@
 //! Names that are already the canonical spelling of their file, as most names are.
 ghost use Rattle.std.specs.Prelude.{◌≡◌, ◌<◌, ◌&&◌, IfSome, MatchOption, length, true};
-ghost use Rattle.kt_graph.specs.inner.faults.Files.{has_names_only, is_name};
+ghost use Rattle.kt_graph.specs.inner.faults.Files.{has_names_only, is_proper_component};
 ghost use Rattle.kt_graph.specs.faults.Paths.{canon_of};
 
 use crate::faults::paths::is_rooted;
@@ -33,8 +33,8 @@ fn has_names_only(text: &[u8]) -> bool
 
 // The text before the first slash, and the text after it.
 fn first_part(text: &[u8]) -> Option<(&[u8], &[u8])>
-    ensures parts { MatchOption result (has_names_only text.now ≡ is_name text.now)
-        (λ cut. has_names_only text.now ≡ (is_name cut.0.now && has_names_only cut.1.now)) }
+    ensures parts { MatchOption result (has_names_only text.now ≡ is_proper_component text.now)
+        (λ cut. has_names_only text.now ≡ (is_proper_component cut.0.now && has_names_only cut.1.now)) }
     ensures shorter { IfSome result (λ cut. length cut.1.now < length text.now) }
 {
     let slash = memchr(b'/', text)?;
@@ -42,7 +42,7 @@ fn first_part(text: &[u8]) -> Option<(&[u8], &[u8])>
 }
 
 fn is_name(part: &[u8]) -> bool
-    ensures { result ≡ is_name part.now }
+    ensures { result ≡ is_proper_component part.now }
 {
     !matches!(part, [] | [b'.'] | [b'.', b'.'])
 }

@@ -2,7 +2,7 @@
 //! Fast: a prerequisite that ends as no known name does is told by a mark, before it is spelled out. Spares a text and
 //! two hashes for each candidate of a pattern rule.
 ghost use Rattle.std.specs.Prelude.{◌≡◌, ◌-◌, ◌<◌, fold, get_or, length, slice_get, if◌then◌else◌};
-ghost use Rattle.kt_graph.specs.inner.EndMarks.{AreMarkedTo, KeepsEnds, end_place, is_marked, with_end, with_end_of};
+ghost use Rattle.kt_graph.specs.inner.EndMarks.{AreMarkedTo, KeepsEnds, end_mark_place, has_marked_end, with_end, with_end_of};
 
 use kt_list::Names;
 use std::alloc::{AllocError, Global};
@@ -74,7 +74,7 @@ impl EndMarks {
 
     /// Whether the end of a text is marked.
     pub(crate) fn is_marked(&self, text: &[u8]) -> bool
-        ensures { result ≡ is_marked self.now.marks.items text.now }
+        ensures { result ≡ has_marked_end self.now.marks.items text.now }
     {
         match self.marks.get(end_place(text)) {
             Some(mark) => *mark,
@@ -85,7 +85,7 @@ impl EndMarks {
 
 // The place of the mark for a text's last two bytes.
 fn end_place(text: &[u8]) -> usize
-    ensures { result ≡ end_place text.now }
+    ensures { result ≡ end_mark_place text.now }
 {
     byte_before_end(text, 2) % 64 * 64 + byte_before_end(text, 1) % 64
 }

@@ -18,20 +18,20 @@ ghost use Rattle.kt_graph.specs.nodes.Views.{instance_view};
 use crate::nodes::needing::Needing;
 use crate::nodes::node::{Instance, NodeKind};
 use crate::nodes::numbering::NameNumbers;
-use crate::nodes::part::{Numbered, NumberedPart, Part};
+use crate::nodes::part::{NumberedNeeds, NumberedPart, PartRecipe};
 use kt_rules::{Book, BookRule, Kind, TargetRule, Targets};
 use std::alloc::{AllocError, Global};
 
 /// The rule whose recipe is used, and the rules before it and after it.
 #[derive(Clone, Copy)]
-pub(crate) struct Used<'a, 'r> {
+pub(crate) struct RecipeRule<'a, 'r> {
     pub(crate) rule: TargetRule<'a>,
     pub(crate) earlier: &'r [TargetRule<'a>],
     pub(crate) later: &'r [TargetRule<'a>],
 }
 
 /// The last rule with a recipe, whose recipe is used.
-pub(crate) fn used_rule<'a, 'r>(rules: &'r [TargetRule<'a>]) -> Option<Used<'a, 'r>>
+pub(crate) fn used_rule<'a, 'r>(rules: &'r [TargetRule<'a>]) -> Option<RecipeRule<'a, 'r>>
     ensures { MatchOption result (used_rule (map rule_view rules.now) ≡ None)
         (λ used. (used_rule (map rule_view rules.now) ≡ Some (rule_view used.rule))
         × IsCut (map rule_view rules.now) used) }
@@ -39,7 +39,7 @@ pub(crate) fn used_rule<'a, 'r>(rules: &'r [TargetRule<'a>]) -> Option<Used<'a, 
     let mut left = rules;
     while let [earlier @ .., rule] = left {
         if rule.entry.recipe().is_some() {
-            return Some(Used {
+            return Some(RecipeRule {
                 rule: *rule,
                 earlier,
                 later: &rules[earlier.len() + 1..],
@@ -80,10 +80,10 @@ fn double_part<'a>(
     ensures reached { OnOk result (names.new
         ≡ fold with_name names.old (all_needs (own_part (suffixes_of book.now) (rule_view rule.entry)).needs)) }
 {
-    let mut needs = Numbered::none(alloc);
+    let mut needs = NumberedNeeds::none(alloc);
     let needing = Needing::after(rule.needs(), &[], &[]);
     names.number_needs(needing, &mut needs)?;
-    let part = Part::of_rule(alloc, book, rule)?;
+    let part = PartRecipe::of_rule(alloc, book, rule)?;
     Ok(NumberedPart { part, needs })
 }
 

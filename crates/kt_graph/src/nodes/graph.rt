@@ -9,7 +9,7 @@ ghost use Rattle.std.specs.Iterator.{YieldsFirstBy, item_count};
 ghost use Rattle.std.specs.List.Sorted.{IsStrictlySortedBy};
 ghost use Rattle.std.specs.Ordering.{nat_cmp};
 ghost use Rattle.kt_text.specs.Words.{Text};
-ghost use Rattle.kt_rules.specs.Entry.{Rule};
+ghost use Rattle.kt_rules.specs.Entry.{Entry};
 ghost use Rattle.kt_graph.specs.faults.Faults.{IsFileTrouble, trouble_view};
 ghost use Rattle.kt_graph.specs.faults.Paths.{canon_of, is_reserved};
 ghost use Rattle.kt_graph.specs.nodes.Groups.{groups_of};
@@ -21,7 +21,7 @@ ghost use Rattle.kt_graph.specs.nodes.Views.{node_at, nodes_view};
 
 use crate::faults::cycles::first_circular;
 use crate::faults::edges::Edges;
-use crate::faults::files::{Files, are_canonical, has_always, is_plain};
+use crate::faults::files::{FileSpellings, are_canonical, has_always, is_plain};
 use crate::faults::trouble::Trouble;
 use crate::known::Known;
 use crate::nodes::byte_order::byte_order;
@@ -113,7 +113,7 @@ impl<'a> Graph<'a> {
     // The graph of names and their nodes.
     fn whole(alloc: Global, table: NodeTable<'a>) -> Result<Graph<'a>, AllocError>
         requires { length table.nodes ≡ length table.names }
-        ensures { IfOk result (λ graph. (rules : List Rule) (known goals : List Text)
+        ensures { IfOk result (λ graph. (rules : List Entry) (known goals : List Text)
             → IsDone rules known goals table.entry.names table.entry.instances table.entry.nodes
             → IsGraph rules known goals graph) }
     {
@@ -132,7 +132,7 @@ impl<'a> Graph<'a> {
         &'g self,
         goals: &'g [Name],
     ) -> Result<Option<Trouble<'g>>, AllocError>
-        ensures { IfOk result (λ trouble. (rules : List Rule) (known : List Text)
+        ensures { IfOk result (λ trouble. (rules : List Entry) (known : List Text)
             → IsGraph rules known goals.now self.now
             → ComesFirst rules known goals.now (option_map trouble_view trouble)) }
     {
@@ -163,7 +163,7 @@ impl<'a> Graph<'a> {
 
     // The first name in byte order that depends on itself.
     fn circular(&self) -> Result<Option<&[u8]>, AllocError>
-        ensures { IfOk result (λ found. (rules : List Rule) (known goals : List Text)
+        ensures { IfOk result (λ found. (rules : List Entry) (known goals : List Text)
             → IsGraph rules known goals self.now
             → MatchOption found ((name : Text) → ¬ IsCyclic rules known goals name)
             (λ name. IsFirst (IsCyclic rules known goals) name.now)) }
@@ -182,7 +182,7 @@ impl<'a> Graph<'a> {
 
     // What is wrong with the files of names.
     fn path_trouble(&self) -> Result<Option<Trouble<'_>>, AllocError>
-        ensures { IfOk result (λ trouble. (rules : List Rule) (known goals : List Text)
+        ensures { IfOk result (λ trouble. (rules : List Entry) (known goals : List Text)
             → IsGraph rules known goals self.now
             → IsFileTrouble rules known goals (option_map trouble_view trouble)) }
     {
@@ -223,7 +223,7 @@ impl<'a> Graph<'a> {
         if are_canonical(self.nodes()) {
             return Ok(None);
         }
-        let files = Files::of(self.alloc, self.nodes())?;
+        let files = FileSpellings::of(self.alloc, self.nodes())?;
         files.first_repeated(self.nodes())
     }
 }

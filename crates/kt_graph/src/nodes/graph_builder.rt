@@ -7,7 +7,7 @@ ghost use Rattle.std.specs.Prelude.{◌≡◌, ◌<◌, ◌^◌, [], List, None,
 ghost use Rattle.std.specs.Prelude.{false, IfOk, IsTrue, OnOk};
 ghost use Rattle.kt_text.specs.Words.{Text};
 ghost use Rattle.kt_rules.specs.Book.{explicit_rules, is_phony};
-ghost use Rattle.kt_rules.specs.Entry.{Rule, needs_for};
+ghost use Rattle.kt_rules.specs.Entry.{Entry, needs_for};
 ghost use Rattle.kt_rules.specs.declared.entry.Target.{Target as HeldTarget};
 ghost use Rattle.kt_rules.specs.Names.{with_name};
 ghost use Rattle.kt_rules.specs.Slots.{rule_view};
@@ -18,20 +18,20 @@ ghost use Rattle.kt_graph.specs.nodes.Node.{double_node, explicit_node, node_by,
 ghost use Rattle.kt_graph.specs.nodes.Node.{searched};
 ghost use Rattle.kt_graph.specs.inner.nodes.Numbering.{IsMaking};
 ghost use Rattle.kt_graph.specs.inner.nodes.GraphBuilder.{AreOf, AreTold, BuildsNode, IsBegun, IsBuilt, IsCut};
-ghost use Rattle.kt_graph.specs.inner.nodes.GraphBuilder.{IsLikeLast, IsOver, LastNeeds, NeedsAs, NeedsAsLast};
+ghost use Rattle.kt_graph.specs.inner.nodes.GraphBuilder.{HasLastNeeds, IsLikeLast, IsOver, NeedsAs, NeedsAsLast};
 ghost use Rattle.kt_graph.specs.inner.nodes.GraphBuilder.{ReachesMore, sole_node};
 ghost use Rattle.kt_graph.specs.inner.nodes.Reached.{reached_text};
 ghost use Rattle.kt_graph.specs.nodes.Views.{instance_view};
 
 use crate::known::Known;
 use crate::nodes::building::{
-    Used, double_parts, group_of, has_double, is_leaf, kind_without, makes_several, used_rule,
+    RecipeRule, double_parts, group_of, has_double, is_leaf, kind_without, makes_several, used_rule,
 };
-use crate::nodes::inferring::Inferred;
+use crate::nodes::inferring::InferredParts;
 use crate::nodes::needing::Needing;
 use crate::nodes::node::{Instance, NodeKind};
 use crate::nodes::numbering::NameNumbers;
-use crate::nodes::part::{Maker, Numbered, Part};
+use crate::nodes::part::{Maker, NumberedNeeds, PartRecipe};
 use crate::nodes::reached_name::ReachedName;
 use crate::nodes::stored::StoredNodes;
 use crate::nodes::tables::Tables;
@@ -57,7 +57,7 @@ pub(crate) struct GraphBuilder<'a> {
     // The first leaf that needs nothing. All are stored alike.
     leaf: Option<usize>,
     // Those of the node that is being built.
-    needs: Numbered,
+    needs: NumberedNeeds,
 }
 
 impl<'a> GraphBuilder<'a> {
@@ -80,7 +80,7 @@ impl<'a> GraphBuilder<'a> {
             nodes: StoredNodes::new(alloc),
             instances: IndexSet::new(alloc),
             leaf: None,
-            needs: Numbered::none(alloc),
+            needs: NumberedNeeds::none(alloc),
         })
     }
 
@@ -185,13 +185,13 @@ impl<'a> GraphBuilder<'a> {
 
     // The node of a name with one rule, which needs what the last node does.
     fn node_like_last(&mut self, rule: TargetRule<'a>) -> Result<(), AllocError>
-        requires { LastNeeds self.old (needs_for (rule_view rule).0 (rule_view rule).1) }
+        requires { HasLastNeeds self.old (needs_for (rule_view rule).0 (rule_view rule).1) }
         ensures { OnOk result (BuildsNode self.old (sole_node (suffixes_of self.old.book.now)
             (rule_view rule.entry).1.name (rule_view rule.entry)) self.new) }
     {
         let last = self.nodes.len().saturating_sub(1);
         let making = group_of(self.alloc, rule.entry)?;
-        let part = Part::of_rule(self.alloc, self.book, rule)?;
+        let part = PartRecipe::of_rule(self.alloc, self.book, rule)?;
         let made_with = self.making(making)?;
         let maker = Maker {
             kind: NodeKind::Explicit,
@@ -228,15 +228,15 @@ impl<'a> GraphBuilder<'a> {
         self.nodes.push_double(self.alloc, parts)
     }
 
-    fn explicit_node(&mut self, used: Used<'a, '_>) -> Result<(), AllocError>
-        ensures { OnOk result ((rules : List (Rule × HeldTarget)) → IsCut rules used.entry
+    fn explicit_node(&mut self, used: RecipeRule<'a, '_>) -> Result<(), AllocError>
+        ensures { OnOk result ((rules : List (Entry × HeldTarget)) → IsCut rules used.entry
             → BuildsNode self.old (explicit_node (suffixes_of self.old.book.now) (rule_view used.entry.rule).1.name
             rules (rule_view used.entry.rule)) self.new) }
     {
         let rule = used.rule;
         let making = group_of(self.alloc, rule.entry)?;
         let needing = Needing::after(rule.needs(), used.earlier, used.later);
-        let part = Part::of_rule(self.alloc, self.book, rule)?;
+        let part = PartRecipe::of_rule(self.alloc, self.book, rule)?;
         self.hold(NodeKind::Explicit, part, needing, making)
     }
 
@@ -298,7 +298,7 @@ impl<'a> GraphBuilder<'a> {
             return self.leaf_node();
         }
         let needing = Needing::of_rules(rules);
-        let part = Part::bare(self.book);
+        let part = PartRecipe::bare(self.book);
         self.hold(kind_without(rules, is_phony), part, needing, None)
     }
 
@@ -316,9 +316,9 @@ impl<'a> GraphBuilder<'a> {
             kind: NodeKind::Leaf,
             made_with: None,
         };
-        let part = Part::bare(self.book);
+        let part = PartRecipe::bare(self.book);
         self.nodes
-            .push(self.alloc, maker, part, &Numbered::none(self.alloc))?;
+            .push(self.alloc, maker, part, &NumberedNeeds::none(self.alloc))?;
         self.leaf = Some(leaf);
         Ok(())
     }
@@ -326,25 +326,25 @@ impl<'a> GraphBuilder<'a> {
     // The prerequisites of the chosen rule come first.
     fn implicit_node(
         &mut self,
-        inferred: Inferred<'a>,
+        inferred: InferredParts<'a>,
         rules: &[TargetRule<'a>],
     ) -> Result<(), AllocError>
         ensures { OnOk result ((name : Text) → BuildsNode self.old (inferred_node name
             (map rule_view rules.now) inferred.entry) self.new) }
     {
-        let Inferred {
+        let InferredParts {
             recipe,
             stem,
             needs: first,
             making,
         } = inferred;
         let needing = Needing::after(NeedsView::of(&first), rules, &[]);
-        let part = Part { recipe, stem };
+        let part = PartRecipe { recipe, stem };
         self.hold(NodeKind::Implicit, part, needing, making)
     }
 
     // What the pattern rule that makes a name gives it; for a phony name there is no search.
-    fn inferred(&mut self, name: &[u8]) -> Result<Option<Inferred<'a>>, AllocError>
+    fn inferred(&mut self, name: &[u8]) -> Result<Option<InferredParts<'a>>, AllocError>
         requires { IsOver self.old }
         ensures tells { IfOk result (InfersFrom name.now (searched self.old.book.now self.old.known.now name.now)) }
         ensures kept { OnOk result (ReachesMore self.old [] [] self.new) }
@@ -359,11 +359,15 @@ impl<'a> GraphBuilder<'a> {
     }
 
     // What a chosen rule gives to the name that it makes.
-    fn inference(&self, name: &[u8], chosen: Chosen) -> Result<Option<Inferred<'a>>, AllocError>
+    fn inference(
+        &self,
+        name: &[u8],
+        chosen: Chosen,
+    ) -> Result<Option<InferredParts<'a>>, AllocError>
         ensures { IfOk result (Infers name.now self.now.finder.rules chosen) }
     {
         match self.finder.patterns().get(chosen.rule) {
-            Some(pattern) => Ok(Some(Inferred::of(self.alloc, name, pattern, chosen)?)),
+            Some(pattern) => Ok(Some(InferredParts::of(self.alloc, name, pattern, chosen)?)),
             None => Ok(None),
         }
     }
@@ -372,7 +376,7 @@ impl<'a> GraphBuilder<'a> {
     fn hold(
         &mut self,
         kind: NodeKind,
-        part: Part<'a>,
+        part: PartRecipe<'a>,
         needing: Needing<'_, '_, 'a>,
         making: Option<Instance>,
     ) -> Result<(), AllocError>

@@ -12,20 +12,20 @@ use std::alloc::{AllocError, Global};
 
 /// The recipe, stem, prerequisites and making that a chosen pattern rule gives to a name.
 #[derive(Drop)]
-pub(crate) struct Inferred<'a> {
+pub(crate) struct InferredParts<'a> {
     pub(crate) recipe: Option<&'a [RecipeLine]>,
     pub(crate) stem: Stem<'a>,
     pub(crate) needs: Needs,
     pub(crate) making: Option<Instance>,
 }
 
-impl<'a> Inferred<'a> {
+impl<'a> InferredParts<'a> {
     pub(crate) fn of(
         alloc: Global,
         name: &[u8],
         pattern: &Pattern<'a>,
         chosen: Chosen,
-    ) -> Result<Inferred<'a>, AllocError>
+    ) -> Result<InferredParts<'a>, AllocError>
         ensures { IfOk result (GivesChosen name.now pattern.now chosen) }
     {
         let stemming = Stemming {
@@ -34,7 +34,7 @@ impl<'a> Inferred<'a> {
         };
         let needs = stemming.needs(alloc, pattern.needs())?;
         let stem = Stem::joined(alloc, name, stemming.directory, stemming.stem)?;
-        Ok(Inferred {
+        Ok(InferredParts {
             recipe: pattern.recipe(),
             stem,
             needs,

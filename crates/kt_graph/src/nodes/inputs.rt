@@ -4,7 +4,7 @@
 ghost use Rattle.std.specs.Prelude.{◌≡◌, [], fold, nat_eq, true, IfOk, OnOk};
 ghost use Rattle.std.specs.List.{IsDistinct};
 ghost use Rattle.kt_graph.specs.inner.nodes.Inputs.{HasOwnInputs, differ, inputs_held, numbers_without, others_held};
-ghost use Rattle.kt_graph.specs.inner.nodes.Inputs.{rise, rise_after, with_number};
+ghost use Rattle.kt_graph.specs.inner.nodes.Inputs.{rise, rise_after, with_input_number};
 
 use crate::nodes::stored::HeldPart;
 use indexmap::IndexSet;
@@ -53,7 +53,7 @@ pub(crate) fn order_only_set(
     inputs: &IndexSet<u32>,
 ) -> Result<IndexSet<u32>, AllocError>
     ensures { IfOk result (λ others. others.keys
-        ≡ fold with_number [] (numbers_without inputs.now.keys (others_held rows.now parts.now))) }
+        ≡ fold with_input_number [] (numbers_without inputs.now.keys (others_held rows.now parts.now))) }
 {
     let mut others = IndexSet::new(alloc);
     for part in parts {
@@ -63,7 +63,7 @@ pub(crate) fn order_only_set(
 }
 
 fn add_all(set: &mut IndexSet<u32>, numbers: &[u32]) -> Result<(), AllocError>
-    ensures { OnOk result (set.new.keys ≡ fold with_number set.old.keys numbers.now) }
+    ensures { OnOk result (set.new.keys ≡ fold with_input_number set.old.keys numbers.now) }
 {
     for number in numbers {
         set.insert(*number)?;
@@ -77,7 +77,8 @@ fn add_others(
     others: &IndexSet<u32>,
     numbers: &[u32],
 ) -> Result<(), AllocError>
-    ensures { OnOk result (set.new.keys ≡ fold with_number set.old.keys (numbers_without others.now.keys numbers.now)) }
+    ensures { OnOk result (set.new.keys ≡ fold with_input_number set.old.keys
+        (numbers_without others.now.keys numbers.now)) }
 {
     for number in numbers {
         if !others.contains(number) {

@@ -13,8 +13,8 @@ ghost use Rattle.kt_graph.specs.inner.nodes.Reached.{reached_text};
 ghost use Rattle.kt_list.specs.Prefixes.{HasMore};
 
 use crate::nodes::needing::{Needing, Sort, needed_as};
-use crate::nodes::part::Numbered;
-use crate::nodes::reached::Reached;
+use crate::nodes::part::NumberedNeeds;
+use crate::nodes::reached::ReachedNumbers;
 use crate::nodes::reached_name::ReachedName;
 use crate::nodes::tables::Tables;
 use kt_list::{Names, narrow};
@@ -32,7 +32,7 @@ pub(crate) struct NameNumbers<'a> {
     tables: Tables<'a>,
     // Names that don't stand there. Their numbers come after those.
     others: Names,
-    reached: Reached,
+    reached: ReachedNumbers,
 }
 
 impl<'a> Model for NameNumbers<'a> {
@@ -69,7 +69,7 @@ impl<'a> NameNumbers<'a> {
             alloc,
             tables,
             others: Names::new(alloc),
-            reached: Reached::none(alloc, room)?,
+            reached: ReachedNumbers::none(alloc, room)?,
         })
     }
 
@@ -172,7 +172,7 @@ impl<'a> NameNumbers<'a> {
     pub(crate) fn number_needs(
         &mut self,
         needing: Needing<'_, '_, '_>,
-        numbered: &mut Numbered,
+        numbered: &mut NumberedNeeds,
     ) -> Result<(), AllocError>
         ensures says { OnOk result (SaysNeeds self.new (needing_view needing.entry)
             numbered.new.prerequisites.items numbered.new.order_only.items) }

@@ -37,14 +37,14 @@ impl Maker {
 
 /// A recipe with the stem for its automatic macros.
 #[derive(Drop)]
-pub(crate) struct Part<'a> {
+pub(crate) struct PartRecipe<'a> {
     pub(crate) recipe: Option<&'a [RecipeLine]>,
     pub(crate) stem: Stem<'a>,
 }
 
 /// Prerequisites by number, in order and with repeats.
 #[derive(Drop)]
-pub(crate) struct Numbered {
+pub(crate) struct NumberedNeeds {
     pub(crate) prerequisites: Vec<u32>,
     pub(crate) order_only: Vec<u32>,
 }
@@ -52,45 +52,45 @@ pub(crate) struct Numbered {
 /// A part with its prerequisites.
 #[derive(Drop)]
 pub(crate) struct NumberedPart<'a> {
-    pub(crate) part: Part<'a>,
-    pub(crate) needs: Numbered,
+    pub(crate) part: PartRecipe<'a>,
+    pub(crate) needs: NumberedNeeds,
 }
 
-impl<'a> Part<'a> {
+impl<'a> PartRecipe<'a> {
     /// The part of a rule of a target.
     pub(crate) fn of_rule(
         alloc: Global,
         book: &'a Book,
         rule: TargetRule<'a>,
-    ) -> Result<Part<'a>, AllocError>
+    ) -> Result<PartRecipe<'a>, AllocError>
         ensures { IfOk result (λ part. (needs : Needs) → part_with (rule_view rule.entry).1.name part needs
             ≡ part_of (suffixes_of book.now) (rule_view rule.entry) needs) }
     {
         let stem = Stem::of_rule(alloc, book, rule)?;
-        Ok(Part {
+        Ok(PartRecipe {
             recipe: rule.entry.recipe(),
             stem,
         })
     }
 
     /// The part of a node without a recipe.
-    pub(crate) fn bare(book: &'a Book) -> Part<'a>
+    pub(crate) fn bare(book: &'a Book) -> PartRecipe<'a>
         ensures recipe { result.recipe ≡ None }
         ensures stem { result.stem ≡ own (suffixes_of book.now) }
     {
-        Part {
+        PartRecipe {
             recipe: None,
             stem: Stem::own(book),
         }
     }
 }
 
-impl Numbered {
+impl NumberedNeeds {
     /// No prerequisites.
-    pub(crate) fn none(alloc: Global) -> Numbered
+    pub(crate) fn none(alloc: Global) -> NumberedNeeds
         ensures { (result.prerequisites.items ≡ []) × (result.order_only.items ≡ []) }
     {
-        Numbered {
+        NumberedNeeds {
             prerequisites: Vec::new(alloc),
             order_only: Vec::new(alloc),
         }

@@ -10,20 +10,20 @@ use std::alloc::{AllocError, Global};
 
 /// The numbers that were reached, each once, and the place of each.
 #[derive(Drop)]
-pub(crate) struct Reached {
+pub(crate) struct ReachedNumbers {
     numbers: Vec<u32>,
     // The mark of a number is its place plus 1, or 0 if it wasn't reached; those that are left out are 0.
     marks: Vec<u32>,
 }
 
-impl Reached {
+impl ReachedNumbers {
     /// None is reached; so many are the first to be.
-    pub(crate) fn none(alloc: Global, count: usize) -> Result<Reached, AllocError>
+    pub(crate) fn none(alloc: Global, count: usize) -> Result<ReachedNumbers, AllocError>
         ensures none { IfOk result (λ reached. reached.numbers.items ≡ []) }
         ensures placed { IfOk result (λ reached. (names : List Text)
             → IsPlaced names reached.numbers.items reached.marks.items) }
     {
-        Ok(Reached {
+        Ok(ReachedNumbers {
             numbers: Vec::new(alloc),
             marks: Vec::from_elem(alloc, 0u32, count)?,
         })

@@ -22,11 +22,11 @@ use std::marker::Model;
 /// gives it by the name: suffixes of which the name loses one, a place, or just its bytes.
 #[derive(Drop)]
 pub(crate) struct Stem<'a> {
-    form: Form<'a>,
+    form: StemStorage<'a>,
 }
 
 #[derive(Drop)]
-enum Form<'a> {
+enum StemStorage<'a> {
     // The name without its suffix.
     Own(&'a Book),
     // From a place in the name on, so many bytes.
@@ -36,9 +36,9 @@ enum Form<'a> {
 }
 
 impl<'a> Model for Stem<'a> {
-    ghost use Rattle.kt_graph.specs.inner.nodes.Stems.{HeldStem, stem_held};
+    ghost use Rattle.kt_graph.specs.inner.nodes.Stems.{Stem, stem_held};
 
-    ghost Value = { HeldStem };
+    ghost Value = { Stem };
 
     ghost view = { λ stem. stem_held stem.form };
 }
@@ -64,7 +64,7 @@ impl<'a> Stem<'a> {
         ensures { result ≡ own (suffixes_of book.now) }
     {
         Stem {
-            form: Form::Own(book),
+            form: StemStorage::Own(book),
         }
     }
 
@@ -80,7 +80,7 @@ impl<'a> Stem<'a> {
         match place_in(name, front, back) {
             Some(place) => Stem::within(place, front.len() + back.len()),
             None => Ok(Stem {
-                form: Form::Given(Box::new(alloc, appended(alloc, front, back)?)?),
+                form: StemStorage::Given(Box::new(alloc, appended(alloc, front, back)?)?),
             }),
         }
     }
@@ -91,7 +91,7 @@ impl<'a> Stem<'a> {
         ensures large { OnErr result ((4294967295 < place) ⊎ (4294967295 < len)) }
     {
         Ok(Stem {
-            form: Form::Within(narrow(place)?, narrow(len)?),
+            form: StemStorage::Within(narrow(place)?, narrow(len)?),
         })
     }
 
@@ -100,9 +100,9 @@ impl<'a> Stem<'a> {
         ensures { result.now ≡ stem_in name.now self.now }
     {
         match &self.form {
-            Form::Own(book) => suffix_stem(book, name),
-            Form::Within(place, len) => up_to(after(name, *place as usize), *len as usize),
-            Form::Given(text) => text.as_slice(),
+            StemStorage::Own(book) => suffix_stem(book, name),
+            StemStorage::Within(place, len) => up_to(after(name, *place as usize), *len as usize),
+            StemStorage::Given(text) => text.as_slice(),
         }
     }
 }

@@ -3,8 +3,8 @@ ghost use Rattle.std.specs.Prelude.{◌≡◌, ◌++◌, ◌∷◌, ◌<◌, ◌
 ghost use Rattle.std.specs.Prelude.{option_map, option_to_list, slice_get, true, None, Some};
 ghost use Rattle.kt_graph.specs.declared.nodes.node.NodeKind.TheVariants.{DoubleColon};
 ghost use Rattle.kt_graph.specs.inner.nodes.Stored.{input_numbers, order_only_numbers};
-ghost use Rattle.kt_graph.specs.declared.nodes.stored.Head.{Head};
-ghost use Rattle.kt_graph.specs.inner.nodes.Stored.{AreAlike, AreRowsOf, AreStored, Grew, HasOnePart, IsHeadOf, IsLike};
+ghost use Rattle.kt_graph.specs.declared.nodes.stored.NodeHead.{NodeHead};
+ghost use Rattle.kt_graph.specs.inner.nodes.Stored.{AreRowsOf, AreStored, Grew, HasOnePart, HaveOneMaking, IsHeadOf, IsLike};
 ghost use Rattle.kt_list.specs.Prefixes.{HasMore};
 ghost use Rattle.kt_graph.specs.inner.nodes.Stored.{IsPartWithin, IsSpanWithin, node_like, nodes_stored};
 ghost use Rattle.kt_graph.specs.inner.nodes.Stored.{PutsParts, cut, stored_with, part_held, part_seen};
@@ -12,7 +12,7 @@ ghost use Rattle.kt_graph.specs.inner.nodes.Stored.{parts_held, parts_stored, so
 
 use crate::nodes::inputs::{has_own_inputs, input_set, order_only_set};
 use crate::nodes::node::NodeKind;
-use crate::nodes::part::{Maker, Numbered, NumberedPart, Part};
+use crate::nodes::part::{Maker, NumberedNeeds, NumberedPart, PartRecipe};
 use crate::nodes::rows::{are_rows, put_rows};
 use crate::nodes::stem::Stem;
 use kt_list::{Rows, narrow};
@@ -25,7 +25,7 @@ use std::marker::Model;
 /// The lists of all nodes are in one vector, one after another, and a node has the places of its own.
 #[derive(Drop)]
 pub(crate) struct StoredNodes<'a> {
-    heads: Vec<Head>,
+    heads: Vec<NodeHead>,
     parts: Vec<HeldPart<'a>>,
     // The prerequisites of parts, and the inputs of nodes if they differ: two rows each, the second order-only.
     rows: Rows<u32>,
@@ -33,7 +33,7 @@ pub(crate) struct StoredNodes<'a> {
 
 /// A node without its lists.
 #[derive(Clone, Copy)]
-pub(crate) struct Head {
+pub(crate) struct NodeHead {
     kind: NodeKind,
     // A mark beside the number takes less room than an option.
     has_making: bool,
@@ -106,8 +106,8 @@ impl<'a> StoredNodes<'a> {
         &mut self,
         alloc: Global,
         maker: Maker,
-        part: Part<'a>,
-        needs: &Numbered,
+        part: PartRecipe<'a>,
+        needs: &NumberedNeeds,
     ) -> Result<(), AllocError>
         ensures { OnOk result (self.new ≡ self.old ++ stored_with maker.kind maker.made_with
             (part_held part.entry needs.now ∷ []) ∷ []) }
@@ -123,7 +123,7 @@ impl<'a> StoredNodes<'a> {
         &mut self,
         number: usize,
         maker: Maker,
-        part: Part<'a>,
+        part: PartRecipe<'a>,
     ) -> Result<(), AllocError>
         requires { HasOnePart self.old number }
         ensures { OnOk result (self.new ≡ self.old ++ node_like maker.kind maker.made_with part.entry
@@ -231,7 +231,7 @@ impl<'a> StoredNodes<'a> {
 
     /// Whether two nodes have one making and hold their inputs together. Nothing is promised of those that don't.
     pub(crate) fn are_alike(&self, one: usize, other: usize) -> bool
-        ensures { result ≡ true → AreAlike (stored_at self.now one) (stored_at self.now other) }
+        ensures { result ≡ true → HaveOneMaking (stored_at self.now one) (stored_at self.now other) }
     {
         match (self.heads.get(one), self.heads.get(other)) {
             (Some(one), Some(other)) => {
@@ -242,7 +242,7 @@ impl<'a> StoredNodes<'a> {
     }
 }
 
-impl Head {
+impl NodeHead {
     fn made_with(&self) -> Option<usize>
         ensures { result ≡ some_if self.now.has_making self.now.making }
     {
@@ -255,13 +255,13 @@ impl Head {
 
 impl<'a> HeldPart<'a> {
     // A part whose prerequisites are in the rows from this place on.
-    fn of(part: Part<'a>, needs: u32) -> HeldPart<'a>
+    fn of(part: PartRecipe<'a>, needs: u32) -> HeldPart<'a>
         ensures recipe { some_if result.has_recipe result.lines.now
             ≡ option_map (λ lines. lines.now) part.entry.recipe }
         ensures stem { result.stem ≡ part.entry.stem }
         ensures needs { result.needs ≡ needs }
     {
-        let Part { recipe, stem } = part;
+        let PartRecipe { recipe, stem } = part;
         match recipe {
             Some(lines) => HeldPart {
                 lines,
@@ -288,7 +288,7 @@ impl<'a> HeldPart<'a> {
     }
 }
 
-fn head_at(heads: &[Head], number: usize) -> Option<Head>
+fn head_at(heads: &[NodeHead], number: usize) -> Option<NodeHead>
     ensures { result ≡ slice_get heads.now number }
 {
     match heads.get(number) {
@@ -311,9 +311,9 @@ fn put_node<'a>(
     parts: &mut Vec<HeldPart<'a>>,
     rows: &mut Rows<u32>,
     maker: Maker,
-    part: Part<'a>,
-    needs: &Numbered,
-) -> Result<Head, AllocError>
+    part: PartRecipe<'a>,
+    needs: &NumberedNeeds,
+) -> Result<NodeHead, AllocError>
     requires { All (IsPartWithin (length rows.old)) parts.old.items }
     ensures grew { Grew parts.old.items rows.old parts.new.items rows.new }
     ensures head { IfOk result (IsHeadOf parts.new.items rows.new (stored_with maker.kind maker.made_with
@@ -326,13 +326,13 @@ fn put_node<'a>(
 
 // Adds the part of a node that needs what another node with one part does.
 fn put_like<'a>(
-    heads: &[Head],
+    heads: &[NodeHead],
     parts: &mut Vec<HeldPart<'a>>,
     rows: &Rows<u32>,
     number: usize,
     maker: Maker,
-    part: Part<'a>,
-) -> Result<Head, AllocError>
+    part: PartRecipe<'a>,
+) -> Result<NodeHead, AllocError>
     requires stored { AreStored parts.old.items rows.now heads.now }
     requires one { HasOnePart (nodes_stored parts.old.items rows.now heads.now) number }
     ensures grew { Grew parts.old.items rows.now parts.new.items rows.now }
@@ -346,20 +346,21 @@ fn put_like<'a>(
 
 // The node whose part comes next, with the inputs of another node and the rows of its only part.
 fn head_like(
-    heads: &[Head],
+    heads: &[NodeHead],
     parts: &[HeldPart],
     number: usize,
     maker: Maker,
-) -> Result<(Head, u32), AllocError>
+) -> Result<(NodeHead, u32), AllocError>
     requires within { All (λ head. IsSpanWithin (length parts.now) head.parts) heads.now }
     requires there { number < length heads.now }
-    requires alone { (head : Head) → slice_get heads.now number ≡ Some head → length (cut parts.now head.parts) ≡ 1 }
+    requires alone { (head : NodeHead) → slice_get heads.now number ≡ Some head → length (cut parts.now head.parts)
+        ≡ 1 }
     ensures { IfOk result (IsLike heads.now parts.now number maker) }
 {
     let like = heads[number];
     let needs = cut(parts, like.parts)[0].needs;
     let making = maker.making()?;
-    let head = Head {
+    let head = NodeHead {
         kind: maker.kind,
         has_making: maker.made_with.is_some(),
         making,
@@ -375,7 +376,7 @@ fn put_double<'a>(
     held: &mut Vec<HeldPart<'a>>,
     rows: &mut Rows<u32>,
     parts: Vec<NumberedPart<'a>>,
-) -> Result<Head, AllocError>
+) -> Result<NodeHead, AllocError>
     requires { All (IsPartWithin (length rows.old)) held.old.items }
     ensures grew { Grew held.old.items rows.old held.new.items rows.new }
     ensures head { IfOk result (IsHeadOf held.new.items rows.new (stored_with DoubleColon None
@@ -397,7 +398,7 @@ fn head_from(
     rows: &mut Rows<u32>,
     start: usize,
     maker: Maker,
-) -> Result<Head, AllocError>
+) -> Result<NodeHead, AllocError>
     requires within { All (IsPartWithin (length rows.old)) held.now }
     requires begins { start ≤ length held.now }
     ensures grew { HasMore rows.old rows.new }
@@ -407,7 +408,7 @@ fn head_from(
     let making = maker.making()?;
     let parts = span_of(start, held.len())?;
     let inputs = put_inputs(alloc, &held[start..], rows)?;
-    Ok(Head {
+    Ok(NodeHead {
         kind: maker.kind,
         has_making: maker.made_with.is_some(),
         making,
@@ -436,8 +437,8 @@ fn put_parts<'a>(
 fn put_part<'a>(
     held: &mut Vec<HeldPart<'a>>,
     rows: &mut Rows<u32>,
-    part: Part<'a>,
-    needs: &Numbered,
+    part: PartRecipe<'a>,
+    needs: &NumberedNeeds,
 ) -> Result<(), AllocError>
     ensures grew { Grew held.old.items rows.old held.new.items rows.new }
     ensures put { OnOk result (PutsParts held.old.items held.new.items rows.new (part_held part.entry needs.now ∷ [])) }

@@ -3,7 +3,7 @@ ghost use Rattle.std.specs.Prelude.{◌≡◌, ◌<◌, ◌≤◌, ◌||◌, ◌
 ghost use Rattle.std.specs.Prelude.{filter_map, length, IfOk, IfSome, OnOk};
 ghost use Rattle.std.specs.List.{list_any};
 ghost use Rattle.std.specs.List.Sorted.{IsPermutation};
-ghost use Rattle.kt_rules.specs.Entry.{Rule};
+ghost use Rattle.kt_rules.specs.Entry.{Entry};
 ghost use Rattle.kt_rules.specs.Patterns.{is_terminal};
 ghost use Rattle.kt_graph.specs.search.Candidates.{candidate_by, candidate_of, candidates_for, matching_from, shortest};
 ghost use Rattle.kt_graph.specs.inner.search.Ends.{candidate_numbered, candidates_numbered};
@@ -110,7 +110,7 @@ fn shortest(number: usize, pattern: &Pattern, name: &[u8]) -> Option<Candidate>
 
 // A rule as a candidate for a name by one of its targets, if the target matches.
 fn candidate_by(rule: usize, target: &Target, name: &[u8]) -> Option<Candidate>
-    ensures candidate { (of : Rule) → option_map (candidate_at name.now of) result
+    ensures candidate { (of : Entry) → option_map (candidate_at name.now of) result
         ≡ candidate_by rule of name.now target.now }
     ensures within { IfSome result (λ candidate. (candidate.rule ≡ rule) × IsFitWithin name.now candidate.fit) }
 {

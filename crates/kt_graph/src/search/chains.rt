@@ -7,7 +7,7 @@ ghost use Rattle.kt_rules.specs.Suffixes.{all_needs};
 ghost use Rattle.kt_graph.specs.search.Candidates.{needed_names, needs_with};
 ghost use Rattle.kt_graph.specs.inner.search.Chains.{IsFound, IsRightFor, KeepsAnswers, HasAnswered, asked_besides};
 ghost use Rattle.kt_graph.specs.Known.{unknown_of};
-ghost use Rattle.kt_graph.specs.search.Search.{asked_among, asked_by, asked_for, asked_inside, asking, chain_limit};
+ghost use Rattle.kt_graph.specs.search.Search.{asking, chain_limit, questions_among, questions_by, questions_for, questions_inside};
 ghost use Rattle.kt_graph.specs.search.Search.{choice_of, chosen_of, fitting, is_inferred, is_met, is_used};
 ghost use Rattle.kt_graph.specs.search.Search.{open_candidates, unknown_needs, with_rule};
 ghost use Rattle.kt_graph.specs.search.Views.{AreWithin, IsFitWithin, candidate_view, candidates_view, choice_view};
@@ -21,7 +21,7 @@ use crate::search::knowing::knows_all;
 use crate::search::patterns::Patterns;
 use crate::search::question::Question;
 use crate::search::stemming::Stemming;
-use crate::search::tried::{Placed, Tried};
+use crate::search::tried::{QuestionPlace, TriedQuestions};
 use kt_list::Names;
 use kt_rules::{Name, Needs, Pattern};
 use std::alloc::{AllocError, Global};
@@ -58,7 +58,11 @@ impl<'a> Chains<'a> {
     }
 
     /// The rule that makes a name, without a chain before it. If memory runs out, some questions may have no answer.
-    pub(crate) fn choice(&self, tried: &mut Tried, name: &[u8]) -> Result<Choice, AllocError>
+    pub(crate) fn choice(
+        &self,
+        tried: &mut TriedQuestions,
+        name: &[u8],
+    ) -> Result<Choice, AllocError>
         requires { IsRightFor self.now.patterns self.now.known.now tried.old 0 }
         ensures chosen { IfOk result (λ choice. choice
             ≡ option_map choice_view (choice_of self.now.patterns self.now.known.now name.now)) }
@@ -73,7 +77,11 @@ impl<'a> Chains<'a> {
     }
 
     /// The same, but the question itself isn't stored.
-    pub(crate) fn choice_alone(&self, tried: &mut Tried, name: &[u8]) -> Result<Choice, AllocError>
+    pub(crate) fn choice_alone(
+        &self,
+        tried: &mut TriedQuestions,
+        name: &[u8],
+    ) -> Result<Choice, AllocError>
         requires { IsRightFor self.now.patterns self.now.known.now tried.old 1 }
         ensures chosen { IfOk result (λ choice. choice
             ≡ option_map choice_view (choice_of self.now.patterns self.now.known.now name.now)) }
@@ -90,7 +98,7 @@ impl<'a> Chains<'a> {
     #[cycle(search)]
     fn ask(
         &self,
-        tried: &mut Tried,
+        tried: &mut TriedQuestions,
         left: usize,
         name: &[u8],
         used: &[usize],
@@ -105,8 +113,8 @@ impl<'a> Chains<'a> {
     {
         let question = Question::new(self.alloc, name, used)?;
         match tried.put(question)? {
-            Placed::Before(answer) => Ok(answer),
-            Placed::Last(place) => {
+            QuestionPlace::Before(answer) => Ok(answer),
+            QuestionPlace::Last(place) => {
                 let answer = self.answer(tried, left, name, used)?;
                 tried.note(place, answer);
                 Ok(answer)
@@ -118,7 +126,7 @@ impl<'a> Chains<'a> {
     #[cycle(search)]
     fn answer(
         &self,
-        tried: &mut Tried,
+        tried: &mut TriedQuestions,
         left: usize,
         name: &[u8],
         used: &[usize],
@@ -141,7 +149,7 @@ impl<'a> Chains<'a> {
     #[cycle(search)]
     fn first_fitting(
         &self,
-        tried: &mut Tried,
+        tried: &mut TriedQuestions,
         left: usize,
         name: &[u8],
         used: &[usize],
@@ -152,7 +160,8 @@ impl<'a> Chains<'a> {
             (chosen_of self.now.known.now (fitting self.now.patterns self.now.known.now left) used.now
             (open_candidates self.now.patterns used.now name.now))) }
         ensures leaves { OnOk result (HasAnswered self.now.patterns self.now.known.now tried.old tried.new
-            (length used.now + 1) (asked_inside self.now.known.now (fitting self.now.patterns self.now.known.now left)
+            (length used.now + 1) (questions_inside self.now.known.now
+            (fitting self.now.patterns self.now.known.now left)
             (asking self.now.patterns self.now.known.now left) used.now
             (open_candidates self.now.patterns used.now name.now))) }
         ensures kept { KeepsAnswers tried.old tried.new }
@@ -213,7 +222,7 @@ impl<'a> Chains<'a> {
     #[cycle(search)]
     fn first_inferred(
         &self,
-        tried: &mut Tried,
+        tried: &mut TriedQuestions,
         left: usize,
         name: &[u8],
         used: &[usize],
@@ -226,7 +235,8 @@ impl<'a> Chains<'a> {
             (find (is_inferred self.now.known.now (fitting self.now.patterns self.now.known.now left) used.now)
             (candidates_view self.now.patterns name.now candidates.now))) }
         ensures leaves { OnOk result (HasAnswered self.now.patterns self.now.known.now tried.old tried.new
-            (length used.now + 1) (asked_among self.now.known.now (fitting self.now.patterns self.now.known.now left)
+            (length used.now + 1) (questions_among self.now.known.now (fitting self.now.patterns self.now.known.now
+            left)
             (asking self.now.patterns self.now.known.now left) used.now
             (candidates_view self.now.patterns name.now candidates.now))) }
         ensures kept { KeepsAnswers tried.old tried.new }
@@ -245,7 +255,7 @@ impl<'a> Chains<'a> {
     #[cycle(search)]
     fn is_inferred(
         &self,
-        tried: &mut Tried,
+        tried: &mut TriedQuestions,
         left: usize,
         name: &[u8],
         used: &[usize],
@@ -259,7 +269,7 @@ impl<'a> Chains<'a> {
             used.now told)) }
         ensures leaves { OnOk result (IfSome (candidate_view self.now.patterns name.now candidate)
             (λ told. HasAnswered self.now.patterns self.now.known.now tried.old tried.new (length used.now + 1)
-            (asked_by self.now.known.now (fitting self.now.patterns self.now.known.now left)
+            (questions_by self.now.known.now (fitting self.now.patterns self.now.known.now left)
             (asking self.now.patterns self.now.known.now left) used.now told))) }
         ensures kept { KeepsAnswers tried.old tried.new }
     {
@@ -275,7 +285,7 @@ impl<'a> Chains<'a> {
     #[cycle(search)]
     fn all_found(
         &self,
-        tried: &mut Tried,
+        tried: &mut TriedQuestions,
         left: usize,
         names: &[Name],
         used: &[usize],
@@ -285,7 +295,7 @@ impl<'a> Chains<'a> {
         ensures found { IfOk result (λ all. all ≡ list_all
             (λ name. is_some (fitting self.now.patterns self.now.known.now left used.now name)) names.now) }
         ensures leaves { OnOk result (HasAnswered self.now.patterns self.now.known.now tried.old tried.new
-            (length used.now) (asked_for (fitting self.now.patterns self.now.known.now left)
+            (length used.now) (questions_for (fitting self.now.patterns self.now.known.now left)
             (asking self.now.patterns self.now.known.now left) used.now names.now)) }
         ensures kept { KeepsAnswers tried.old tried.new }
     {

@@ -12,16 +12,16 @@ use std::alloc::{AllocError, Global};
 
 /// The numbers of rules, by the ends of their targets.
 #[derive(Drop)]
-pub(crate) struct Ends {
+pub(crate) struct TargetEnds {
     alloc: Global,
     // The lengths of the ends: a name is looked up once for each length instead of once for each end.
     lengths: IndexSet<usize>,
     numbers: Index<usize>,
 }
 
-impl Ends {
-    pub(crate) fn none(alloc: Global) -> Ends {
-        Ends {
+impl TargetEnds {
+    pub(crate) fn none(alloc: Global) -> TargetEnds {
+        TargetEnds {
             alloc,
             lengths: IndexSet::new(alloc),
             numbers: Index::new(alloc),

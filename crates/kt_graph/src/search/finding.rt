@@ -10,7 +10,7 @@ use crate::known::Known;
 use crate::search::chains::Chains;
 use crate::search::choice::Choice;
 use crate::search::patterns::Patterns;
-use crate::search::tried::Tried;
+use crate::search::tried::TriedQuestions;
 use kt_rules::{Book, Pattern};
 use std::alloc::{AllocError, Global};
 use std::marker::Model;
@@ -23,13 +23,13 @@ use std::marker::Model;
 pub(crate) struct Finder<'a> {
     chains: Chains<'a>,
     // The questions with chains so far, with their answers.
-    tried: Tried,
+    tried: TriedQuestions,
 }
 
 impl<'a> Model for Finder<'a> {
-    ghost use Rattle.kt_graph.specs.inner.search.Chains.{Finding};
+    ghost use Rattle.kt_graph.specs.inner.search.Chains.{Finder};
 
-    ghost Value = { Finding };
+    ghost Value = { Finder };
 
     ghost use Rattle.kt_graph.specs.inner.search.Chains.{IsRight};
 
@@ -43,7 +43,7 @@ impl<'a> Model for Finder<'a> {
 }
 
 impl<'a> Finder<'a> {
-    ghost use Rattle.kt_graph.specs.inner.search.Chains.{Finding};
+    ghost use Rattle.kt_graph.specs.inner.search.Chains.{Finder as FinderSeen};
 
     /// A search without questions so far.
     pub(crate) fn new(
@@ -59,7 +59,7 @@ impl<'a> Finder<'a> {
         let patterns = Patterns::of(alloc, book.patterns()?)?;
         Ok(Finder {
             chains: Chains::new(alloc, patterns, known),
-            tried: Tried::new(alloc),
+            tried: TriedQuestions::new(alloc),
         })
     }
 

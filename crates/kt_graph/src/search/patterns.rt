@@ -1,10 +1,10 @@
 //! The pattern rules of a search.
 ghost use Rattle.std.specs.Prelude.{◌≡◌, option_map, slice_get, IfOk};
-ghost use Rattle.kt_rules.specs.Entry.{Rule};
+ghost use Rattle.kt_rules.specs.Entry.{Entry};
 ghost use Rattle.kt_graph.specs.search.Candidates.{matching_from};
 ghost use Rattle.kt_graph.specs.inner.search.Ends.{AreAllNoted, candidates_numbered};
 
-use crate::search::ends::Ends;
+use crate::search::ends::TargetEnds;
 use kt_rules::Pattern;
 use std::alloc::{AllocError, Global};
 use std::marker::Model;
@@ -13,14 +13,14 @@ use std::marker::Model;
 #[derive(Drop)]
 pub(crate) struct Patterns<'a> {
     rules: Vec<Pattern<'a>>,
-    ends: Ends,
+    ends: TargetEnds,
 }
 
 impl<'a> Model for Patterns<'a> {
     ghost use Rattle.std.specs.Prelude.{List};
-    ghost use Rattle.kt_rules.specs.Entry.{Rule};
+    ghost use Rattle.kt_rules.specs.Entry.{Entry};
 
-    ghost Value = { List Rule };
+    ghost Value = { List Entry };
 
     ghost use Rattle.kt_graph.specs.inner.search.Ends.{AreAllNoted};
 
@@ -64,10 +64,10 @@ impl<'a> Patterns<'a> {
 }
 
 // The ends of the targets of rules.
-fn ends_of(alloc: Global, rules: &[Pattern]) -> Result<Ends, AllocError>
+fn ends_of(alloc: Global, rules: &[Pattern]) -> Result<TargetEnds, AllocError>
     ensures { IfOk result (λ ends. AreAllNoted ends rules.now) }
 {
-    let mut ends = Ends::none(alloc);
+    let mut ends = TargetEnds::none(alloc);
     for (number, rule) in rules.iter().enumerate() {
         ends.note_targets(rule.targets(), number)?;
     }

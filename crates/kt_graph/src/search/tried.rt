@@ -2,7 +2,7 @@
 ghost use Rattle.std.specs.Prelude.{◌≡◌, [], None, length, map, take, slice_get, slice_set, unwrap_or, IfOk};
 ghost use Rattle.std.specs.List.{IsDistinct};
 ghost use Rattle.kt_graph.specs.inner.search.Chains.{IsAnswerPlaced, KeepsAnswers};
-ghost use Rattle.kt_graph.specs.search.Search.{asked_eq};
+ghost use Rattle.kt_graph.specs.search.Search.{question_eq};
 ghost use Rattle.kt_graph.specs.search.Views.{question_view};
 
 use crate::search::candidate::Candidate;
@@ -14,7 +14,7 @@ use std::alloc::{AllocError, Global};
 ///
 /// A question is added before its answer is found.
 #[derive(Drop)]
-pub(crate) struct Tried {
+pub(crate) struct TriedQuestions {
     questions: IndexSet<Question>,
     // The answer to each question.
     answers: Vec<Option<Candidate>>,
@@ -22,19 +22,19 @@ pub(crate) struct Tried {
 
 /// Where a question is among the others.
 #[derive(Clone, Copy)]
-pub(crate) enum Placed {
+pub(crate) enum QuestionPlace {
     /// It was there already, with this answer.
     Before(Option<Candidate>),
     /// It was added at this place, after all others, and has no answer yet.
     Last(usize),
 }
 
-impl Tried {
-    pub(crate) fn new(alloc: Global) -> Tried
+impl TriedQuestions {
+    pub(crate) fn new(alloc: Global) -> TriedQuestions
         ensures questions { result.questions.keys ≡ [] }
         ensures answers { result.answers.items ≡ [] }
     {
-        Tried {
+        TriedQuestions {
             questions: IndexSet::new(alloc),
             answers: Vec::new(alloc),
         }
@@ -43,7 +43,7 @@ impl Tried {
     /// The questions, in order.
     pub(crate) fn questions(&self) -> &[Question]
         ensures value { result.now ≡ self.now.questions.keys }
-        ensures once { IsDistinct asked_eq (map question_view result.now) }
+        ensures once { IsDistinct question_eq (map question_view result.now) }
     {
         self.questions.as_slice()
     }
@@ -65,16 +65,16 @@ impl Tried {
     }
 
     /// Adds a question, unless it is there. If memory runs out, it may be there without a place for its answer.
-    pub(crate) fn put(&mut self, question: Question) -> Result<Placed, AllocError>
+    pub(crate) fn put(&mut self, question: Question) -> Result<QuestionPlace, AllocError>
         ensures placed { IfOk result (IsAnswerPlaced self.old self.new question) }
         ensures kept { KeepsAnswers self.old self.new }
     {
         let (place, is_new) = self.questions.insert_full(question)?;
         if is_new {
             self.answers.push(None)?;
-            return Ok(Placed::Last(place));
+            return Ok(QuestionPlace::Last(place));
         }
-        Ok(Placed::Before(self.answer_at(place)))
+        Ok(QuestionPlace::Before(self.answer_at(place)))
     }
 
     fn answer_at(&self, place: usize) -> Option<Candidate>

@@ -34,13 +34,13 @@ kept_for ones firsts (one ∷ []) = one_at ones one
 kept_for ones firsts (one ∷ two ∷ list) = lookup (nat_eq (hash_of (one ∷ two ∷ list))) firsts
 
 -- a list's number is found: it is kept for the list, or is one of the others
-abbrev pub IsFound : List ℕ → List (ℕ × ℕ) → List ℕ → List ℕ → ℕ → Type 0
-IsFound ones firsts others list place = (kept_for ones firsts list ≡ Some place) ⊎ Contains others place
+abbrev pub IsListNumber : List ℕ → List (ℕ × ℕ) → List ℕ → List ℕ → ℕ → Type 0
+IsListNumber ones firsts others list place = (kept_for ones firsts list ≡ Some place) ⊎ Contains others place
 
 -- each list's number is found
 abbrev pub AreFound : List (List ℕ) → List ℕ → List (ℕ × ℕ) → List ℕ → Type 0
 AreFound lists ones firsts others =
-    (place : ℕ) (list : List ℕ) → slice_get lists place ≡ Some list → IsFound ones firsts others list place
+    (place : ℕ) (list : List ℕ) → slice_get lists place ≡ Some list → IsListNumber ones firsts others list place
 
 -- what was kept still is
 abbrev pub KeepsOnes : List ℕ → List ℕ → Type 0
@@ -59,4 +59,5 @@ KeepsFirsts firsts firsts' =
 -- what was found still is
 abbrev pub KeepsFound : List ℕ → List (ℕ × ℕ) → List ℕ → List ℕ → List (ℕ × ℕ) → List ℕ → Type 0
 KeepsFound ones firsts others ones' firsts' others' =
-    (list : List ℕ) (place : ℕ) → IsFound ones firsts others list place → IsFound ones' firsts' others' list place
+    (list : List ℕ) (place : ℕ) → IsListNumber ones firsts others list place
+    → IsListNumber ones' firsts' others' list place

@@ -17,9 +17,9 @@ made_same (Command c) Phony = (λ e. absurd (cc e), λ e. absurd (cc e))
 made_same Phony (Command d) = (λ e. absurd (cc e), λ e. absurd (cc e))
 made_same Phony Phony = (λ _. refl, λ _. refl)
 
-statement_of : (a b : Statement) → a.outs ≡ b.outs → a.made ≡ b.made → a.inputs ≡ b.inputs → a.implicit ≡ b.implicit
+equal_statements : (a b : Statement) → a.outs ≡ b.outs → a.made ≡ b.made → a.inputs ≡ b.inputs → a.implicit ≡ b.implicit
     → a.order_only ≡ b.order_only → a ≡ b
-statement_of a b outs made inputs implicit order_only = λ i. record {
+equal_statements a b outs made inputs implicit order_only = λ i. record {
   outs = outs i;
   made = made i;
   inputs = inputs i;
@@ -27,8 +27,8 @@ statement_of a b outs made inputs implicit order_only = λ i. record {
   order_only = order_only i;
 }
 
-plan_of : (a b : Plan) → a.statements ≡ b.statements → a.defaults ≡ b.defaults → a ≡ b
-plan_of a b statements defaults = λ i. record { statements = statements i; defaults = defaults i }
+equal_plans : (a b : Plan) → a.statements ≡ b.statements → a.defaults ≡ b.defaults → a ≡ b
+equal_plans a b statements defaults = λ i. record { statements = statements i; defaults = defaults i }
 
 statement_same : (a b : Statement) → Decides (same_statement a b) (a ≡ b)
 statement_same a b =
@@ -37,7 +37,7 @@ statement_same a b =
     let made = Decides-and (same_names a.inputs b.inputs) _ (names_same a.inputs b.inputs) inputs in
     let all = Decides-and (same_names a.outs b.outs) _ (names_same a.outs b.outs)
     (Decides-and (same_made a.made b.made) _ (made_same a.made b.made) made) in (
-      λ told. let p = all.0 told in statement_of a b p.0 p.1.0 p.1.1.0 p.1.1.1.0 p.1.1.1.1,
+      λ told. let p = all.0 told in equal_statements a b p.0 p.1.0 p.1.1.0 p.1.1.1.0 p.1.1.1.1,
       λ e. all.1 (
         ap (λ s. s.outs) e,
         (
@@ -53,8 +53,11 @@ statement_same a b =
 plan_same : (a b : Plan) → Decides (same_plan a b) (a ≡ b)
 plan_same a b =
     let all = Decides-and (pointwise same_statement a.statements b.statements) (same_names a.defaults b.defaults)
-    (pointwise_decides statement_same a.statements b.statements) (names_same a.defaults b.defaults) in
-    (λ told. let p = all.0 told in plan_of a b p.0 p.1, λ e. all.1 (ap (λ p. p.statements) e, ap (λ p. p.defaults) e))
+    (pointwise_decides statement_same a.statements b.statements) (names_same a.defaults b.defaults) in (
+      λ told. let p = all.0 told in equal_plans a b p.0 p.1,
+      λ e. all.1
+          (ap (λ p. p.statements) e, ap (λ p. p.defaults) e),
+    )
 
 of_same : {K : Type 0} (E : K → K → Bool) (a b : K) (r : Bool) → ((x y : K) → Decides (E x y) (x ≡ y)) → r ≡ E a b
     → Decides r (a ≡ b)

@@ -1,10 +1,10 @@
 -- Texts that are paths or values, and their pieces (the reader's own).
-use Rattle.kt_ninja_reader.specs.Prelude.{Bool, List, [], is_some, unwrap_or, Text, Piece, pieces}
+use Rattle.kt_ninja_reader.specs.Prelude.{Bool, List, [], is_some, unwrap_or, Bytes, Piece, pieces}
 
 -- whether each dollar of the text begins an escape or a variable
-abbrev pub is_spelled : Text → Bool
+abbrev pub is_spelled : Bytes → Bool
 is_spelled text = is_some (pieces text)
 
 -- the pieces of such a text
-abbrev pub pieces_in : Text → List Piece
+abbrev pub pieces_in : Bytes → List Piece
 pieces_in text = unwrap_or (pieces text) []

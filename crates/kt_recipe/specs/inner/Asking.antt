@@ -1,9 +1,9 @@
 -- How the code finds the subject and form of an automatic macro by its name (the crate's own).
 use Rattle.std.specs.Prelude.{ℕ, ◌==◌, List, [], ◌∷◌, Option, Some, None, option_map, if◌then◌else◌}
 use Rattle.std.specs.Option.{option_and_then}
-use Rattle.kt_recipe.specs.Prelude.{Text, Node, Form, Subject, marks, has_parts, names_in}
-use Rattle.kt_recipe.specs.declared.forms.Form.TheVariants.{Whole, Directory, File}
-use Rattle.kt_recipe.specs.Forms.{text_of}
+use Rattle.kt_recipe.specs.Prelude.{Text, Node, NamePart, Subject, marks, has_parts, subject_names_in}
+use Rattle.kt_recipe.specs.declared.forms.NamePart.TheVariants.{Whole, Directory, File}
+use Rattle.kt_recipe.specs.Forms.{names_text_in}
 
 -- the subject of a mark
 abbrev pub subject_in : List (ℕ × Subject) → ℕ → Option Subject
@@ -14,19 +14,20 @@ unfoldable pub subject_of : ℕ → Option Subject
 subject_of mark = subject_in marks mark
 
 -- the form of a letter
-abbrev pub form_of : ℕ → Option Form
-form_of letter = if 68 == letter then Some Directory else (if 70 == letter then Some File else None)
+abbrev pub letter_part : ℕ → Option NamePart
+letter_part letter = if 68 == letter then Some Directory else (if 70 == letter then Some File else None)
 
-abbrev pub parted : Subject → ℕ → Option (Subject × Form)
-parted subject letter = if has_parts subject then option_map (λ form. (subject, form)) (form_of letter) else None
+abbrev pub parted : Subject → ℕ → Option (Subject × NamePart)
+parted subject letter = if has_parts subject then option_map (λ form. (subject, form)) (letter_part letter) else None
 
 -- the subject and form of the automatic macro with this name, if there is one
-unfoldable pub asked_by : Text → Option (Subject × Form)
-asked_by [] = None
-asked_by (mark ∷ []) = option_map (λ subject. (subject, Whole)) (subject_of mark)
-asked_by (mark ∷ letter ∷ []) = option_and_then (λ subject. parted subject letter) (subject_of mark)
-asked_by (mark ∷ letter ∷ other ∷ more) = None
+unfoldable pub subject_and_part : Text → Option (Subject × NamePart)
+subject_and_part [] = None
+subject_and_part (mark ∷ []) = option_map (λ subject. (subject, Whole)) (subject_of mark)
+subject_and_part (mark ∷ letter ∷ []) = option_and_then (λ subject. parted subject letter) (subject_of mark)
+subject_and_part (mark ∷ letter ∷ other ∷ more) = None
 
 -- its value in a part of a node
 unfoldable pub macro_in : Node → ℕ → Text → Option Text
-macro_in node part macro = option_map (λ asked. text_of asked.1 (names_in node part asked.0)) (asked_by macro)
+macro_in node part macro =
+    option_map (λ asked. names_text_in asked.1 (subject_names_in node part asked.0)) (subject_and_part macro)

@@ -14,5 +14,5 @@ pub record IsListOf (dictionary : List Text × List (List ℕ)) (number : ℕ) (
   pub numbers : AreNumbersOf dictionary.0 (get_or dictionary.1 number []) list
 
 -- the second dictionary has what the first has, with the same numbers
-abbrev pub Grows : List Text × List (List ℕ) → List Text × List (List ℕ) → Type 0
-Grows old new = HasMore old.0 new.0 × HasMore old.1 new.1
+abbrev pub GrowsDictionary : List Text × List (List ℕ) → List Text × List (List ℕ) → Type 0
+GrowsDictionary old new = HasMore old.0 new.0 × HasMore old.1 new.1

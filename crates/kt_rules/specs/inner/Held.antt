@@ -2,7 +2,7 @@
 use Rattle.std.specs.Prelude.{◌≡◌, ℕ, ◌≤◌, List, [], ◌∷◌, get_or, length}
 use Rattle.std.specs.Prelude.{Bool, true, Option, Some, None, if◌then◌else◌, option_map}
 use Rattle.kt_rules.specs.Prelude.{All, Text, BookRule, Spot, Kind, DoubleColon, Group, Needs}
-use Rattle.kt_rules.specs.Prelude.{Target, Rule, rule_by, target_of}
+use Rattle.kt_rules.specs.Prelude.{Target, Entry, rule_by, target_of}
 use Rattle.kt_rules.specs.declared.book.kinds.Kinds.{Kinds}
 use Rattle.kt_rules.specs.declared.book.row.NeedsNumbers.{NeedsNumbers}
 use Rattle.kt_rules.specs.declared.book.row.Row.{Row}
@@ -22,14 +22,14 @@ needs_held dictionary numbers = record {
 }
 
 -- a rule by its numbers and the lines of its recipe
-abbrev pub rule_held : List Text × List (List ℕ) → List RecipeLine → Row → Rule
+abbrev pub rule_held : List Text × List (List ℕ) → List RecipeLine → Row → Entry
 rule_held dictionary lines row =
     rule_by row.kind (names_at dictionary.0 (get_or dictionary.1 row.numbers.targets []))
     (option_map (name_at dictionary.0) row.numbers.pattern) (needs_held dictionary row.numbers.needs)
     (if row.has_recipe then Some lines else None) row.place
 
 -- the rules of rows: each has its lines
-abbrev pub rules_held : List Text × List (List ℕ) → List (List RecipeLine) → List Row → List Rule
+abbrev pub rules_held : List Text × List (List ℕ) → List (List RecipeLine) → List Row → List Entry
 rules_held dictionary [] rows = []
 rules_held dictionary (lines ∷ recipes) [] = []
 rules_held dictionary (lines ∷ recipes) (row ∷ rows) =
@@ -55,7 +55,7 @@ pub record AreRuleNumbers (dictionary : List Text × List (List ℕ)) (targets :
   pub of_needs : AreNeeds dictionary needs numbers.needs
 
 -- there may be the rule of a row, and its numbers are those of names
-pub record IsKnown (kinds : Kinds) (dictionary : List Text × List (List ℕ)) (row : Row) : Type 0 where
+pub record IsKnownRow (kinds : Kinds) (dictionary : List Text × List (List ℕ)) (row : Row) : Type 0 where
   pub seen : sees kinds row.kind ≡ true
   pub targets : List Text
   pub pattern : Option Text
@@ -71,7 +71,7 @@ IsLast dictionary (Some last) = AreNeeds dictionary last.needs.value.1 last.numb
 pub record AreHeld (dictionary : List Text × List (List ℕ)) (recipes : List (List RecipeLine)) (rows : List Row)
     (kinds : Kinds) (last : Option LastNeeds) : Type 0 where
   pub many : length recipes ≡ length rows
-  pub known : All (IsKnown kinds dictionary) rows
+  pub known : All (IsKnownRow kinds dictionary) rows
   pub remembered : IsLast dictionary last
 
 -- the target of a rule whose name has this number
@@ -80,7 +80,7 @@ numbered_target rule number =
     target_of (text_in rule.pattern) (line_needs rule) (name_at rule.names.now number)
 
 -- what a book keeps follows from its rules, and no list is at a number without a name
-pub record HoldsAll (rules : List Text × List Rule) (targets recipes : List (List Spot))
+pub record HoldsAll (rules : List Text × List Entry) (targets recipes : List (List Spot))
     (phony suffixes : List Text) : Type 0 where
   pub kept : IsKept rules.1 (rules.0, targets) (rules.0, recipes) phony suffixes
   pub targets_within : length targets ≤ length rules.0

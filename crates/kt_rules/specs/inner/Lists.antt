@@ -1,11 +1,11 @@
 -- Lists of spots as the program holds them (kati's own).
 use Rattle.std.specs.Prelude.{◌≡◌, ℕ, List, [], ◌∷◌, get_or}
-use Rattle.kt_rules.specs.declared.book.few.Form.{Form}
-use Rattle.kt_rules.specs.declared.book.few.Form.TheVariants.{None, One, Several}
+use Rattle.kt_rules.specs.declared.book.few.SpotStorage.{SpotStorage}
+use Rattle.kt_rules.specs.declared.book.few.SpotStorage.TheVariants.{None, One, Several}
 use Rattle.kt_rules.specs.declared.book.spot.Spot.{Spot}
 
 -- no spot, one, or those of a boxed vector
-abbrev pub few_of : Form → List Spot
+abbrev pub few_of : SpotStorage → List Spot
 few_of None = []
 few_of (One spot) = spot ∷ []
 few_of (Several spots) = spots.value.items

@@ -1,6 +1,6 @@
 -- The prerequisites that a reader of rule lines remembers (kati's own).
 use Rattle.std.specs.Prelude.{◌≡◌, ◌||◌, Bool, false, None, Some, map}
-use Rattle.kt_rules.specs.Prelude.{list_any, has_percent, Text, words_of, is_colon, Needs, Single, is_nil, read_line}
+use Rattle.kt_rules.specs.Prelude.{list_any, has_percent, Text, words_of, is_colon, Needs, Single, is_nil, head_names}
 use Rattle.kt_rules.specs.Prelude.{tested_line, is_among, name_of, wait_name, without_repeats, written_words}
 use Rattle.kt_rules.specs.declared.reader.LongLine.{LongLine}
 use Rattle.kt_rules.specs.RuleLine.{colon_cut, group_targets, needs_of}
@@ -12,7 +12,7 @@ pub record IsPlain (text : Text) : Type 0 where
   pub quiet : list_any is_telling text ≡ false
 
 -- the text is plain, and these are its prerequisites
-pub record Names (text : Text) (needs : Needs) : Type 0 where
+pub record NamesNeeds (text : Text) (needs : Needs) : Type 0 where
   pub plain : IsPlain text
   pub named : needs ≡ needs_of (written_words text)
 
@@ -22,12 +22,12 @@ needs_wait needs = is_among needs.prerequisites wait_name || is_among needs.orde
 
 -- the text is plain, these are its prerequisites, and it is told whether `.WAIT` is one
 pub record AreToldOf (text : Text) (needs : Needs) (waits : Bool) : Type 0 where
-  pub named : Names text needs
+  pub named : NamesNeeds text needs
   pub told : waits ≡ needs_wait needs
 
 -- reading the text comes down to the tests of the line, of which the signs tell
 pub record ReadsAsLong (text : Text) (long : LongLine) : Type 0 where
-  pub read : read_line text ≡ tested_line long.line
+  pub read : head_names text ≡ tested_line long.line
   pub told : Tells long.signs long.line
 
 -- the text is cut at its first colon into these, and makes no group

@@ -1,6 +1,6 @@
 -- The bytes that tell of the names of a rule line (kati's own).
 use Rattle.std.specs.Prelude.{◌≡◌, ℕ, Bool, false, ◌==◌, ◌||◌, None}
-use Rattle.kt_rules.specs.Prelude.{list_any, has_percent, Line, is_wildcard, Head, name_refusal, option_list}
+use Rattle.kt_rules.specs.Prelude.{list_any, has_percent, HeadNames, is_wildcard, Head, name_refusal, option_list}
 use Rattle.kt_rules.specs.declared.signs.Signs.{Signs}
 
 abbrev pub is_backslash : ℕ → Bool
@@ -24,6 +24,6 @@ signs_of head = record {
 }
 
 -- without the signs no name of a line is refused, and no target has a percent sign
-pub record Tells (signs : Signs) (line : Line) : Type 0 where
+pub record Tells (signs : Signs) (line : HeadNames) : Type 0 where
   pub names : signs.telling ≡ false → name_refusal line ≡ None
   pub targets : signs.percent ≡ false → list_any has_percent line.targets ≡ false

@@ -4,7 +4,7 @@ ghost use Rattle.kt_rules.specs.Entry.{needs_for};
 ghost use Rattle.kt_rules.specs.Targets.{entry_view, line_needs, listed_needs, needs_view, target_view, targets_view};
 
 use crate::entry::{Kind, RecipeLine};
-use crate::listed::{Listed, ListedNeeds, Numbered};
+use crate::listed::{AnyNames, ListedNeeds, NumberedNames};
 use crate::needs::{NeedsView, shared_needs};
 use crate::place::Place;
 use crate::target::{TargetView, Targets};
@@ -39,7 +39,7 @@ impl<'a> BookRule<'a> {
         let names = self.names;
         let numbers = self.targets;
         Targets {
-            names: Listed::ByNumber(Numbered { names, numbers }),
+            names: AnyNames::ByNumber(NumberedNames { names, numbers }),
             pattern: self.pattern,
             needs: self.listed(),
         }
@@ -82,11 +82,11 @@ impl<'a> BookRule<'a> {
     {
         let names = self.names;
         ListedNeeds {
-            prerequisites: Listed::ByNumber(Numbered {
+            prerequisites: AnyNames::ByNumber(NumberedNames {
                 names,
                 numbers: self.prerequisites,
             }),
-            order_only: Listed::ByNumber(Numbered {
+            order_only: AnyNames::ByNumber(NumberedNames {
                 names,
                 numbers: self.order_only,
             }),

@@ -17,9 +17,9 @@ pub struct Entries<'a> {
 
 impl<'a> Model for Entries<'a> {
     ghost use Rattle.std.specs.Prelude.{List, drop};
-    ghost use Rattle.kt_rules.specs.Entry.{Rule};
+    ghost use Rattle.kt_rules.specs.Entry.{Entry};
 
-    ghost Value = { List Rule };
+    ghost Value = { List Entry };
 
     ghost view = { λ entries. drop entries.place entries.rules.now.1 };
 }

@@ -24,10 +24,10 @@ pub struct Explicit<'a> {
 
 impl<'a> Model for Explicit<'a> {
     ghost use Rattle.std.specs.Prelude.{List};
-    ghost use Rattle.kt_rules.specs.Entry.{Rule};
+    ghost use Rattle.kt_rules.specs.Entry.{Entry};
     ghost use Rattle.kt_rules.specs.declared.entry.Target.{Target};
 
-    ghost Value = { List (Rule × Target) };
+    ghost Value = { List (Entry × Target) };
 
     ghost use Rattle.kt_rules.specs.Slots.{explicit_left};
 

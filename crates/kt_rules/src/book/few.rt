@@ -13,11 +13,11 @@ use std::slice::from_ref;
 /// A list of spots. A single spot takes no memory of its own, and any list two words.
 #[derive(Drop)]
 pub(crate) struct Few {
-    form: Form,
+    form: SpotStorage,
 }
 
 #[derive(Drop)]
-enum Form {
+enum SpotStorage {
     None,
     One(Spot),
     Several(Box<Vec<Spot>>),
@@ -39,7 +39,9 @@ impl Few {
     pub(crate) fn none() -> Few
         ensures { result ≡ [] }
     {
-        Few { form: Form::None }
+        Few {
+            form: SpotStorage::None,
+        }
     }
 
     /// The spots, borrowed.
@@ -47,9 +49,9 @@ impl Few {
         ensures { result.now ≡ self.now }
     {
         match &self.form {
-            Form::None => &[],
-            Form::One(spot) => from_ref(spot),
-            Form::Several(spots) => spots.as_ref().as_slice(),
+            SpotStorage::None => &[],
+            SpotStorage::One(spot) => from_ref(spot),
+            SpotStorage::Several(spots) => spots.as_ref().as_slice(),
         }
     }
 
@@ -58,13 +60,13 @@ impl Few {
         ensures { self.new ≡ spots_before place self.old }
     {
         match &mut self.form {
-            Form::None => {}
-            Form::One(spot) => {
+            SpotStorage::None => {}
+            SpotStorage::One(spot) => {
                 if (spot.entry as usize) >= place {
-                    self.form = Form::None;
+                    self.form = SpotStorage::None;
                 }
             }
-            Form::Several(spots) => keep_before(spots, place),
+            SpotStorage::Several(spots) => keep_before(spots, place),
         }
     }
 
@@ -74,12 +76,12 @@ impl Few {
         ensures refused { OnErr result (self.new ≡ self.old) }
     {
         match &mut self.form {
-            Form::None => self.form = Form::One(spot),
-            Form::One(first) => {
+            SpotStorage::None => self.form = SpotStorage::One(spot),
+            SpotStorage::One(first) => {
                 let both = pair(alloc, *first, spot)?;
                 hold(&mut self.form, both);
             }
-            Form::Several(spots) => spots.push(spot)?,
+            SpotStorage::Several(spots) => spots.push(spot)?,
         }
         Ok(())
     }
@@ -92,10 +94,10 @@ fn keep_before(spots: &mut Vec<Spot>, place: usize)
     spots.retain(|spot| (spot.entry as usize) < place);
 }
 
-fn hold(form: &mut Form, spots: Box<Vec<Spot>>)
+fn hold(form: &mut SpotStorage, spots: Box<Vec<Spot>>)
     ensures { few_of form.new ≡ spots.value.items }
 {
-    *form = Form::Several(spots);
+    *form = SpotStorage::Several(spots);
 }
 
 fn pair(alloc: Global, first: Spot, second: Spot) -> Result<Box<Vec<Spot>>, AllocError>

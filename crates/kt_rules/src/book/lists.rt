@@ -10,12 +10,12 @@ use std::marker::Model;
 
 /// A list of spots at each number, in the order in which they were noted.
 #[derive(Drop)]
-pub(crate) struct Lists {
+pub(crate) struct SpotLists {
     alloc: Global,
     lists: Vec<Few>,
 }
 
-impl Model for Lists {
+impl Model for SpotLists {
     ghost use Rattle.std.specs.Prelude.{List};
     ghost use Rattle.kt_rules.specs.declared.book.spot.Spot.{Spot};
 
@@ -24,12 +24,12 @@ impl Model for Lists {
     ghost view = { λ lists. lists.lists.items };
 }
 
-impl Lists {
+impl SpotLists {
     /// No spots.
-    pub(crate) fn new(alloc: Global) -> Lists
+    pub(crate) fn new(alloc: Global) -> SpotLists
         ensures { result ≡ [] }
     {
-        Lists {
+        SpotLists {
             alloc,
             lists: Vec::new(alloc),
         }

@@ -1,7 +1,7 @@
 //! The pattern rules of a book.
 ghost use Rattle.std.specs.Prelude.{◌≡◌, ◌++◌, ◌||◌, ◌∷◌, [], IfOk, OnOk, flat_map, option_map, if◌then◌else◌};
 ghost use Rattle.kt_rules.specs.Book.{pattern_rule, patterns_in, repeats, unrepeated};
-ghost use Rattle.kt_rules.specs.Entry.{Rule};
+ghost use Rattle.kt_rules.specs.Entry.{Entry};
 ghost use Rattle.kt_rules.specs.Patterns.{form_view, has_pattern, stays_before, suffix_rules_at, suffix_rules_in};
 ghost use Rattle.kt_rules.specs.Suffixes.{percent, suffix_patterns};
 ghost use Rattle.kt_rules.specs.Targets.{entry_view, target_view};
@@ -93,7 +93,7 @@ fn named_form(
     suffixes: &Suffixes,
     name: &[u8],
 ) -> Result<Option<PatternForm>, AllocError>
-    ensures { IfOk result (λ form. (rule : Rule) → option_map (form_view rule) form
+    ensures { IfOk result (λ form. (rule : Entry) → option_map (form_view rule) form
         ≡ option_map (pattern_rule rule) (suffix_patterns suffixes.now name.now)) }
 {
     if suffixes.contains(name) {
@@ -120,7 +120,7 @@ fn own_form(alloc: Global, entry: BookRule<'_>) -> Result<PatternForm, AllocErro
 
 // The form of a suffix rule that makes names with one suffix from names with another.
 fn suffix_form(alloc: Global, made: &[u8], needed: &[u8]) -> Result<PatternForm, AllocError>
-    ensures { IfOk result (λ form. (rule : Rule)
+    ensures { IfOk result (λ form. (rule : Entry)
         → form_view rule form ≡ pattern_rule rule (percent ++ made.now, percent ++ needed.now)) }
 {
     let target = Target {
@@ -173,7 +173,7 @@ fn sort_in<'a>(
 ) -> Result<(), AllocError>
     ensures kept { OnOk result (kept.new.items ≡ kept.old.items ++ (if stays_before past.old pattern.entry
         then pattern.entry ∷ [] else [])) }
-    ensures past { OnOk result ((rule : Rule)
+    ensures past { OnOk result ((rule : Entry)
         → has_pattern past.new rule ≡ (repeats rule pattern.entry || has_pattern past.old rule)) }
 {
     let is_last = past.insert(&pattern)?;

@@ -6,7 +6,7 @@ ghost use Rattle.kt_rules.specs.Names.{with_name};
 ghost use Rattle.kt_rules.specs.Slots.{GotRecipes, GotSpots, GrewIn, spots_at, target_spots};
 ghost use Rattle.kt_rules.specs.Suffixes.{suffixes_after};
 ghost use Rattle.kt_rules.specs.Targets.{entry_view};
-ghost use Rattle.kt_rules.specs.Entry.{Rule};
+ghost use Rattle.kt_rules.specs.Entry.{Entry};
 ghost use Rattle.kt_rules.specs.inner.Held.{numbered_target};
 ghost use Rattle.kt_list.specs.Names.{AreBelow};
 
@@ -29,13 +29,13 @@ pub(crate) fn learn(
     suffixes: &mut Suffixes,
     place: usize,
 ) -> Result<(), AllocError>
-    ensures targets_noted { (rule : Rule) → slice_get rules.now.1 place ≡ Some rule → OnOk result
+    ensures targets_noted { (rule : Entry) → slice_get rules.now.1 place ≡ Some rule → OnOk result
         (GotSpots rule place (rules.now.0, spots.old.targets) (rules.now.0, spots.new.targets)) }
-    ensures recipes_noted { (rule : Rule) → slice_get rules.now.1 place ≡ Some rule → OnOk result
+    ensures recipes_noted { (rule : Entry) → slice_get rules.now.1 place ≡ Some rule → OnOk result
         (GotRecipes rule place (rules.now.0, spots.old.recipes) (rules.now.0, spots.new.recipes)) }
-    ensures phony_learned { (rule : Rule) → slice_get rules.now.1 place ≡ Some rule → OnOk result
+    ensures phony_learned { (rule : Entry) → slice_get rules.now.1 place ≡ Some rule → OnOk result
         (phony.new ≡ fold with_name phony.old (phony_of rule)) }
-    ensures suffixes_learned { (rule : Rule) → slice_get rules.now.1 place ≡ Some rule → OnOk result
+    ensures suffixes_learned { (rule : Entry) → slice_get rules.now.1 place ≡ Some rule → OnOk result
         (suffixes.new ≡ suffixes_after suffixes.old rule) }
     ensures targets_refused { OnErr result
         (GrewIn place (rules.now.0, spots.old.targets) (rules.now.0, spots.new.targets)) }

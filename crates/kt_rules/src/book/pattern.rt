@@ -25,9 +25,9 @@ pub(crate) struct PatternForm {
 }
 
 impl<'a> Model for Pattern<'a> {
-    ghost use Rattle.kt_rules.specs.Entry.{Rule};
+    ghost use Rattle.kt_rules.specs.Entry.{Entry};
 
-    ghost Value = { Rule };
+    ghost Value = { Entry };
 
     ghost use Rattle.kt_rules.specs.Patterns.{form_view};
     ghost use Rattle.kt_rules.specs.Targets.{entry_view};

@@ -1,7 +1,7 @@
 //! The targets and prerequisites of the pattern rules so far.
 ghost use Rattle.std.specs.Prelude.{◌≡◌, ◌||◌, false, not, map, IfOk, OnOk};
 ghost use Rattle.kt_rules.specs.Book.{repeats};
-ghost use Rattle.kt_rules.specs.Entry.{Rule};
+ghost use Rattle.kt_rules.specs.Entry.{Entry};
 ghost use Rattle.kt_rules.specs.Patterns.{IsKeyOf, has_pattern, held};
 
 use super::pattern::Pattern;
@@ -26,7 +26,7 @@ pub(crate) struct PatternSet {
 
 impl PatternSet {
     pub(crate) fn new(alloc: Global) -> PatternSet
-        ensures { (rule : Rule) → has_pattern result rule ≡ false }
+        ensures { (rule : Entry) → has_pattern result rule ≡ false }
     {
         PatternSet {
             alloc,
@@ -37,7 +37,7 @@ impl PatternSet {
     /// Adds a pattern rule, and returns whether it repeats none of the others.
     pub(crate) fn insert(&mut self, pattern: &Pattern) -> Result<bool, AllocError>
         ensures told { IfOk result (λ is_new. is_new ≡ not (has_pattern self.old pattern.now)) }
-        ensures added { OnOk result ((rule : Rule)
+        ensures added { OnOk result ((rule : Entry)
             → has_pattern self.new rule ≡ (repeats rule pattern.now || has_pattern self.old rule)) }
     {
         let key = key_of(self.alloc, pattern)?;

@@ -13,7 +13,7 @@ ghost use Rattle.kt_rules.specs.Book.{is_double, is_group};
 ghost use Rattle.kt_rules.specs.Known.{names_in};
 ghost use Rattle.kt_rules.specs.Targets.{entry_view};
 ghost use Rattle.kt_rules.specs.inner.Alike.{HaveSameNeeds, SaySame};
-ghost use Rattle.kt_rules.specs.inner.Dictionary.{Grows, IsNumberOf};
+ghost use Rattle.kt_rules.specs.inner.Dictionary.{GrowsDictionary, IsNumberOf};
 ghost use Rattle.kt_rules.specs.inner.Held.{AreNeeds, AreRuleNumbers, IsLast, rule_held};
 
 use super::book_rule::BookRule;
@@ -51,10 +51,10 @@ pub(crate) struct LastNeeds {
 impl Model for Rules {
     ghost use Rattle.std.specs.Prelude.{List, Option};
     ghost use Rattle.kt_text.specs.Words.{Text};
-    ghost use Rattle.kt_rules.specs.Entry.{Rule};
+    ghost use Rattle.kt_rules.specs.Entry.{Entry};
     ghost use Rattle.kt_rules.specs.inner.Held.{AreHeld, rules_held};
 
-    ghost Value = { List Text × List Rule };
+    ghost Value = { List Text × List Entry };
 
     ghost view = { λ rules. (rules.dictionary.0, rules_held rules.dictionary rules.lines rules.rows.items) };
 
@@ -287,7 +287,7 @@ fn number_rule(
 ) -> Result<RuleNumbers, AllocError>
     ensures numbered { IsLast dictionary.old last.now
         → IfOk result (AreRuleNumbers dictionary.new targets.now pattern.now needs.now) }
-    ensures grown { Grows dictionary.old dictionary.new }
+    ensures grown { GrowsDictionary dictionary.old dictionary.new }
 {
     let targets = dictionary.number_list(targets)?;
     let needs = number_needs(dictionary, last, needs)?;
@@ -305,7 +305,7 @@ fn number_pattern(
     pattern: &StaticPattern,
 ) -> Result<Option<u32>, AllocError>
     ensures numbered { IfOk result (λ number. IsNumberOf dictionary.new.0 number pattern.now) }
-    ensures grown { Grows dictionary.old dictionary.new }
+    ensures grown { GrowsDictionary dictionary.old dictionary.new }
 {
     match pattern.text() {
         Some(name) => Ok(Some(dictionary.number(name)?)),
@@ -320,7 +320,7 @@ fn number_needs(
     needs: &HeldNeeds,
 ) -> Result<NeedsNumbers, AllocError>
     ensures numbered { IsLast dictionary.old last.now → IfOk result (AreNeeds dictionary.new needs.now) }
-    ensures grown { Grows dictionary.old dictionary.new }
+    ensures grown { GrowsDictionary dictionary.old dictionary.new }
 {
     match known_needs(last, needs) {
         Some(known) => Ok(known),
@@ -330,7 +330,7 @@ fn number_needs(
 
 fn number_lists(dictionary: &mut Dictionary, needs: &Needs) -> Result<NeedsNumbers, AllocError>
     ensures numbered { IfOk result (AreNeeds dictionary.new needs.now) }
-    ensures grown { Grows dictionary.old dictionary.new }
+    ensures grown { GrowsDictionary dictionary.old dictionary.new }
 {
     let prerequisites = dictionary.number_list(needs.prerequisites.as_slice())?;
     let order_only = dictionary.number_list(needs.order_only.as_slice())?;

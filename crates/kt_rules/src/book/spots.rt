@@ -5,7 +5,7 @@ ghost use Rattle.std.specs.Prelude.{◌≡◌, ◌++◌, ◌∷◌, [], ℕ, ◌
 ghost use Rattle.kt_rules.specs.inner.Lists.{list_at};
 ghost use Rattle.kt_rules.specs.Slots.{ForgotFrom, GrewAt, spots_at};
 
-use super::lists::Lists;
+use super::lists::SpotLists;
 use super::rules::Rules;
 use super::spot::Spot;
 use std::alloc::{AllocError, Global};
@@ -13,8 +13,8 @@ use std::alloc::{AllocError, Global};
 /// The spots of all targets, and of the targets whose rule has a recipe.
 #[derive(Drop)]
 pub(crate) struct Spots {
-    pub(crate) targets: Lists,
-    pub(crate) recipes: Lists,
+    pub(crate) targets: SpotLists,
+    pub(crate) recipes: SpotLists,
 }
 
 impl Spots {
@@ -24,8 +24,8 @@ impl Spots {
         ensures recipes { result.recipes ≡ [] }
     {
         Spots {
-            targets: Lists::new(alloc),
-            recipes: Lists::new(alloc),
+            targets: SpotLists::new(alloc),
+            recipes: SpotLists::new(alloc),
         }
     }
 
@@ -70,7 +70,7 @@ impl Spots {
 /// The spots of a name that may have this number: then they are found without hashing.
 pub(crate) fn spots_by_number<'a>(
     rules: &Rules,
-    lists: &'a Lists,
+    lists: &'a SpotLists,
     name: &[u8],
     number: usize,
 ) -> &'a [Spot]
@@ -84,7 +84,7 @@ pub(crate) fn spots_by_number<'a>(
 }
 
 /// The spots of a name.
-pub(crate) fn spots_of<'a>(rules: &Rules, lists: &'a Lists, name: &[u8]) -> &'a [Spot]
+pub(crate) fn spots_of<'a>(rules: &Rules, lists: &'a SpotLists, name: &[u8]) -> &'a [Spot]
     ensures { result.now ≡ spots_at (rules.now.0, lists.now) name.now }
 {
     match rules.number_of(name) {

@@ -1,6 +1,6 @@
 //! Names of suffix rules, and suffixes at the end of names.
 ghost use Rattle.std.specs.Prelude.{◌≡◌, ◌≤◌, length, is_some};
-ghost use Rattle.kt_rules.specs.inner.SuffixCuts.{cut_after, earlier, end_of_length, first_cut, first_end, goes_on};
+ghost use Rattle.kt_rules.specs.inner.SuffixCuts.{cut_after, earlier, end_of_length, first_cut, first_end, is_cut_inside};
 ghost use Rattle.kt_rules.specs.Suffixes.{is_cut_at, suffix_patterns};
 
 use super::suffixes::Suffixes;
@@ -38,7 +38,7 @@ fn cut_after(suffixes: &Names, name: &[u8], front: usize) -> Option<usize>
 }
 
 fn goes_on(suffixes: &Names, name: &[u8], front: usize) -> bool
-    ensures { result ≡ goes_on suffixes.now name.now front }
+    ensures { result ≡ is_cut_inside suffixes.now name.now front }
 {
     front < name.len() && is_cut_at(suffixes, name, front)
 }

@@ -2,6 +2,6 @@
 use Rattle.kt_syntax.specs.Prelude.{Option, None, Some, Text}
 
 -- the text that is held beside a line, or the line itself
-abbrev pub text_of : Text → Option Text → Text
-text_of line None = line
-text_of line (Some text) = text
+abbrev pub text_beside : Text → Option Text → Text
+text_beside line None = line
+text_beside line (Some text) = text

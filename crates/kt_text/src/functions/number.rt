@@ -3,7 +3,7 @@ ghost use Rattle.std.specs.Prelude.{◌≡◌, ◌<◌, ◌≤◌, length, true}
 ghost use Rattle.std.specs.Char.{digit_value, is_ascii_digit};
 ghost use Rattle.std.specs.List.{list_all};
 ghost use Rattle.std.specs.Str.Parse.{digits_value};
-ghost use Rattle.kt_text.specs.Functions.{number_of, place_of};
+ghost use Rattle.kt_text.specs.Functions.{number_of, ordinal_of};
 
 use crate::blanks::{trim_end, trim_start};
 
@@ -21,7 +21,7 @@ pub(crate) fn number(text: &[u8]) -> Option<usize>
 
 // The same, from 1 on.
 pub(crate) fn place(text: &[u8]) -> Option<usize>
-    ensures { result ≡ place_of text.now }
+    ensures { result ≡ ordinal_of text.now }
 {
     match number(text) {
         None | Some(0) => None,

@@ -14,13 +14,13 @@ use std::collections::HashSet;
 
 // The words of a list of patterns: those without percent sign are looked up, the others tried.
 #[derive(Drop)]
-pub(crate) struct Patterns<'a> {
+pub(crate) struct WordPatterns<'a> {
     literals: HashSet<&'a [u8]>,
     wildcards: Vec<&'a [u8]>,
 }
 
-impl<'a> Patterns<'a> {
-    pub(crate) fn new(alloc: Global, text: &'a [u8]) -> Result<Patterns<'a>, AllocError>
+impl<'a> WordPatterns<'a> {
+    pub(crate) fn new(alloc: Global, text: &'a [u8]) -> Result<WordPatterns<'a>, AllocError>
         ensures { IfOk result (λ patterns. (word : Bor Text)
             → matches_held patterns.literals.keys patterns.wildcards.items word.now
             ≡ matches_some (words_of text.now) word.now) }
@@ -34,7 +34,7 @@ impl<'a> Patterns<'a> {
                 literals.insert(pattern)?;
             }
         }
-        Ok(Patterns {
+        Ok(WordPatterns {
             literals,
             wildcards,
         })

@@ -6,7 +6,7 @@ ghost use Rattle.kt_text.specs.Functions.{filter_of, filter_out_of};
 
 use crate::cut::words;
 use crate::fault::TextFault;
-use crate::functions::patterns::{Patterns, occurs, quotes_percent};
+use crate::functions::patterns::{WordPatterns, occurs, quotes_percent};
 use crate::output::{add_parts, add_word, copied};
 use crate::pattern::{cut_pattern, has_percent, match_pattern};
 use bstr::ByteSlice;
@@ -95,7 +95,7 @@ pub fn filter(alloc: Global, patterns: &[u8], text: &[u8]) -> Result<Vec<u8>, Te
     if quotes_percent(patterns) {
         return Err(TextFault::BadArgument);
     }
-    let wanted = Patterns::new(alloc, patterns)?;
+    let wanted = WordPatterns::new(alloc, patterns)?;
     let mut kept = Vec::new(alloc);
     for word in words(text) {
         if wanted.matches(word) {
@@ -115,7 +115,7 @@ pub fn filter_out(alloc: Global, patterns: &[u8], text: &[u8]) -> Result<Vec<u8>
     if quotes_percent(patterns) {
         return Err(TextFault::BadArgument);
     }
-    let unwanted = Patterns::new(alloc, patterns)?;
+    let unwanted = WordPatterns::new(alloc, patterns)?;
     let mut left = Vec::new(alloc);
     for word in words(text) {
         if !unwanted.matches(word) {

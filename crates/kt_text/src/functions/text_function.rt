@@ -1,7 +1,7 @@
 //! The text functions by their names, with numbers of arguments, and one call that applies each.
 ghost use Rattle.std.specs.Prelude.{◌≡◌, ◌≤◌, find};
 ghost use Rattle.kt_text.specs.Functions.{Answers};
-ghost use Rattle.kt_text.specs.TextFunctions.{applied, arity, has_name, row_of, text_function, text_function_name};
+ghost use Rattle.kt_text.specs.TextFunctions.{applied, arity, function_row, has_name, text_function, text_function_name};
 
 use crate::fault::TextFault;
 use crate::functions::list::{firstword, join, lastword, strip, word, wordlist, words};
@@ -90,7 +90,7 @@ impl TextFunction {
 
     // The name of each text function, and the number of its arguments.
     fn row(self) -> (&'static [u8], usize)
-        ensures value { (result.0.now, result.1) ≡ row_of self }
+        ensures value { (result.0.now, result.1) ≡ function_row self }
         ensures some { 1 ≤ result.1 }
     {
         match self {

@@ -1,7 +1,7 @@
 use Rattle.kati.proofs.Common.{[], rules, traced, known_names, IsSoundGraph}
 use Rattle.std.proofs.lemmas.Result.{err_from_is_err_and}
 use Rattle.kati.specs.inner.Shown.{plan_view}
-use Rattle.kati.specs.inner.Views.{found_view}
+use Rattle.kati.specs.inner.Views.{goals_view}
 use Rattle.kati.proofs.MeaningLemmas.{first_asks, seen_means, trouble_means}
 use Rattle.kati.proofs.SoundLemmas.{sound_if_ok}
 use Rattle.kati.proofs.translating.planned_goals.Goals as goal
@@ -10,7 +10,7 @@ pub returns-in_err-graph-clause-means : goal.returns-in_err-graph-clause-means
 returns-in_err-graph-clause-means c = λ asked.
     let p = err_from_is_err_and c.from_residual.result c.from_residual.ensures.1 in
     rw (p.1, p.2)
-    (trouble_means plan_view c.args.args.now.limit (found_view c.args.found.now c.args.goals.items) (traced c.args.messages.now.items asked)
+    (trouble_means plan_view c.args.args.now.limit (goals_view c.args.found.now c.args.goals.items) (traced c.args.messages.now.items asked)
     c.in_err-graph.field-0.0 (rw c.as_slice.ensures.value at c.in_err-graph.ensures.first))
 
 pub returns-in_err-graph-clause-asks_nothing : goal.returns-in_err-graph-clause-asks_nothing
@@ -22,7 +22,7 @@ pub returns-clause-means : goal.returns-clause-means
 returns-clause-means c = λ asked.
     let made = c.in_ok-planner.ensures in
     let gives = rw (made.book, made.table, made.limit) at c.plan.ensures.gives in
-    seen_means plan_view c.args.args.now.limit (found_view c.args.found.now c.args.goals.items) (traced c.args.messages.now.items asked) _
+    seen_means plan_view c.args.args.now.limit (goals_view c.args.found.now c.args.goals.items) (traced c.args.messages.now.items asked) _
     c.plan.new.messages.items c.plan.result (search rules) gives
 
 pub plan-requires : goal.plan-requires
@@ -35,7 +35,7 @@ pub returns-clause-sound : goal.returns-clause-sound
 returns-clause-sound c =
     let made = c.in_ok-planner.ensures in
     let gives = rw (made.book, made.table, made.limit) at c.plan.ensures.gives in
-    let want = found_view c.args.found.now c.args.goals.items in
+    let want = goals_view c.args.found.now c.args.goals.items in
     let sound : IsSoundGraph want.read.book want.known want.goals c.in_ok-graph.graph.now = search rules in
     sound_if_ok plan_view c.args.args.now.limit want (traced c.args.messages.now.items []) (traced c.plan.new.messages.items []) c.plan.result
     (seen_means plan_view c.args.args.now.limit want (traced c.args.messages.now.items []) _ c.plan.new.messages.items c.plan.result sound gives)

@@ -1,6 +1,6 @@
 -- The arguments of a call, byte by byte.
 use Rattle.std.proofs.Common.{◌≡◌, ℕ, ◌+◌, ◌-◌, ◌<◌, ◌≤◌, true, false, List, [], ◌∷◌, ◌++◌, Option, length, get_or, take, drop, sym, ap, ◌∙◌, append_assoc, arith}
-use Rattle.kt_eval.proofs.Common.{take_more, drop_more, drop-append-le, drop_all, drop-take, length-take-le, Mark, arguments_from, cuts, one_less, nested}
+use Rattle.kt_eval.proofs.Common.{take_more, drop_more, drop-append-le, drop_all, drop-take, length-take-le, Mark, arguments_from, cuts_arguments, one_less, nested}
 
 -- the argument so far, with one more byte
 pub longer : (text : List ℕ) (start place : ℕ) → start ≤ place → place < length text → drop start (take (place + 1) text) ≡ drop start (take place text) ++ get_or text place 0 ∷ []
@@ -10,7 +10,7 @@ longer text start place le lt =
 
 -- a byte that cuts nothing
 pub uncut : (mark : Mark) (left : Option ℕ) (depth : ℕ) (text : List ℕ) (start place : ℕ) → start ≤ place → place < length text
-    → cuts (get_or text place 0) depth left ≡ false
+    → cuts_arguments (get_or text place 0) depth left ≡ false
     → arguments_from mark left (nested mark depth (get_or text place 0)) (drop start (take (place + 1) text)) (drop (place + 1) text)
     ≡ arguments_from mark left depth (drop start (take place text)) (drop place text)
 unfolding arguments_from
@@ -24,7 +24,7 @@ part text start place le =
 
 -- a comma that cuts
 pub cut_here : (mark : Mark) (left : Option ℕ) (depth : ℕ) (text : List ℕ) (start place : ℕ) → start ≤ place → place < length text
-    → cuts (get_or text place 0) depth left ≡ true
+    → cuts_arguments (get_or text place 0) depth left ≡ true
     → take (place - start) (drop start text) ∷ arguments_from mark (one_less left) depth (drop (place + 1) (take (place + 1) text)) (drop (place + 1) text)
     ≡ arguments_from mark left depth (drop start (take place text)) (drop place text)
 unfolding arguments_from

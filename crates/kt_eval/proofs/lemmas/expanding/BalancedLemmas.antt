@@ -1,12 +1,12 @@
 -- The arguments of a balanced text.
 use Rattle.std.proofs.Common.{◌≡◌, ◌==◌, ◌≤◌, ◌+◌, ℕ, zero, suc, false, List, [], ◌∷◌, ◌++◌, Option, length, take, refl, sym, ap, subst, ◌∙◌, arith}
-use Rattle.kt_eval.proofs.Common.{All, join_with_byte, All-nil, All-cons, take-append-le, take_all, Text, Mark, Byte, Parentheses, Braces, count_of, IsBalanced, count_no, opener, closer, arguments_of}
+use Rattle.kt_eval.proofs.Common.{All, join_with_byte, All-nil, All-cons, take-append-le, take_all, Text, Mark, Byte, Parentheses, Braces, byte_count, IsBalanced, count_no, opener, closer, arguments_of}
 use Rattle.std.proofs.lemmas.List.Sums.{sum_by-append}
 use Rattle.kt_eval.specs.expanding.Arguments.{IsClosed, AreArguments}
 use Rattle.kt_eval.proofs.lemmas.expanding.SplitLemmas.{all_head, all_tail, others_length, are_arguments}
 
-count_append : (mark : ℕ) (xs ys : Text) → count_of mark (xs ++ ys) ≡ count_of mark xs + count_of mark ys
-unfolding count_of
+count_append : (mark : ℕ) (xs ys : Text) → byte_count mark (xs ++ ys) ≡ byte_count mark xs + byte_count mark ys
+unfolding byte_count
 count_append mark xs ys = sum_by-append _ xs ys
 
 -- a comma is no mark
@@ -33,18 +33,18 @@ front_after n (x ∷ xs) rest = let at = front_after n xs rest in (suc at.0, ap 
 
 -- the marks of what a comma cuts
 count_cut : (mark : Mark) (first rest : Text)
-    → (count_of (opener mark) (first ++ 44 ∷ rest) ≡ count_of (opener mark) first + count_of (opener mark) rest)
-    × (count_of (closer mark) (first ++ 44 ∷ rest) ≡ count_of (closer mark) first + count_of (closer mark) rest)
+    → (byte_count (opener mark) (first ++ 44 ∷ rest) ≡ byte_count (opener mark) first + byte_count (opener mark) rest)
+    × (byte_count (closer mark) (first ++ 44 ∷ rest) ≡ byte_count (closer mark) first + byte_count (closer mark) rest)
 count_cut mark first rest = grind (arith, count_append, count_no, comma_opens, comma_closes)
 
 -- a text that closes no more than it opens, spelled in another way
 closes_no_more : (mark : Mark) (text other : Text) → text ≡ other
-    → count_of (closer mark) text ≤ count_of (opener mark) text
-    → count_of (closer mark) other ≤ count_of (opener mark) other
-closes_no_more mark text other same h = subst (λ (x : Text). count_of (closer mark) x ≤ count_of (opener mark) x) same h
+    → byte_count (closer mark) text ≤ byte_count (opener mark) text
+    → byte_count (closer mark) other ≤ byte_count (opener mark) other
+closes_no_more mark text other same h = subst (λ (x : Text). byte_count (closer mark) x ≤ byte_count (opener mark) x) same h
 
 first_even : (mark : Mark) (first rest : Text) → IsBalanced (opener mark) (closer mark) (first ++ 44 ∷ rest)
-    → IsClosed mark first → count_of (closer mark) first ≡ count_of (opener mark) first
+    → IsClosed mark first → byte_count (closer mark) first ≡ byte_count (opener mark) first
 first_even mark first rest balanced closed =
     let all : take (length first) (first ++ 44 ∷ rest) ≡ first =
     take-append-le (length first) first (44 ∷ rest) (omega arith) ∙ take_all (length first) first (omega arith) in
@@ -66,7 +66,7 @@ rest_balanced : (mark : Mark) (first rest : Text) → IsBalanced (opener mark) (
     → IsClosed mark first → IsBalanced (opener mark) (closer mark) rest
 rest_balanced mark first rest balanced closed = record { fronts = λ n. front n; even = whole }
   where
-    front : (n : ℕ) → count_of (closer mark) (take n rest) ≤ count_of (opener mark) (take n rest)
+    front : (n : ℕ) → byte_count (closer mark) (take n rest) ≤ byte_count (opener mark) (take n rest)
     front n =
         let at = front_after n first rest in
         let f = closes_no_more mark _ _ at.1 (balanced.fronts at.0) in
@@ -76,7 +76,7 @@ rest_balanced mark first rest balanced closed = record { fronts = λ n. front n;
         let k = c.1 in
         omega (arith, f, o, k, e)
 
-    whole : count_of (closer mark) rest ≡ count_of (opener mark) rest
+    whole : byte_count (closer mark) rest ≡ byte_count (opener mark) rest
     whole =
         let c = count_cut mark first rest in
         let o = c.0 in

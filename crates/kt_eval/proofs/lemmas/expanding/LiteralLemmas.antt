@@ -1,10 +1,10 @@
 -- A text without a dollar expands to itself.
 use Rattle.std.proofs.Common.{◌≡◌, false, ◌==◌, [], ◌∷◌, refl, sym, append-nil}
-use Rattle.kt_eval.proofs.Common.{or_parts, list_any, Text, dropped, literal, count_of, terms_of, Evaluator, term_of, each_term, expanded, Gave, World}
+use Rattle.kt_eval.proofs.Common.{or_parts, list_any, Text, dropped, literal, byte_count, terms_of, Evaluator, term_of, each_term, expanded, Gave, World}
 use Rattle.kt_syntax.proofs.Splitting.{terms_of-nil, term_first}
 
-uncounted : (text : Text) → list_any (λ byte. byte == 36) text ≡ false → count_of 36 text ≡ 0
-unfolding count_of
+uncounted : (text : Text) → list_any (λ byte. byte == 36) text ≡ false → byte_count 36 text ≡ 0
+unfolding byte_count
 uncounted [] free = refl
 uncounted (byte ∷ text) free =
     let parts = or_parts (byte == 36) (list_any (λ byte. byte == 36) text) free in

@@ -1,7 +1,7 @@
 -- What a term gives without a further level is its expansion.
 use Rattle.std.proofs.Common.{◌≡◌, ℕ, zero, suc, ◌+◌, Bool, true, false, not, ◌==◌, ◌&&◌, [], ◌∷◌, length, Option, Some, None, if◌then◌else◌, refl, sym, ap, ◌∙◌, arith, true≢false, is_some}
-use Rattle.kt_eval.proofs.Common.{and_parts, eq-eqb, not-true, list_all, list_any, position_or_len, Text, is_colon, is_separator, Mark, Byte, Parentheses, Braces, Token, literal, dollar, reference, unclosed, Flavour, Deferred, Immediate, Found, Nothing, Value, Whole, Store, World, lookup, Gave, refers, asked_of, asked_by, naming_of, Evaluator, flavoured, value_of, body_of, value_named, referred, term_of, above, evaluator}
-use Rattle.kt_eval.specs.declared.state.Left.{Left}
+use Rattle.kt_eval.proofs.Common.{and_parts, eq-eqb, not-true, list_all, list_any, position_or_len, Text, is_colon, is_separator, Mark, Byte, Parentheses, Braces, Term, literal, dollar, reference, unclosed, Flavour, Deferred, Immediate, FoundValue, Nothing, Value, Whole, Store, World, lookup, Gave, refers, asked_of, request_by_mark, naming_of, Evaluator, flavoured, value_of, body_of, value_named, referred, term_of, above, evaluator}
+use Rattle.kt_eval.specs.declared.state.TermRest.{TermRest}
 use Rattle.kt_eval.specs.inner.Plain.{is_plain, put_if, left_unless, put_of, still_deferred, value_left, put_by, left_by}
 use Rattle.kt_eval.specs.expanding.Calls.{is_name_byte, names_plainly}
 use Rattle.kt_eval.proofs.lemmas.expanding.LiteralLemmas.{stays}
@@ -35,7 +35,7 @@ module _ (reads : Bool) (store : Store) (below : ℕ) where
   put_when flavour value w false is none = absurd (no_text value none)
 
   -- a value that expands to itself is appended as it is
-  pub value_put : (found : Option Found) (w : World) → None ≡ still_deferred below found
+  pub value_put : (found : Option FoundValue) (w : World) → None ≡ still_deferred below found
       → value_of (evaluator reads store below) found w ≡ Gave w (put_of below found)
   unfolding value_of put_of still_deferred
   value_put None w is = refl
@@ -47,7 +47,7 @@ module _ (reads : Bool) (store : Store) (below : ℕ) where
   left_when flavour value text w false is some = grind (arith, deferred_is)
 
   -- a value that remains is expanded, and nothing of it was appended
-  pub value_expanded : (found : Option Found) (text : Text) (w : World) → Some text ≡ still_deferred below found
+  pub value_expanded : (found : Option FoundValue) (text : Text) (w : World) → Some text ≡ still_deferred below found
       → (value_of (evaluator reads store below) found w ≡ (evaluator reads store below).expand text w) × (put_of below found ≡ [])
   unfolding value_of put_of still_deferred
   value_expanded None text w is = absurd (no_text text (sym is))
@@ -89,25 +89,25 @@ unfolding asked_of
 asked_is mark name is = rw (eq-eqb (position_or_len is_separator name) (length name) (no_separator name is)) refl
 
 pub plainly_is : (e : Evaluator) (mark : Mark) (name : Text) (w : World) → names_plainly mark name ≡ true
-    → referred e (asked_by mark name) w ≡ value_of e (lookup name w) w
-unfolding asked_by names_plainly
+    → referred e (request_by_mark mark name) w ≡ value_of e (lookup name w) w
+unfolding request_by_mark names_plainly
 plainly_is e Byte name w is = grind (arith, and_parts, length, named_is)
 plainly_is e Parentheses name w is = rw (asked_is Parentheses name is) (named_is e name w is)
 plainly_is e Braces name w is = rw (asked_is Braces name is) (named_is e name w is)
 
 -- ---- a term
 
-abbrev is_nothing : Left → Bool
+abbrev is_nothing : TermRest → Bool
 is_nothing Nothing = true
 is_nothing (Value text) = false
 is_nothing Whole = false
 
-abbrev is_value : Left → Bool
+abbrev is_value : TermRest → Bool
 is_value Nothing = false
 is_value (Value text) = true
 is_value Whole = false
 
-abbrev text_of : Left → Option Text
+abbrev text_of : TermRest → Option Text
 text_of Nothing = None
 text_of (Value text) = Some text
 text_of Whole = None
@@ -127,12 +127,12 @@ not_whole (Some text) is = true≢false (ap is_value (sym is))
 module _ (reads : Bool) (store : Store) (below : ℕ) where
   named_put : (mark : Mark) (body : Text) (w : World) (b : Bool) → names_plainly mark body ≡ b
       → Nothing ≡ (if b then value_left (still_deferred below (lookup body w)) else Whole)
-      → referred (evaluator reads store below) (asked_by mark body) w ≡ Gave w (if b then put_of below (lookup body w) else [])
+      → referred (evaluator reads store below) (request_by_mark mark body) w ≡ Gave w (if b then put_of below (lookup body w) else [])
   named_put mark body w true is left = grind (arith, plainly_is, value_put, none_left)
   named_put mark body w false is left = absurd (true≢false (ap is_nothing left))
 
   -- if nothing remains, what was appended is the term's expansion
-  pub term_put : (piece : Token) (w : World) → Nothing ≡ left_by below piece w
+  pub term_put : (piece : Term) (w : World) → Nothing ≡ left_by below piece w
       → term_of (evaluator reads store below) piece w ≡ Gave w (put_by below piece w)
   unfolding term_of left_by put_by
   term_put (literal bytes) w is = refl
@@ -142,7 +142,7 @@ module _ (reads : Bool) (store : Store) (below : ℕ) where
 
   named_left : (mark : Mark) (body text : Text) (w : World) (b : Bool) → names_plainly mark body ≡ b
       → Value text ≡ (if b then value_left (still_deferred below (lookup body w)) else Whole)
-      → (referred (evaluator reads store below) (asked_by mark body) w ≡ (evaluator reads store below).expand text w)
+      → (referred (evaluator reads store below) (request_by_mark mark body) w ≡ (evaluator reads store below).expand text w)
       × ((if b then put_of below (lookup body w) else []) ≡ [])
   named_left mark body text w true is left =
       let found = value_expanded reads store below (lookup body w) text w (some_left (still_deferred below (lookup body w)) text left) in
@@ -150,7 +150,7 @@ module _ (reads : Bool) (store : Store) (below : ℕ) where
   named_left mark body text w false is left = absurd (true≢false (ap is_value left))
 
   -- if a value remains, its expansion is the term's, and nothing was appended
-  pub term_left : (piece : Token) (text : Text) (w : World) → Value text ≡ left_by below piece w
+  pub term_left : (piece : Term) (text : Text) (w : World) → Value text ≡ left_by below piece w
       → (term_of (evaluator reads store below) piece w ≡ (evaluator reads store below).expand text w) × (put_by below piece w ≡ [])
   unfolding term_of left_by put_by
   term_left (literal bytes) text w is = absurd (true≢false (ap is_value is))
@@ -164,7 +164,7 @@ named_whole : (below : ℕ) (body : Text) (w : World) (b : Bool) → Whole ≡ (
 named_whole below body w true left = absurd (not_whole (still_deferred below (lookup body w)) left)
 named_whole below body w false left = refl
 
-pub term_whole : (below : ℕ) (piece : Token) (w : World) → Whole ≡ left_by below piece w → put_by below piece w ≡ []
+pub term_whole : (below : ℕ) (piece : Term) (w : World) → Whole ≡ left_by below piece w → put_by below piece w ≡ []
 unfolding left_by put_by
 term_whole below (literal bytes) w is = absurd (true≢false (ap is_nothing (sym is)))
 term_whole below dollar w is = absurd (true≢false (ap is_nothing (sym is)))

@@ -1,23 +1,23 @@
 -- A text expanded as a recipe is, to its end.
 use Rattle.std.proofs.Common.{◌≡◌, ℕ, List, [], Option, Result, Ok, Err, Vec, Global, refl, sym, arith, false}
-use Rattle.kt_eval.proofs.Common.{Text, Frame, Stop, Store, IsPrefix, Table, World, frozen_world, AsksNothing, Outcome, Gave, Stopped, Gives, IfCut, leaving, left_of, told, GoesOn, BlamesBy, expanded, evaluator}
+use Rattle.kt_eval.proofs.Common.{Text, Frame, Stop, Store, IsPrefix, Macros, World, frozen_world, AsksNothing, StepEnd, Gave, Stopped, Gives, IfCut, leaving, left_of, told, GoesOn, BlamesBy, expanded, evaluator}
 use Rattle.kt_rules.specs.declared.place.Place.{Place}
 use Rattle.kt_eval.specs.declared.stop.Stop.TheVariants as stops
 use Rattle.kt_eval.specs.expanding.Pure.{Says, expanded_pure}
 
-in_the_end : (w : World) (outcome : Outcome World Text) → GoesOn w (left_of outcome) → IsPrefix w.said (left_of (leaving (λ w. w.said) outcome))
+in_the_end : (w : World) (outcome : StepEnd World Text) → GoesOn w (left_of outcome) → IsPrefix w.said (left_of (leaving (λ w. w.said) outcome))
 in_the_end w (Gave v x) h = (h.0 told, h.1 told)
 in_the_end w (Stopped v x) h = (h.0 told, h.1 told)
 
 -- the result of an expansion is how it ends
-gives_so : (result : Result (Vec ℕ Global) Stop) (w : World) (outcome : Outcome World Text) → Gives (λ v. v.items) result w outcome
+gives_so : (result : Result (Vec ℕ Global) Stop) (w : World) (outcome : StepEnd World Text) → Gives (λ v. v.items) result w outcome
     → Gives (λ v. v.items) result w.said (leaving (λ w. w.said) outcome)
 gives_so (Ok x) w outcome h = rw h refl
 gives_so (Err (stops.Fault fault)) w outcome h = rw h refl
 gives_so (Err (stops.Device name)) w outcome h = tt
 gives_so (Err stops.Memory) w outcome h = tt
 
-cut_so : (result : Result (Vec ℕ Global) Stop) (w : World) (outcome : Outcome World Text) → IfCut result (GoesOn w (left_of outcome))
+cut_so : (result : Result (Vec ℕ Global) Stop) (w : World) (outcome : StepEnd World Text) → IfCut result (GoesOn w (left_of outcome))
     → IfCut result (IsPrefix w.said (left_of (leaving (λ w. w.said) outcome)))
 cut_so (Ok x) w outcome h = tt
 cut_so (Err (stops.Fault fault)) w outcome h = tt
@@ -36,7 +36,7 @@ pub front_by : (old new old' new' : List Text) → old ≡ old' → new ≡ new'
 front_by old new old' new' e f h = rw (sym e, sym f) h
 
 -- what is said of an expansion, from the state at its end
-pub says_when : (limit : ℕ) (text : Text) (table : Table) (automatic : Store) (place : Option Place) (before : List Text) (frames : List Frame)
+pub says_when : (limit : ℕ) (text : Text) (table : Macros) (automatic : Store) (place : Option Place) (before : List Text) (frames : List Frame)
     (result : Result (Vec ℕ Global) Stop) (w : World) (failed : ℕ) (before' said' : List Text)
     → frames ≡ [] → before ≡ before' → w.said ≡ said' → failed ≡ 0 → BlamesBy result 0 failed w.asked
     → GoesOn (record (frozen_world table automatic place before) { frames = frames }) w

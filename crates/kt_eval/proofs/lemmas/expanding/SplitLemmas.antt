@@ -1,13 +1,13 @@
 -- The arguments of a call, each without the text before it.
 use Rattle.std.proofs.Common.{◌≡◌, ◌==◌, ◌&&◌, ◌≤◌, ◌+◌, ◌-◌, ℕ, zero, suc, true, false, List, [], ◌∷◌, ◌++◌, Option, Some, None, length, take, get_or, refl, sym, ap, subst, ◌∙◌, append_assoc, append-nil, ⊎_elim, arith, if◌then◌else◌}
-use Rattle.kt_eval.proofs.Common.{cases_Bool, eqb-true, eq-eqb, and_from, and_parts, false_from_ne_true, true≢false, false≢true, All, join_with_byte, onto_first, All-nil, All-cons, Text, Mark, Byte, Parentheses, Braces, count_of, count_yes, count_no, count_nil, opener, closer, may_cut, cuts, one_less, nested, arguments_from, arguments_of}
+use Rattle.kt_eval.proofs.Common.{cases_Bool, eqb-true, eq-eqb, and_from, and_parts, false_from_ne_true, true≢false, false≢true, All, join_with_byte, onto_first, All-nil, All-cons, Text, Mark, Byte, Parentheses, Braces, byte_count, count_yes, count_no, count_nil, opener, closer, may_cut, cuts_arguments, one_less, nested, arguments_from, arguments_of}
 use Rattle.kt_eval.specs.expanding.Arguments.{IsClosed, HoldsNoCut, IsUpTo, AreArguments}
 
 -- the arguments of a text in which this many marks are open
 unfoldable pub split : Mark → Option ℕ → ℕ → Text → List Text
 split mark left depth [] = [] ∷ []
 split mark left depth (byte ∷ text) =
-    if cuts byte depth left then [] ∷ split mark (one_less left) depth text
+    if cuts_arguments byte depth left then [] ∷ split mark (one_less left) depth text
     else onto_first byte (split mark left (nested mark depth byte) text)
 
 -- what comes before the first argument
@@ -26,23 +26,23 @@ unfolding before
 before-nothing byte [] = refl
 before-nothing byte (part ∷ parts) = refl
 
-split-cut : (mark : Mark) (left : Option ℕ) (depth byte : ℕ) (text : Text) → cuts byte depth left ≡ true
+split-cut : (mark : Mark) (left : Option ℕ) (depth byte : ℕ) (text : Text) → cuts_arguments byte depth left ≡ true
     → split mark left depth (byte ∷ text) ≡ [] ∷ split mark (one_less left) depth text
 unfolding split
 split-cut mark left depth byte text h = rw h refl
 
-split-uncut : (mark : Mark) (left : Option ℕ) (depth byte : ℕ) (text : Text) → cuts byte depth left ≡ false
+split-uncut : (mark : Mark) (left : Option ℕ) (depth byte : ℕ) (text : Text) → cuts_arguments byte depth left ≡ false
     → split mark left depth (byte ∷ text) ≡ onto_first byte (split mark left (nested mark depth byte) text)
 unfolding split
 split-uncut mark left depth byte text h = rw h refl
 
-from-cut : (mark : Mark) (left : Option ℕ) (depth byte : ℕ) (argument text : Text) → cuts byte depth left ≡ true
+from-cut : (mark : Mark) (left : Option ℕ) (depth byte : ℕ) (argument text : Text) → cuts_arguments byte depth left ≡ true
     → arguments_from mark left depth argument (byte ∷ text)
     ≡ argument ∷ arguments_from mark (one_less left) depth [] text
 unfolding arguments_from
 from-cut mark left depth byte argument text h = rw h refl
 
-from-uncut : (mark : Mark) (left : Option ℕ) (depth byte : ℕ) (argument text : Text) → cuts byte depth left ≡ false
+from-uncut : (mark : Mark) (left : Option ℕ) (depth byte : ℕ) (argument text : Text) → cuts_arguments byte depth left ≡ false
     → arguments_from mark left depth argument (byte ∷ text)
     ≡ arguments_from mark left (nested mark depth byte) (argument ++ byte ∷ []) text
 unfolding arguments_from
@@ -90,14 +90,14 @@ no_closer Braces byte h = ap (λ (b : ℕ). b == 125) (eqb-true byte 123 h)
 -- what one more byte at the start changes in the counts and the depth
 data Moves (mark : Mark) (depth byte : ℕ) (text : Text) : Type 0 where
   opens : (nested mark depth byte ≡ depth + 1)
-      → (count_of (opener mark) (byte ∷ text) ≡ 1 + count_of (opener mark) text)
-      → (count_of (closer mark) (byte ∷ text) ≡ count_of (closer mark) text) → Moves mark depth byte text
+      → (byte_count (opener mark) (byte ∷ text) ≡ 1 + byte_count (opener mark) text)
+      → (byte_count (closer mark) (byte ∷ text) ≡ byte_count (closer mark) text) → Moves mark depth byte text
   closes : (nested mark depth byte ≡ depth - 1)
-      → (count_of (opener mark) (byte ∷ text) ≡ count_of (opener mark) text)
-      → (count_of (closer mark) (byte ∷ text) ≡ 1 + count_of (closer mark) text) → Moves mark depth byte text
+      → (byte_count (opener mark) (byte ∷ text) ≡ byte_count (opener mark) text)
+      → (byte_count (closer mark) (byte ∷ text) ≡ 1 + byte_count (closer mark) text) → Moves mark depth byte text
   stays : (nested mark depth byte ≡ depth)
-      → (count_of (opener mark) (byte ∷ text) ≡ count_of (opener mark) text)
-      → (count_of (closer mark) (byte ∷ text) ≡ count_of (closer mark) text) → Moves mark depth byte text
+      → (byte_count (opener mark) (byte ∷ text) ≡ byte_count (opener mark) text)
+      → (byte_count (closer mark) (byte ∷ text) ≡ byte_count (closer mark) text) → Moves mark depth byte text
 
 moves : (mark : Mark) (depth byte : ℕ) (text : Text) → Moves mark depth byte text
 moves mark depth byte text = grind (arith, ⊎_elim, nested-open, count_yes, count_no, no_closer, nested-close, nested-other, cases_Bool)
@@ -105,21 +105,21 @@ moves mark depth byte text = grind (arith, ⊎_elim, nested-open, count_yes, cou
 -- the marks of a text and those that are open before it are closed in it
 record ClosesAll (mark : Mark) (depth : ℕ) (text : Text) : Type 0 where
   backs : IsClosed mark text
-  all : count_of (opener mark) text + depth ≤ count_of (closer mark) text
+  all : byte_count (opener mark) text + depth ≤ byte_count (closer mark) text
 
 nil_closed : (mark : Mark) → IsClosed mark []
 nil_closed mark zero = let a = count_nil (opener mark) in omega (arith, a)
 nil_closed mark (suc n) = let a = count_nil (opener mark) in omega (arith, a)
 
 cons_closed : (mark : Mark) (byte : ℕ) (text : Text)
-    → count_of (opener mark) (byte ∷ text) ≤ count_of (closer mark) (byte ∷ text) → IsClosed mark text
+    → byte_count (opener mark) (byte ∷ text) ≤ byte_count (closer mark) (byte ∷ text) → IsClosed mark text
     → IsClosed mark (byte ∷ text)
 cons_closed mark byte text h closed zero = h
 cons_closed mark byte text h closed (suc n) = closed n
 
 -- one more byte at the start
 closes_cons : (mark : Mark) (depth byte : ℕ) (text : Text) → ClosesAll mark (nested mark depth byte) text
-    → count_of (opener mark) (byte ∷ text) + depth ≤ count_of (closer mark) (byte ∷ text)
+    → byte_count (opener mark) (byte ∷ text) + depth ≤ byte_count (closer mark) (byte ∷ text)
     → ClosesAll mark depth (byte ∷ text)
 closes_cons mark depth byte text k whole = grind (arith, cons_closed)
 
@@ -130,7 +130,7 @@ closes_more mark depth byte text (closes n o c) k = grind (arith, closes_cons)
 closes_more mark depth byte text (stays n o c) k = grind (arith, closes_cons)
 
 closes_tail : (mark : Mark) (depth byte : ℕ) (text : Text) → ClosesAll mark depth (byte ∷ text)
-    → count_of (opener mark) text + nested mark depth byte ≤ count_of (closer mark) text
+    → byte_count (opener mark) text + nested mark depth byte ≤ byte_count (closer mark) text
     → ClosesAll mark (nested mark depth byte) text
 closes_tail mark depth byte text k whole = record { backs = λ m. k.backs (suc m); all = whole }
 
@@ -185,14 +185,14 @@ nil_cut [] back e = let l = ap length e in absurd (omega (arith, l))
 nil_cut (byte ∷ front) back e = let l = ap length e in absurd (omega (arith, l))
 
 cut_byte : (byte depth : ℕ) (left : Option ℕ) → byte ≡ 44 → depth ≡ 0 → may_cut left ≡ true
-    → cuts byte depth left ≡ true
+    → cuts_arguments byte depth left ≡ true
 cut_byte byte depth left comma even more = grind (arith, and_from, eq-eqb)
 
 uncut_byte : (mark : Mark) (left : Option ℕ) (depth byte : ℕ) (text : Text)
-    → (may_cut left ≡ true → Uncut mark depth (byte ∷ text)) → cuts byte depth left ≡ false
+    → (may_cut left ≡ true → Uncut mark depth (byte ∷ text)) → cuts_arguments byte depth left ≡ false
 unfolding open_after
 uncut_byte mark left depth byte text uncut =
-    false_from_ne_true (cuts byte depth left) (λ h.
+    false_from_ne_true (cuts_arguments byte depth left) (λ h.
     let comma = and_parts (byte == 44) (depth == 0 && may_cut left) h in
     let even = and_parts (depth == 0) (may_cut left) comma.1 in
     uncut even.1 [] text (ap (λ (b : ℕ). b ∷ text) (eqb-true byte 44 comma.0)) (eqb-true depth 0 even.0))
@@ -202,7 +202,7 @@ uncut_tail : (mark : Mark) (depth byte : ℕ) (text : Text) → Uncut mark depth
 unfolding open_after
 uncut_tail mark depth byte text uncut front back e z = uncut (byte ∷ front) back (ap (λ (x : Text). byte ∷ x) e) z
 
-uncut_cons : (mark : Mark) (left : Option ℕ) (depth byte : ℕ) (text : Text) → cuts byte depth left ≡ false
+uncut_cons : (mark : Mark) (left : Option ℕ) (depth byte : ℕ) (text : Text) → cuts_arguments byte depth left ≡ false
     → may_cut left ≡ true
     → Uncut mark (nested mark depth byte) text → Uncut mark depth (byte ∷ text)
 unfolding open_after
@@ -327,7 +327,7 @@ record Found (mark : Mark) (limit : Option ℕ) (depth : ℕ) (text : Text) : Ty
   parts : Parts mark limit depth text first others
 
 parts_longer : (mark : Mark) (limit : Option ℕ) (depth byte : ℕ) (text first : Text) (others : List Text)
-    → cuts byte depth limit ≡ false
+    → cuts_arguments byte depth limit ≡ false
     → Parts mark limit (nested mark depth byte) text first others
     → Parts mark limit depth (byte ∷ text) (byte ∷ first) others
 unfolding Parts open_after
@@ -342,7 +342,7 @@ parts_longer mark limit depth byte text first (next ∷ others) h (more, even, u
   (rest, ap (λ (x : Text). byte ∷ x) whole, p),
 )
 
-found_cut : (mark : Mark) (limit : Option ℕ) (depth byte : ℕ) (text : Text) → cuts byte depth limit ≡ true
+found_cut : (mark : Mark) (limit : Option ℕ) (depth byte : ℕ) (text : Text) → cuts_arguments byte depth limit ≡ true
     → Found mark (one_less limit) depth text → Found mark limit depth (byte ∷ text)
 unfolding Parts open_after
 found_cut mark limit depth byte text h f =
@@ -364,7 +364,7 @@ found_cut mark limit depth byte text h f =
       );
     }
 
-found_uncut : (mark : Mark) (limit : Option ℕ) (depth byte : ℕ) (text : Text) → cuts byte depth limit ≡ false
+found_uncut : (mark : Mark) (limit : Option ℕ) (depth byte : ℕ) (text : Text) → cuts_arguments byte depth limit ≡ false
     → Found mark limit (nested mark depth byte) text → Found mark limit depth (byte ∷ text)
 found_uncut mark limit depth byte text h f = record {
   first = byte ∷ f.first;
@@ -387,7 +387,7 @@ found mark limit depth [] = found_nil mark limit depth
 found mark limit depth (byte ∷ text) =
     ⊎_elim (λ h. found_cut mark limit depth byte text h (found mark (one_less limit) depth text))
     (λ h. found_uncut mark limit depth byte text h (found mark limit (nested mark depth byte) text))
-    (cases_Bool (cuts byte depth limit))
+    (cases_Bool (cuts_arguments byte depth limit))
 
 shape : (mark : Mark) (limit : Option ℕ) (text first : Text) (others : List Text)
     → Parts mark limit 0 text first others → Shape mark limit text first others

@@ -1,8 +1,8 @@
 -- A line that is blank only moves the place, and the next line moves it too.
 use Rattle.std.proofs.Common.{◌≡◌, ℕ, ◌+◌, ◌<◌, ◌≤◌, false, List, Some, arith, refl, sym, ap, ◌∙◌, Err, IfOk, Ok, Result, unwrap_or}
-use Rattle.kt_eval.proofs.Common.{Stop, slice_get, Items, line, blank, line_kind, ReadsOn, Source, File, Held, World, Gave, Evaluator, Raw, Sheet, at_line, at_number, line_at, read_items, read_kind, read_line}
-use Rattle.kt_syntax.specs.declared.step.Step.{Step as Found}
-use Rattle.kt_syntax.specs.declared.step.Step.TheVariants as step
+use Rattle.kt_eval.proofs.Common.{Stop, slice_get, Items, line, blank, line_form, ReadsOn, Source, File, Held, World, Gave, Evaluator, RawLine, Page, at_line, at_number, line_at, read_items, read_kind, read_line}
+use Rattle.kt_syntax.specs.declared.step.BlockStep.{BlockStep as Found}
+use Rattle.kt_syntax.specs.declared.step.BlockStep.TheVariants as step
 use Rattle.kt_eval.specs.inner.Doing.{ReadsAlike}
 
 -- the last move counts
@@ -11,18 +11,18 @@ unfolding at_number
 moved_again Held number other w = refl
 moved_again (File name) number other w = refl
 
-blank_read : (e : Evaluator) (raw : Raw) (w : World) → raw.tab ≡ false → line_kind raw.text false ≡ blank → read_line e raw w ≡ Gave w tt
+blank_read : (e : Evaluator) (raw : RawLine) (w : World) → raw.tab ≡ false → line_form raw.text false ≡ blank → read_line e raw w ≡ Gave w tt
 unfolding read_line read_kind
 blank_read e raw w tab kind = rw (tab, kind) refl
 
-passed_line : (e : Evaluator) (sheet : Sheet) (place at : ℕ) (next : Items) (w : World)
+passed_line : (e : Evaluator) (sheet : Page) (place at : ℕ) (next : Items) (w : World)
     → read_line e (line_at sheet.lines place) (at_line sheet place w) ≡ Gave (at_line sheet place w) tt
     → read_items e sheet (line place (line at next)) w ≡ read_items e sheet (line at next) w
 unfolding read_items
 passed_line e sheet place at next w read = grind (arith, moved_again)
 
-pub comment_passed : (sheet : Sheet) (place : ℕ) → ReadsOn sheet.blocks.steps place step.Line → ReadsOn sheet.blocks.steps (place + 1) step.Line
-    → (line_at sheet.lines place).tab ≡ false → line_kind (line_at sheet.lines place).text false ≡ blank → ReadsAlike sheet place (place + 1)
+pub comment_passed : (sheet : Page) (place : ℕ) → ReadsOn sheet.blocks.steps place step.Line → ReadsOn sheet.blocks.steps (place + 1) step.Line
+    → (line_at sheet.lines place).tab ≡ false → line_form (line_at sheet.lines place).text false ≡ blank → ReadsAlike sheet place (place + 1)
 comment_passed sheet place first second tab kind = grind (arith, passed_line, blank_read)
 
 pub one_step : (steps : List Found) (place : ℕ) (found other : Found) → slice_get steps place ≡ Some found → slice_get steps place ≡ Some other → found ≡ other

@@ -1,21 +1,21 @@
 -- Reading the blocks of a page line by line is reading their tree.
 use Rattle.std.proofs.Common.{◌≡◌, ℕ, ◌+◌, ◌<◌, Bool, true, false, cond, List, Option, Some, None, refl, arith}
-use Rattle.kt_eval.proofs.Common.{slice_get, Items, Branches, none, line, fault, definition, conditional, no_branch, branch, late, append, after_branches, left_at, AreTried, IsConditional, Fault, World, Outcome, Gave, Stopped, then_do, Step, Evaluator, Sheet, at_line, line_at, body_at, read_line, read_define, read_stray, late_else, branch_holds, read_items, read_branches}
-use Rattle.kt_syntax.specs.declared.step.Step.{Step as Found}
-use Rattle.kt_syntax.specs.declared.step.Step.TheVariants as step
+use Rattle.kt_eval.proofs.Common.{slice_get, Items, Branches, none, line, fault, definition, conditional, no_branch, branch, late, append, after_branches, left_at, AreTried, IsConditional, Fault, World, StepEnd, Gave, Stopped, then_do, Step, Evaluator, Page, at_line, line_at, body_at, read_line, read_define, read_stray, late_else, branch_holds, read_items, read_branches}
+use Rattle.kt_syntax.specs.declared.step.BlockStep.{BlockStep as Found}
+use Rattle.kt_syntax.specs.declared.step.BlockStep.TheVariants as step
 
 -- a step longer by what comes after it
-then_more : {A B C : Type 0} (o : Outcome World A) (f : A → Step B) (g : B → Step C) (h : A → Step C)
+then_more : {A B C : Type 0} (o : StepEnd World A) (f : A → Step B) (g : B → Step C) (h : A → Step C)
     → ((x : A) (w : World) → h x w ≡ then_do (f x w) g) → then_do o h ≡ then_do (then_do o f) g
 then_more (Gave w x) f g h e = e x w
 then_more (Stopped w x) f g h e = refl
 
 -- the same steps after one
-then_same : {A B : Type 0} (o : Outcome World A) (f g : A → Step B) → ((x : A) (w : World) → f x w ≡ g x w) → then_do o f ≡ then_do o g
+then_same : {A B : Type 0} (o : StepEnd World A) (f g : A → Step B) → ((x : A) (w : World) → f x w ≡ g x w) → then_do o f ≡ then_do o g
 then_same (Gave w x) f g e = e x w
 then_same (Stopped w x) f g e = refl
 
-module _ (e : Evaluator) (sheet : Sheet) where
+module _ (e : Evaluator) (sheet : Page) where
   -- items and then others
   read_append : (items others : Items) (w : World) → read_items e sheet (append items others) w ≡ then_do (read_items e sheet items w) (λ _. read_items e sheet others)
   unfolding read_items
@@ -44,7 +44,7 @@ module _ (e : Evaluator) (sheet : Sheet) where
   left steps place = read_items e sheet (left_at steps place)
 
   -- some branches remain to be tried, from a place on
-  pub record Tries (steps : List Found) (at after : ℕ) (w : World) (whole : Outcome World (Unit {0})) : Type 0 where
+  pub record Tries (steps : List Found) (at after : ℕ) (w : World) (whole : StepEnd World (Unit {0})) : Type 0 where
     pub others : Branches
     pub tried : AreTried steps others at after
     pub rest : whole ≡ then_do (read_branches e sheet others w) (λ _. read_items e sheet (left_at steps after))
@@ -89,7 +89,7 @@ module _ (e : Evaluator) (sheet : Sheet) where
   next_in (Some step.Endif) = 0
   next_in (Some (step.Stray kind)) = 0
 
-  module _ (steps : List Found) (at after : ℕ) (w w1 : World) (whole : Outcome World (Unit {0})) (condition : Bool) (next more : ℕ) where
+  module _ (steps : List Found) (at after : ℕ) (w w1 : World) (whole : StepEnd World (Unit {0})) (condition : Bool) (next more : ℕ) where
     taken_in : (others : Branches) → AreTried steps others at after
         → whole ≡ then_do (read_branches e sheet others w) (λ _. left steps after)
         → at < after → slice_get steps at ≡ Some (step.Branch condition next more)
@@ -129,7 +129,7 @@ module _ (e : Evaluator) (sheet : Sheet) where
         → branch_holds e sheet at condition w ≡ Stopped w1 x → whole ≡ Stopped w1 x
     branch_stopped x t lt found h = stopped_in x t.others t.tried t.rest lt found h
 
-  module _ (steps : List Found) (at after : ℕ) (w : World) (whole : Outcome World (Unit {0})) where
+  module _ (steps : List Found) (at after : ℕ) (w : World) (whole : StepEnd World (Unit {0})) where
     tried_in : (others : Branches) → AreTried steps others at after
         → whole ≡ then_do (read_branches e sheet others w) (λ _. left steps after)
         → ((condition : Bool) (next : ℕ) → slice_get steps at ≡ Some (step.Branch condition next after) → ⊥)

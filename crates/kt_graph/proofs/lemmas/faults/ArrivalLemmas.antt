@@ -1,6 +1,6 @@
 -- Counts of edges to vertices, while vertices are removed.
 use Rattle.std.proofs.Common.{◌≡◌, ℕ, zero, suc, ◌+◌, ◌-◌, ◌<◌, ◌≤◌, Bool, true, false, not, ◌&&◌, ⊎_elim, if◌then◌else◌, List, [], ◌∷◌, ◌++◌, length, get_or, set, drop, replicate, flat_map, fold, cond, nat_eq, All, refl, sym, ap, ◌∙◌, subst, arith}
-use Rattle.kt_graph.proofs.Common.{Contains, range_with_len, cases_eq, cases_lt, eqb-true, eq-eqb, true≢false, append_assoc, drop_more, get_or_append_left, get_or-replicate, get_or-set_same, get_or-set_other, get_or_past, length-replicate, length-set, length_push, set_past, flat_map-append, fold-append, get_or-le-sum_by, sum_by-append, sum_by-cons, sum_by-set, Edges, Leads, Reaches, AreCounted, IsLeftIn, LeavesCircular, arrivals_at, is_left, next_of_all, next_of_left, with_arrival, without_arrival, HasNext, LeadsBack, count_of, holds_in, next_of, rows_of, count_by}
+use Rattle.kt_graph.proofs.Common.{Contains, range_with_len, cases_eq, cases_lt, eqb-true, eq-eqb, true≢false, append_assoc, drop_more, get_or_append_left, get_or-replicate, get_or-set_same, get_or-set_other, get_or_past, length-replicate, length-set, length_push, set_past, flat_map-append, fold-append, get_or-le-sum_by, sum_by-append, sum_by-cons, sum_by-set, Edges, Leads, Reaches, AreCounted, IsLeftIn, LeavesCircular, arrivals_at, is_left, next_of_all, next_of_left, with_arrival, without_arrival, HasNext, LeadsBack, vertex_count, holds_in, next_of, edge_rows, count_by}
 use Rattle.kt_graph.proofs.lemmas.MemberLemmas.{Contains-none}
 use Rattle.kt_graph.proofs.lemmas.faults.CircleLemmas.{Reaches-join, Reaches-step, has_within}
 
@@ -128,10 +128,10 @@ last_back edges vertex back =
 
 -- a vertex without edges from remaining vertices doesn't lead back to itself
 free_not_back : (edges : Edges) (counts : List ℕ) (vertex : ℕ) → LeavesCircular edges counts
-    → arrivals_at vertex (next_of_left counts (rows_of edges)) ≡ 0 → ¬ LeadsBack edges vertex
+    → arrivals_at vertex (next_of_left counts (edge_rows edges)) ≡ 0 → ¬ LeadsBack edges vertex
 free_not_back edges counts vertex circular none back =
     let at : (before : ℕ) × HasNext edges before vertex × LeadsBack edges before = last_back edges vertex back in
-    let some = left_leads counts (rows_of edges) at.0 vertex (circular at.0 at.2) at.1 in
+    let some = left_leads counts (edge_rows edges) at.0 vertex (circular at.0 at.2) at.1 in
     absurd (omega (arith, none))
 
 -- ---- one edge less
@@ -145,7 +145,7 @@ module _ (edges : Edges) (counts work rest : List ℕ) (place : ℕ) (so_far : A
       within = ⊎_elim (λ (h : place < length counts). h) (λ (past : length counts ≤ place). let none = get_or_past counts place 0 past in absurd (omega arith))
           (cases_lt place (length counts))
 
-      none_arrives : arrivals_at place (next_of_left counts (rows_of edges)) ≡ 0
+      none_arrives : arrivals_at place (next_of_left counts (edge_rows edges)) ≡ 0
       none_arrives =
           let most = so_far.counted place within in
           let own = one_more place rest in
@@ -159,12 +159,12 @@ module _ (edges : Edges) (counts work rest : List ℕ) (place : ℕ) (so_far : A
           (cases_eq vertex place)
 
       counted : (vertex : ℕ) → vertex < length (set counts place 0)
-          → arrivals_at vertex (next_of_left (set counts place 0) (rows_of edges)) + arrivals_at vertex (next_of_all edges (work ++ place ∷ []))
+          → arrivals_at vertex (next_of_left (set counts place 0) (edge_rows edges)) + arrivals_at vertex (next_of_all edges (work ++ place ∷ []))
           + arrivals_at vertex rest ≤ get_or (set counts place 0) vertex 0
       counted vertex inside =
           let long = length-set counts place 0 in
           let most = so_far.counted vertex (omega arith) in
-          let left = gone_left vertex counts (rows_of edges) place e in
+          let left = gone_left vertex counts (edge_rows edges) place e in
           let all : arrivals_at vertex (next_of_all edges (work ++ place ∷ [])) ≡ arrivals_at vertex (next_of_all edges work ++ (next_of edges place ++ [])) =
           ap (arrivals_at vertex) (flat_map-append (next_of edges) work (place ∷ [])) in
           let one = arrivals-append vertex (next_of_all edges work) (next_of edges place ++ []) in
@@ -198,15 +198,15 @@ module _ (edges : Edges) (counts work rest : List ℕ) (place : ℕ) (so_far : A
           (cases_eq vertex place)
 
       counted : (vertex : ℕ) → vertex < length (set counts place (get_or counts place 0 - 1))
-          → arrivals_at vertex (next_of_left (set counts place (get_or counts place 0 - 1)) (rows_of edges)) + arrivals_at vertex (next_of_all edges work)
+          → arrivals_at vertex (next_of_left (set counts place (get_or counts place 0 - 1)) (edge_rows edges)) + arrivals_at vertex (next_of_all edges work)
           + arrivals_at vertex rest ≤ get_or (set counts place (get_or counts place 0 - 1)) vertex 0
       counted vertex inside =
           let long = length-set counts place (get_or counts place 0 - 1) in
           let most = so_far.counted vertex (omega arith) in
           let is : is_left (get_or counts place 0 - 1) ≡ is_left (get_or counts place 0) =
           is_left_more (get_or counts place 0 - 1) (omega arith) ∙ sym (is_left_more (get_or counts place 0) (omega arith)) in
-          let left : arrivals_at vertex (next_of_left (set counts place (get_or counts place 0 - 1)) (rows_of edges)) ≡ arrivals_at vertex (next_of_left counts (rows_of edges)) =
-          ap (arrivals_at vertex) (stays_left counts (rows_of edges) place (get_or counts place 0 - 1) is) in
+          let left : arrivals_at vertex (next_of_left (set counts place (get_or counts place 0 - 1)) (edge_rows edges)) ≡ arrivals_at vertex (next_of_left counts (edge_rows edges)) =
+          ap (arrivals_at vertex) (stays_left counts (edge_rows edges) place (get_or counts place 0 - 1) is) in
           let three = arrivals-cons vertex place rest in
           ⊎_elim
           (λ (same : vertex ≡ place).
@@ -328,16 +328,16 @@ one_turn from (suc count) vertex =
           omega arith,
     )
 
-pub begun : (edges : Edges) (counts : List ℕ) → counts ≡ fold with_arrival (replicate (count_of edges) 1) (flat_map (λ row. row) (rows_of edges))
-    → AreCounted edges counts [] (range_with_len 0 (count_of edges))
+pub begun : (edges : Edges) (counts : List ℕ) → counts ≡ fold with_arrival (replicate (vertex_count edges) 1) (flat_map (λ row. row) (edge_rows edges))
+    → AreCounted edges counts [] (range_with_len 0 (vertex_count edges))
 begun edges counts is = record { circular = circular; counted = counted }
   where
-    count_at : (vertex : ℕ) → vertex < count_of edges
-        → (get_or counts vertex 0 ≡ 1 + arrivals_at vertex (flat_map (λ (row : List ℕ). row) (rows_of edges))) × (length counts ≡ count_of edges)
+    count_at : (vertex : ℕ) → vertex < vertex_count edges
+        → (get_or counts vertex 0 ≡ 1 + arrivals_at vertex (flat_map (λ (row : List ℕ). row) (edge_rows edges))) × (length counts ≡ vertex_count edges)
     count_at vertex within =
-        let long = length-replicate {A = ℕ} (count_of edges) 1 in
-        let all = counted_all (flat_map (λ (row : List ℕ). row) (rows_of edges)) (replicate (count_of edges) 1) vertex (omega arith) in
-        let one : get_or (replicate {A = ℕ} (count_of edges) 1) vertex 0 ≡ suc zero = get_or-replicate {A = ℕ} (count_of edges) vertex 1 0 within in
+        let long = length-replicate {A = ℕ} (vertex_count edges) 1 in
+        let all = counted_all (flat_map (λ (row : List ℕ). row) (edge_rows edges)) (replicate (vertex_count edges) 1) vertex (omega arith) in
+        let one : get_or (replicate {A = ℕ} (vertex_count edges) 1) vertex 0 ≡ suc zero = get_or-replicate {A = ℕ} (vertex_count edges) vertex 1 0 within in
         let value = all.0 in
         let same = ap (λ (cs : List ℕ). get_or cs vertex 0) is in (
           omega arith,
@@ -350,31 +350,31 @@ begun edges counts is = record { circular = circular; counted = counted }
         let value = (count_at vertex within).0 in
         omega arith
 
-    length_counts : length counts ≡ count_of edges
-    length_counts = ap length is ∙ length_all (flat_map (λ (row : List ℕ). row) (rows_of edges)) (replicate (count_of edges) 1) ∙ length-replicate {A = ℕ} (count_of edges) 1
+    length_counts : length counts ≡ vertex_count edges
+    length_counts = ap length is ∙ length_all (flat_map (λ (row : List ℕ). row) (edge_rows edges)) (replicate (vertex_count edges) 1) ∙ length-replicate {A = ℕ} (vertex_count edges) 1
       where
         length_all : (vertices all : List ℕ) → length (fold with_arrival all vertices) ≡ length all
         length_all [] all = refl
         length_all (vertex ∷ vertices) all = length_all vertices (with_arrival all vertex) ∙ length-set all vertex (get_or all vertex 0 + 1)
 
     counted : (vertex : ℕ) → vertex < length counts
-        → arrivals_at vertex (next_of_left counts (rows_of edges)) + arrivals_at vertex (next_of_all edges [])
-        + arrivals_at vertex (range_with_len 0 (count_of edges)) ≤ get_or counts vertex 0
+        → arrivals_at vertex (next_of_left counts (edge_rows edges)) + arrivals_at vertex (next_of_all edges [])
+        + arrivals_at vertex (range_with_len 0 (vertex_count edges)) ≤ get_or counts vertex 0
     counted vertex inside = ⊎_elim
-        (λ (within : vertex < count_of edges).
+        (λ (within : vertex < vertex_count edges).
         let value = (count_at vertex within).0 in
-        let fewer = left_fewer vertex counts (rows_of edges) in
-        let turn = (one_turn 0 (count_of edges) vertex).0 in
+        let fewer = left_fewer vertex counts (edge_rows edges) in
+        let turn = (one_turn 0 (vertex_count edges) vertex).0 in
         let none : arrivals_at vertex (next_of_all edges []) ≡ 0 = refl in
         omega arith)
-        (λ (past : count_of edges ≤ vertex).
+        (λ (past : vertex_count edges ≤ vertex).
         let long = length_counts in absurd (omega arith))
-        (cases_lt vertex (count_of edges))
+        (cases_lt vertex (vertex_count edges))
 
 -- a vertex has its turn
-pub next_turn : (edges : Edges) (counts : List ℕ) (vertex : ℕ) → vertex < count_of edges
-    → AreCounted edges counts [] (range_with_len vertex (count_of edges - vertex))
-    → AreCounted edges counts [] (vertex ∷ range_with_len (vertex + 1) (count_of edges - (vertex + 1)))
+pub next_turn : (edges : Edges) (counts : List ℕ) (vertex : ℕ) → vertex < vertex_count edges
+    → AreCounted edges counts [] (range_with_len vertex (vertex_count edges - vertex))
+    → AreCounted edges counts [] (vertex ∷ range_with_len (vertex + 1) (vertex_count edges - (vertex + 1)))
 next_turn edges counts vertex within so_far = grind arith
 
 pub turn_taken : (edges : Edges) (counts new last : List ℕ) (vertex : ℕ) (rest : List ℕ) → AreCounted edges counts [] (vertex ∷ rest)

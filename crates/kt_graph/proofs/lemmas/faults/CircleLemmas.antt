@@ -1,6 +1,6 @@
 -- Paths through a graph, and those that lead back.
 use Rattle.std.proofs.Common.{◌≡◌, ℕ, Bool, true, false, ◌⊎◌, ⊎_elim, inl, inr, List, [], ◌∷◌, ◌++◌, length, get_or, take, drop, All, ◌+◌, ◌<◌, refl, sym, ap, ◌∙◌, subst, arith}
-use Rattle.kt_graph.proofs.Common.{Contains, cases_lt, false≢true, drop_more, get_or_past, length-append, length-map, take-append-drop, Contains-push, Contains-push_cases, Contains-append_left, Edges, Leads, Reaches, IsLeftIn, LeavesCircular, AreReversed, HasNext, HoldsCircular, IsDoneWith, IsFirstBack, LeadsBack, LeadsOn, Searches, Visits, count_of, holds_in, next_of, rows_of}
+use Rattle.kt_graph.proofs.Common.{Contains, cases_lt, false≢true, drop_more, get_or_past, length-append, length-map, take-append-drop, Contains-push, Contains-push_cases, Contains-append_left, Edges, Leads, Reaches, IsLeftIn, LeavesCircular, AreReversed, HasNext, HoldsCircular, IsDoneWith, IsFirstBack, LeadsBack, LeadsOn, Searches, Visits, vertex_count, holds_in, next_of, edge_rows}
 use Rattle.kt_graph.proofs.lemmas.MemberLemmas.{Contains-none}
 
 -- a path continues
@@ -66,10 +66,10 @@ reversed_twice edges reversed turned from to = ((turned to from).1, (turned to f
 
 -- ---- the vertices that lead anywhere
 
-pub length-rows : (edges : Edges) → length (rows_of edges) ≡ count_of edges
+pub length-rows : (edges : Edges) → length (edge_rows edges) ≡ vertex_count edges
 length-rows edges = grind (arith, length-append, length-map)
 
-pub has_within : (edges : Edges) (vertex next : ℕ) → HasNext edges vertex next → vertex < count_of edges
+pub has_within : (edges : Edges) (vertex next : ℕ) → HasNext edges vertex next → vertex < vertex_count edges
 has_within edges vertex next has = grind (arith, ⊎_elim, length-rows, get_or_past, Contains-none, cases_lt)
 
 -- what remains in both directions has all that leads back to itself

@@ -1,13 +1,13 @@
 -- The first name that depends on itself, from the first vertex that leads back to itself.
 use Rattle.std.proofs.Common.{◌≡◌, ℕ, ◌<◌, ⊎_elim, List, ◌∷◌, ◌++◌, length, All, sym, ap, ◌∙◌, subst}
-use Rattle.kt_graph.proofs.Common.{Contains, IsStrictlySortedBy, nat_cmp, slice_cmp, map-append, All-contains, Contains-append_right, Text, Rule, Edges, AreEdgesOf, IsFirstBack, LeadsBack, IsCyclic, IsFirst, IsGraph, name_at, names_at, nodes_view, in_first, NodeTable}
+use Rattle.kt_graph.proofs.Common.{Contains, IsStrictlySortedBy, nat_cmp, slice_cmp, map-append, All-contains, Contains-append_right, Text, Entry, Edges, AreEdgesOf, IsFirstBack, LeadsBack, IsCyclic, IsFirst, IsGraph, name_at, names_at, nodes_view, in_first, NodeTable}
 use Rattle.kt_graph.specs.inner.nodes.Graph.{IsWhole}
 use Rattle.kt_graph.proofs.lemmas.MemberLemmas.{Contains-map}
 use Rattle.kt_graph.proofs.lemmas.faults.TroubleLemmas.{in_cut, none_below}
 use Rattle.kt_graph.proofs.lemmas.nodes.WholeLemmas.{cyclic_back, is_cyclic, reached_number}
 
 module _ (table : NodeTable) (order : List ℕ) (whole : IsWhole table order)
-    (rules : List Rule) (known goals : List Text) (graph : IsGraph rules known goals (nodes_view table order))
+    (rules : List Entry) (known goals : List Text) (graph : IsGraph rules known goals (nodes_view table order))
     (edges : Edges) (drawn : AreEdgesOf table.nodes edges) where
   pub none_cyclic : All (λ vertex. ¬ LeadsBack edges vertex) order → (name : Text) → ¬ IsCyclic rules known goals name
   none_cyclic none name cyclic =

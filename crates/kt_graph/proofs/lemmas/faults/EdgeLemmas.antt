@@ -1,6 +1,6 @@
 -- Edges that are added one by one.
 use Rattle.std.proofs.Common.{◌≡◌, ◌↔◌, ℕ, zero, suc, ◌+◌, ◌-◌, ◌<◌, ◌≤◌, ◌⊎◌, ⊎_elim, inl, inr, List, [], ◌∷◌, ◌++◌, map, length, get_or, set, drop, take, Vec, Global, Option, None, Some, slice_get, refl, sym, ap, ◌∙◌, subst, arith}
-use Rattle.kt_graph.proofs.Common.{Contains, range_with_len, cases_eq, cases_lt, append-nil, drop_more, get_or-map, map-append, map-set, get_or-replicate, get_or-set_same, get_or-set_other, get_or_past, length-replicate, length-set, set_past, take_more, flat_map-append, All-contains, Contains-append_left, Contains-append_right, Contains-append_cases, Contains-push, Contains-push_cases, map-range_with_len_more, fold-append, none-some, same_Some, Edges, StoredNode, stored_at, AreMadeBelow, AreNeededBelow, HaveEdges, IsRepeated, LeadToVertices, HasNext, IsEdge, LeadsTo, bare_rows, count_of, edges_from, edges_to, making_edges, makings_edges, needed_numbers, numbers_after, one_at, row_by, row_of, rows_of, with_edge, with_edges, first_or_rest, in_first, in_rest}
+use Rattle.kt_graph.proofs.Common.{Contains, range_with_len, cases_eq, cases_lt, append-nil, drop_more, get_or-map, map-append, map-set, get_or-replicate, get_or-set_same, get_or-set_other, get_or_past, length-replicate, length-set, set_past, take_more, flat_map-append, All-contains, Contains-append_left, Contains-append_right, Contains-append_cases, Contains-push, Contains-push_cases, map-range_with_len_more, fold-append, none-some, same_Some, Edges, StoredNode, stored_at, AreMadeBelow, AreNeededBelow, HaveEdges, IsRepeated, LeadToVertices, HasNext, IsEdge, LeadsTo, bare_rows, vertex_count, edges_from, edges_to, making_edges, makings_edges, needed_numbers, numbers_after, listed_number, row_by, edge_row, edge_rows, with_edge, with_edges, first_or_rest, in_first, in_rest}
 use Rattle.kt_graph.proofs.lemmas.MemberLemmas.{Contains-none, Contains-map, Contains-from_map, Contains-slice_get}
 
 -- the edges of vertices from a number on, reversed
@@ -130,21 +130,21 @@ turned_there (row ∷ rows) number zero from has =
     subst (λ n. Contains (turned_from number (row ∷ rows)) (from, n)) (sym here) (Contains-append_left (edges_to number row) (turned_from (suc number) rows) (from, number) (Contains-map (λ one. (one, number)) row from has))
 turned_there (row ∷ rows) number (suc place) from has = grind (arith, Contains-append_right, turned_there rows (suc number) place from has)
 
-pub turned_are : (edges : Edges) (rows : List (List ℕ)) → LeadToVertices edges → rows ≡ with_edges (bare_rows (count_of edges)) (turned_from 0 (rows_of edges))
+pub turned_are : (edges : Edges) (rows : List (List ℕ)) → LeadToVertices edges → rows ≡ with_edges (bare_rows (vertex_count edges)) (turned_from 0 (edge_rows edges))
     → (from to : ℕ) → Contains (get_or rows from []) to ↔ HasNext edges to from
 turned_are edges rows within turned from to = (
   λ has.
-      let at : (place : ℕ) × (to ≡ 0 + place) × Contains (get_or (rows_of edges) place []) from =
-      turned_has (rows_of edges) 0 from to
-      (bare_added (count_of edges) (turned_from 0 (rows_of edges)) from to
+      let at : (place : ℕ) × (to ≡ 0 + place) × Contains (get_or (edge_rows edges) place []) from =
+      turned_has (edge_rows edges) 0 from to
+      (bare_added (vertex_count edges) (turned_from 0 (edge_rows edges)) from to
       (subst (λ (rs : List (List ℕ)). Contains (get_or rs from []) to) turned has)) in
       let same : at.0 ≡ to = omega (arith, at.1) in
       subst (λ n. HasNext edges n from) same at.2,
   λ has.
       let zeroth : 0 + to ≡ to = omega arith in
       subst (λ (rs : List (List ℕ)). Contains (get_or rs from []) to) (sym turned)
-      (bare_there (count_of edges) (turned_from 0 (rows_of edges)) from to (within to from has)
-      (subst (λ n. Contains (turned_from 0 (rows_of edges)) (from, n)) zeroth (turned_there (rows_of edges) 0 to from has))),
+      (bare_there (vertex_count edges) (turned_from 0 (edge_rows edges)) from to (within to from has)
+      (subst (λ n. Contains (turned_from 0 (edge_rows edges)) (from, n)) zeroth (turned_there (edge_rows edges) 0 to from has))),
 )
 
 -- the edges of a vertex were reversed, in two parts
@@ -300,7 +300,7 @@ numbers_more names count number numbers new so_far is pushed =
     pushed ∙ ap (λ (ns : List ℕ). ns ++ number ∷ []) so_far ∙ ap (λ n. numbers_after names count ++ n ∷ []) is
     ∙ sym (map-range_with_len_more (λ making. names + making) 0 count count (omega arith))
 
-number_at : (names count making : ℕ) → making < count → one_at (numbers_after names count) making ≡ (names + making) ∷ []
+number_at : (names count making : ℕ) → making < count → listed_number (numbers_after names count) making ≡ (names + making) ∷ []
 number_at names count making less = grind (arith, number_from)
 
 -- a node's making has a number below the count, and so has what it needs
@@ -327,9 +327,9 @@ edge_within nodes count from to made needed edge = ⊎_elim
 module _ (nodes : List StoredNode) (count : ℕ) (makings : List ℕ) (rows : List (List ℕ)) (below : AreMadeBelow count nodes)
     (numbers : makings ≡ numbers_after (length nodes) count) (added : HaveEdges count (makings_edges nodes) rows) where
   making_alone : (number : ℕ) (node : StoredNode) (making : ℕ) → slice_get nodes number ≡ Some node → node.made_with ≡ Some making
-      → one_at makings making ≡ (length nodes + making) ∷ []
+      → listed_number makings making ≡ (length nodes + making) ∷ []
   making_alone number node making at made =
-      ap (λ (ns : List ℕ). one_at ns making) numbers ∙ number_at (length nodes) count making (made_below count nodes number node making below at made)
+      ap (λ (ns : List ℕ). listed_number ns making) numbers ∙ number_at (length nodes) count making (made_below count nodes number node making below at made)
 
   leads : (number : ℕ) (node : StoredNode) (to : ℕ) → slice_get nodes number ≡ Some node → (o : Option ℕ) → node.made_with ≡ o → Contains (row_by makings node o) to
       → LeadsTo (length nodes) node o to
@@ -339,30 +339,30 @@ module _ (nodes : List StoredNode) (count : ℕ) (makings : List ℕ) (rows : Li
       → Contains (row_by makings node o) to
   led number node to at o made has = grind (arith, making_alone, length, in_first)
 
-  pub edges_are : (from to : ℕ) → Contains (get_or (map (row_of makings) nodes ++ rows) from []) to ↔ IsEdge nodes from to
+  pub edges_are : (from to : ℕ) → Contains (get_or (map (edge_row makings) nodes ++ rows) from []) to ↔ IsEdge nodes from to
   edges_are from to = (
     λ has. ⊎_elim
-        (λ (h : (node : StoredNode) × (slice_get nodes from ≡ Some node) × Contains (row_of makings node) to).
+        (λ (h : (node : StoredNode) × (slice_get nodes from ≡ Some node) × Contains (edge_row makings node) to).
         record { number = from; node = h.0; place = h.1; way = inl (refl, leads from h.0 to h.1 h.0.made_with refl h.2) })
         (λ (h : (place : ℕ) × (from ≡ length nodes + place) × Contains (get_or rows place []) to).
         let at : (number : ℕ) × (node : StoredNode) × (slice_get nodes number ≡ Some node) × (node.made_with ≡ Some h.0) × Contains (needed_numbers node) to =
         makings_has nodes h.0 to ((added.same (h.0, to)).0 (bare_added count added.edges h.0 to (subst (λ (rs : List (List ℕ)). Contains (get_or rs h.0 []) to) added.are h.2))) in
         record { number = at.0; node = at.1; place = at.2; way = inr (h.0, at.3, h.1, at.4) })
-        (front_has (row_of makings) nodes rows from to has),
+        (front_has (edge_row makings) nodes rows from to has),
     λ edge. ⊎_elim
         (λ (h : (from ≡ edge.number) × LeadsTo (length nodes) edge.node edge.node.made_with to).
-        front_there (row_of makings) nodes rows from edge.node to (ap (slice_get nodes) h.0 ∙ edge.place)
+        front_there (edge_row makings) nodes rows from edge.node to (ap (slice_get nodes) h.0 ∙ edge.place)
         (led edge.number edge.node to edge.place edge.node.made_with refl h.1))
         (λ (h : (making : ℕ) × (edge.node.made_with ≡ Some making) × (from ≡ length nodes + making) × Contains (needed_numbers edge.node) to).
-        subst (λ n. Contains (get_or (map (row_of makings) nodes ++ rows) n []) to) (sym h.2)
-        (back_there (row_of makings) nodes rows h.0 to
+        subst (λ n. Contains (get_or (map (edge_row makings) nodes ++ rows) n []) to) (sym h.2)
+        (back_there (edge_row makings) nodes rows h.0 to
         (subst (λ (rs : List (List ℕ)). Contains (get_or rs h.0 []) to) (sym added.are)
         (bare_there count added.edges h.0 to (made_below count nodes edge.number edge.node h.0 below edge.place h.1)
         ((added.same (h.0, to)).1 (makings_there nodes edge.number edge.node h.0 to edge.place h.1 h.3))))))
         edge.way,
   )
 
-  pub edges_within : AreNeededBelow nodes → (from to : ℕ) → Contains (get_or (map (row_of makings) nodes ++ rows) from []) to → to < length nodes + length rows
+  pub edges_within : AreNeededBelow nodes → (from to : ℕ) → Contains (get_or (map (edge_row makings) nodes ++ rows) from []) to → to < length nodes + length rows
   edges_within needed from to has =
       let below_all = edge_within nodes count from to below needed ((edges_are from to).0 has) in
       let two = ap length added.are in

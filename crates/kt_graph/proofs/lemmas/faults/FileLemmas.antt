@@ -2,7 +2,7 @@
 use Rattle.std.proofs.Common.{◌≡◌, ℕ, ◌+◌, Bool, true, false, not, ◌&&◌, cond, if◌then◌else◌, List, [], ◌∷◌, ◌++◌, length, find, All, nat_eq, nat_lt, Option, None, Some, is_some, sym, ap, ◌∙◌, arith}
 use Rattle.std.specs.Map.{lookup, KeepsOthers}
 use Rattle.kt_graph.proofs.Common.{bytes_eq, ne_eqb, lt-ltb, nat_list_eq_equiv, append-nil, append_assoc, length-append, All-append, filter-append, bytes_eq-Decides, Text, held_for, made_names, several_in, Node, is_leaf, canon_of}
-use Rattle.kt_graph.specs.inner.faults.Files.{count_of}
+use Rattle.kt_graph.specs.inner.faults.Files.{spelling_count}
 use Rattle.kt_rules.proofs.IndexLemmas.{apart}
 
 -- ---- what is held of files
@@ -16,7 +16,7 @@ unfolding KeepsOthers
 held_after old new file value others found other = grind (arith, bytes_eq-Decides, apart)
 
 -- one more name of a file
-count_more : (names : List Text) (name file : Text) → count_of (names ++ name ∷ []) file ≡ count_of names file + cond (bytes_eq (canon_of name) file) 1 0
+count_more : (names : List Text) (name file : Text) → spelling_count (names ++ name ∷ []) file ≡ spelling_count names file + cond (bytes_eq (canon_of name) file) 1 0
 count_more names name file = grind (arith, length, filter-append, length-append, cond)
 
 abbrev several_at : ℕ → Option Bool
@@ -32,8 +32,8 @@ several_with names name file =
     ap several_at (count_more names name file) ∙ by (bytes_eq (canon_of name) file)
     ∙ ap (λ b. if b then Some (is_some (several_in names file)) else several_in names file) (nat_list_eq_equiv.symm (canon_of name) file)
   where
-    by : (b : Bool) → several_at (count_of names file + cond b 1 0) ≡ (if b then Some (is_some (several_in names file)) else several_in names file)
-    by true = several_more (count_of names file)
+    by : (b : Bool) → several_at (spelling_count names file + cond b 1 0) ≡ (if b then Some (is_some (several_in names file)) else several_in names file)
+    by true = several_more (spelling_count names file)
     by false = ap several_at (omega arith)
 
 -- so what is held is right after one more name

@@ -1,6 +1,6 @@
 -- The components of a name, the last of them first, and the name that they spell.
 use Rattle.std.proofs.Common.{◌≡◌, ◌-◌, ◌≤◌, ◌==◌, Bool, true, false, not, if◌then◌else◌, fold, get_or, take, drop, List, [], ◌∷◌, ◌++◌, length, map, reverse, flat_map, Option, sym, ap, ◌∙◌, arith, MatchOption}
-use Rattle.kt_graph.proofs.Common.{Bor, join_with_byte, slice_split, option_to_list, bytes_eq, false≢true, append-nil, map-append, reverse-append, nil_from_length, reverse-reverse, take_rest, Text, above_name, canon_of, ends_in_name, is_rooted, parts_of, step_up, with_part}
+use Rattle.kt_graph.proofs.Common.{Bor, join_with_byte, slice_split, option_to_list, bytes_eq, false≢true, append-nil, map-append, reverse-append, nil_from_length, reverse-reverse, take_rest, Text, above_name, canon_of, ends_in_name, is_rooted, components_of, step_up, with_part}
 
 -- components as they are held
 abbrev pub told : List (Bor Text) → List Text
@@ -36,5 +36,5 @@ joined_at (first ∷ after) d some =
 pub canon_is : (name : Text) (rooted : Bool) (parts : List (Bor Text)) (left : List Text) → rooted ≡ is_rooted name → left ≡ []
     → fold (with_part rooted) (reverse (told parts)) left ≡ fold (with_part rooted) [] (slice_split (λ byte. byte == 47) name)
     → canon_of name ≡ (if rooted then 47 ∷ [] else []) ++ join_with_byte 47 (told parts)
-unfolding canon_of parts_of
+unfolding canon_of components_of
 canon_is name rooted parts left is none done = grind (arith, reverse, reverse-reverse)

@@ -1,6 +1,6 @@
 -- What remains of a name's components, in whatever order they are removed.
 use Rattle.std.proofs.Common.{◌≡◌, ◌⊎◌, ⊎_elim, inl, inr, ℕ, zero, suc, Bool, true, false, not, if◌then◌else◌, fold, List, [], ◌∷◌, ◌++◌, reverse, replicate, All, refl, sym, ap, ◌∙◌, subst, arith}
-use Rattle.kt_graph.proofs.Common.{bytes_eq, append-nil, append_assoc, reverse-append, reverse-reverse, All-cons, All-head, All-nil, All-push, All-tail, fold-append, bytes_eq-Decides, Text, above_name, is_idle, is_rooted, parts_of, step_up, with_part, Leads, Reaches}
+use Rattle.kt_graph.proofs.Common.{bytes_eq, append-nil, append_assoc, reverse-append, reverse-reverse, All-cons, All-head, All-nil, All-push, All-tail, fold-append, bytes_eq-Decides, Text, above_name, is_idle, is_rooted, components_of, step_up, with_part, Leads, Reaches}
 use Rattle.kt_graph.specs.faults.Resolution.{Cancels, IsComponent, IsReduced, IsResolution, MayGo, components}
 use Rattle.kt_graph.proofs.lemmas.faults.CircleLemmas.{Reaches-join, Reaches-none, Reaches-step}
 use Rattle.kt_graph.proofs.lemmas.faults.PartLemmas.{above_stays, name_taken}
@@ -208,7 +208,7 @@ reduced_fixed : (rooted : Bool) (parts : List Text) → IsReduced rooted parts �
 reduced_fixed rooted parts reduced = grind (arith, replicate, reverse, fold-append, begun_fold, names_fold, reverse-append, repeated_back, reverse-reverse)
 
 pub resolution : (name : Text) → IsResolution name
-unfolding parts_of
+unfolding components_of
 resolution name =
     let rooted : Bool = is_rooted name in record {
       resolved = record {

@@ -1,8 +1,8 @@
 -- What is wrong with a graph, from its nodes.
 use Rattle.std.proofs.Common.{rules, ◌≡◌, ◌<◌, Bool, true, false, not, ◌||◌, cond, ◌⊎◌, ⊎_elim, List, [], ◌∷◌, ◌++◌, length, map, filter, find, All, Option, None, Some, option_map, refl, sym, ap, ◌∙◌, subst, arith}
-use Rattle.kt_graph.proofs.Common.{Contains, list_any, IsStrictlySortedBy, nat_cmp, option_map_or, Ordering, Less, slice_cmp, bytes_eq, false≢true, true≢false, lt-ltb, ltb-true, length-map, All-contains, All-filter, All-map, sorted_tail, All-after_first, none-some, same_Some, bytes_eq-Decides, Text, Rule, is_repeated, made_names, Node, is_leaf, node_of, canon_of, is_reserved, ComesFirst, IsCyclic, IsDoubled, IsFirst, IsGraph, IsMade, IsReached, IsReserved, Trouble, one_file, is_unmade, unmade_goal, first_or_rest, in_first, in_rest}
+use Rattle.kt_graph.proofs.Common.{Contains, list_any, IsStrictlySortedBy, nat_cmp, option_map_or, Ordering, Less, slice_cmp, bytes_eq, false≢true, true≢false, lt-ltb, ltb-true, length-map, All-contains, All-filter, All-map, sorted_tail, All-after_first, none-some, same_Some, bytes_eq-Decides, Text, Entry, is_repeated, made_names, Node, is_leaf, node_of, canon_of, is_reserved, ComesFirst, IsCyclic, IsDoubled, IsFirst, IsGraph, IsMade, IsReached, IsReserved, Trouble, one_file, is_unmade, unmade_goal, first_or_rest, in_first, in_rest}
 use Rattle.kt_graph.specs.faults.Faults.{IsFileTrouble}
-use Rattle.kt_graph.specs.inner.faults.Files.{count_of}
+use Rattle.kt_graph.specs.inner.faults.Files.{spelling_count}
 use Rattle.kt_graph.specs.nodes.Groups.{made_nodes}
 use Rattle.kt_graph.specs.inner.nodes.Graph.{makes_among}
 use Rattle.kt_graph.proofs.lemmas.MemberLemmas.{Contains-from_map, Contains-map, Contains-none}
@@ -222,7 +222,7 @@ single_file names name rises canonical has = by (is_repeated names name) refl
     by : (b : Bool) → is_repeated names name ≡ b → b ≡ false
     by true on =
         let at : (other : Text) × Contains names other × (bytes_eq (canon_of other) (canon_of name) ≡ true) × ¬ (name ≡ other) =
-        another (λ one. bytes_eq (canon_of one) (canon_of name)) names name rises (ltb-true 1 (count_of names (canon_of name)) on) in
+        another (λ one. bytes_eq (canon_of one) (canon_of name)) names name rises (ltb-true 1 (spelling_count names (canon_of name)) on) in
         let one : canon_of name ≡ name = All-contains (λ one. canon_of one ≡ one) names name canonical has in
         let two : canon_of at.0 ≡ at.0 = All-contains (λ one. canon_of one ≡ one) names at.0 canonical at.1 in
         absurd (at.3 (sym one ∙ sym ((bytes_eq-Decides (canon_of at.0) (canon_of name)).0 at.2) ∙ two))
@@ -237,7 +237,7 @@ none_repeated nodes rises canonical =
 
 -- ---- a graph
 
-module _ (rules : List Rule) (known goals : List Text) (nodes : List Node) (graph : IsGraph rules known goals nodes) where
+module _ (rules : List Entry) (known goals : List Text) (nodes : List Node) (graph : IsGraph rules known goals nodes) where
   pub of_node : (node : Node) → Contains nodes node → node_of rules known node.name ≡ node
   of_node node has = mapped_itself (node_of rules known) (λ (one : Node). one.name) nodes node graph.stored has
 
@@ -301,7 +301,7 @@ module _ (rules : List Rule) (known goals : List Text) (nodes : List Node) (grap
   repeated_doubled name has on =
       let p : Text → Bool = λ one. bytes_eq (canon_of one) (canon_of name) in
       let at : (other : Text) × Contains (made_names nodes) other × (bytes_eq (canon_of other) (canon_of name) ≡ true) × ¬ (name ≡ other) =
-      another (λ one. bytes_eq (canon_of one) (canon_of name)) (made_names nodes) name (rises_made nodes graph.rises) (ltb-true 1 (count_of (made_names nodes) (canon_of name)) on) in
+      another (λ one. bytes_eq (canon_of one) (canon_of name)) (made_names nodes) name (rises_made nodes graph.rises) (ltb-true 1 (spelling_count (made_names nodes) (canon_of name)) on) in
       record {
         made = made_is name has;
         other = at.0;
@@ -315,7 +315,7 @@ module _ (rules : List Rule) (known goals : List Text) (nodes : List Node) (grap
       let one = is_made name doubled.made in
       let two = is_made doubled.other doubled.other_made in (
         one,
-        lt-ltb 1 (count_of (made_names nodes) (canon_of name))
+        lt-ltb 1 (spelling_count (made_names nodes) (canon_of name))
             (two_pass (λ n. bytes_eq (canon_of n) (canon_of name)) (made_names nodes) name doubled.other one two doubled.differ
             ((bytes_eq-Decides (canon_of name) (canon_of name)).1 refl) ((bytes_eq-Decides (canon_of doubled.other) (canon_of name)).1 (sym doubled.same))),
       )
@@ -349,6 +349,6 @@ module _ (rules : List Rule) (known goals : List Text) (nodes : List Node) (grap
       )
 
 -- the parts of what comes first
-pub comes_first : (rules : List Rule) (known goals : List Text) (trouble : Option Trouble) → unmade_goal rules known goals ≡ None
+pub comes_first : (rules : List Entry) (known goals : List Text) (trouble : Option Trouble) → unmade_goal rules known goals ≡ None
     → ((name : Text) → ¬ IsCyclic rules known goals name) → IsFileTrouble rules known goals trouble → ComesFirst rules known goals trouble
 comes_first rules known goals trouble made uncircled files = grind arith

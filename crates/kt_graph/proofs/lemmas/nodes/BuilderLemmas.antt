@@ -1,6 +1,6 @@
 -- One more name gets its node, from the goals on to the last of all.
 use Rattle.std.proofs.Common.{rules, ◌≡◌, ℕ, suc, zero, Bool, ◌-◌, ◌<◌, ◌≤◌, if◌then◌else◌, List, [], ◌∷◌, ◌++◌, length, map, fold, take, drop, get_or, Option, Some, None, slice_get, unwrap_or, Contains, All, refl, sym, ap, subst, ◌∙◌, arith, ◌⊎◌, inl, inr, ⊎_elim}
-use Rattle.kt_graph.proofs.Common.{option_map, length-append, length_push, take-append-drop, All-nil, All-cons, All-weaker, All-contains_itself, none-some, slice_get_within, slice_get-get_or, get_or_from_slice_get, Text, Target, explicit_rules, Rule, with_name, GraphBuilder, Instance as Held, NodeKind, StoredPart, StoredNode, Candidate, needed_by, Node, Part, all_inputs, node_by, node_of, HasNumbers, IsMaking, IsNumbered, IsStoredAs, SaysNode, SaysPart, SayParts, AreNumbersOf, named_at, names_read, numbers_below, AreBelow, IsReached, AllSay, AreTold, BuildsNode, IsBegun, IsDone, IsOver, reached_text, instance_at, instance_view, name_at, names_at, part_view}
+use Rattle.kt_graph.proofs.Common.{option_map, length-append, length_push, take-append-drop, All-nil, All-cons, All-weaker, All-contains_itself, none-some, slice_get_within, slice_get-get_or, get_or_from_slice_get, Text, Target, explicit_rules, Entry, with_name, GraphBuilder, Instance as Held, NodeKind, StoredPart, StoredNode, Candidate, needed_by, Node, Part, all_inputs, node_by, node_of, HasNumbers, IsMaking, IsNumbered, IsStoredAs, SaysNode, SaysPart, SayParts, AreNumbersOf, named_at, names_read, numbers_below, AreBelow, IsReached, AllSay, AreTold, BuildsNode, IsBegun, IsDone, IsOver, reached_text, instance_at, instance_view, name_at, names_at, part_view}
 use Rattle.kt_rules.specs.declared.entry.RecipeLine.{RecipeLine}
 use Rattle.kt_graph.specs.declared.nodes.reached_name.ReachedName.{ReachedName}
 use Rattle.kt_graph.specs.nodes.Node.{Instance}
@@ -11,7 +11,7 @@ use Rattle.kt_rules.proofs.FindLemmas.{names_grow}
 use Rattle.kt_list.proofs.OverLemmas.{slice_get-left}
 
 -- what was reached is needed by goals
-pub record IsUnderWay (rules : List Rule) (known goals names : List Text) (nodes : List StoredNode) : Type 0 where
+pub record IsUnderWay (rules : List Entry) (known goals names : List Text) (nodes : List StoredNode) : Type 0 where
   pub reached : All (IsReached rules known goals) names
   pub named : All (Contains names) goals
   pub within : length nodes ≤ length names
@@ -60,7 +60,7 @@ node_kept names needed instances new expected node kept h = record {
 -- ---- the work
 
 -- goals are reached, and nothing else is done
-pub begun : (rules : List Rule) (known goals names : List Text) (nodes : List StoredNode) → names ≡ fold with_name [] goals → nodes ≡ []
+pub begun : (rules : List Entry) (known goals names : List Text) (nodes : List StoredNode) → names ≡ fold with_name [] goals → nodes ≡ []
     → IsUnderWay rules known goals names nodes
 begun rules known goals names nodes reached none =
     subst (λ l. IsUnderWay rules known goals l nodes) (sym reached)
@@ -90,7 +90,7 @@ grown_same needed names k h =
     ap (λ l. slice_get l k) grown.1 ∙ place_same names grown.0 k h
 
 -- the next name gets its node
-one_more : (rules : List Rule) (known goals names : List Text) (nodes : List StoredNode) (name : Text) (node : StoredNode)
+one_more : (rules : List Entry) (known goals names : List Text) (nodes : List StoredNode) (name : Text) (node : StoredNode)
     → IsUnderWay rules known goals names nodes → slice_get names (length nodes) ≡ Some name
     → IsUnderWay rules known goals (fold with_name names (needed_by (node_of rules known name))) (nodes ++ node ∷ [])
 one_more rules known goals names nodes name node h at =
@@ -106,7 +106,7 @@ one_more rules known goals names nodes name node h at =
     }
 
 -- and each node is still that of its name
-told_more : (rules : List Rule) (known names : List Text) (instances new : List Held) (nodes : List StoredNode) (name : Text) (node : StoredNode)
+told_more : (rules : List Entry) (known names : List Text) (instances new : List Held) (nodes : List StoredNode) (name : Text) (node : StoredNode)
     → AllSay rules known names instances nodes → slice_get names (length nodes) ≡ Some name → take (length instances) new ≡ instances
     → SaysNode (fold with_name names (needed_by (node_of rules known name))) new (node_of rules known name) node
     → AllSay rules known (fold with_name names (needed_by (node_of rules known name))) new (nodes ++ node ∷ [])
@@ -218,12 +218,12 @@ says_told keys instances name expected node named h = record {
 one_named : (b : Bool) (one other : Node) (name : Text) → one.name ≡ name → other.name ≡ name → (if b then one else other).name ≡ name
 one_named b one other name h k = grind arith
 
-by_named : (rules : List Rule) (name : Text) (made : List (Rule × Target)) (used : Option (Rule × Target)) (found : Option (Candidate × Rule))
+by_named : (rules : List Entry) (name : Text) (made : List (Entry × Target)) (used : Option (Entry × Target)) (found : Option (Candidate × Entry))
     → (node_by rules name made used found).name ≡ name
 by_named rules name made used found = grind arith
 
 -- the node of a name has that name
-pub node_named : (rules : List Rule) (known : List Text) (name : Text) → (node_of rules known name).name ≡ name
+pub node_named : (rules : List Entry) (known : List Text) (name : Text) → (node_of rules known name).name ≡ name
 unfolding node_of
 node_named rules known name = one_named _ _ _ name refl (by_named rules name (explicit_rules rules name) _ _)
 
@@ -233,7 +233,7 @@ past (x ∷ xs) zero e = cc
 past (x ∷ xs) (suc k) e = omega (arith, past xs k e)
 
 -- nothing remains
-pub all_done : (rules : List Rule) (known goals names : List Text) (instances : List Held) (nodes : List StoredNode)
+pub all_done : (rules : List Entry) (known goals names : List Text) (instances : List Held) (nodes : List StoredNode)
     → AllSay rules known names instances nodes → IsUnderWay rules known goals names nodes → None ≡ slice_get names (length nodes)
     → IsDone rules known goals names instances nodes
 all_done rules known goals names instances nodes told h none =
@@ -249,6 +249,6 @@ all_done rules known goals names instances nodes told h none =
     }
 
 -- all numbers of each node are those of names and makings
-pub done_numbers : (rules : List Rule) (known goals names : List Text) (instances : List Held) (nodes : List StoredNode)
+pub done_numbers : (rules : List Entry) (known goals names : List Text) (instances : List Held) (nodes : List StoredNode)
     → IsDone rules known goals names instances nodes → All (HasNumbers (length names) (length instances)) nodes
 done_numbers rules known goals names instances nodes h = λ k d l. (h.stored k (get_or nodes k d) (slice_get-get_or nodes k d l)).numbers

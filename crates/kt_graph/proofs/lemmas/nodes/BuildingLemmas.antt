@@ -1,6 +1,6 @@
 -- The rule whose recipe is used, with those before and after it, and what rules need together.
 use Rattle.std.proofs.Common.{◌≡◌, ℕ, suc, zero, Bool, true, false, not, cond, ◌+◌, ◌-◌, ◌<◌, ◌≤◌, List, [], ◌∷◌, ◌++◌, length, map, filter, fold, take, drop, get_or, Option, Some, None, refl, sym, ap, ◌∙◌, arith, rules}
-use Rattle.kt_graph.proofs.Common.{before_last, after_last, last_or, suffix_len, append-nil, append_assoc, drop_at, get_or-append_right, get_or_at, length-append, length-take, length_push, map-append, take-append-drop, take_all, take_at, take_more, take_rest, flat_map-append, filter-append, fold-append, suffix_len_is, Needs, Target, Rule, needs_for, no_needs, with_name, all_needs, Text, has_recipe, joined_after, needed_by_parts, Part, joined_needs, needs_after, other_rules}
+use Rattle.kt_graph.proofs.Common.{before_last, after_last, last_or, suffix_len, append-nil, append_assoc, drop_at, get_or-append_right, get_or_at, length-append, length-take, length_push, map-append, take-append-drop, take_all, take_at, take_more, take_rest, flat_map-append, filter-append, fold-append, suffix_len_is, Needs, Target, Entry, needs_for, no_needs, with_name, all_needs, Text, has_recipe, joined_after, needed_by_parts, Part, joined_needs, needs_after, other_rules}
 use Rattle.kt_rules.specs.declared.book.target_rule.TargetRule.{TargetRule}
 
 -- ---- the last that passes
@@ -73,7 +73,7 @@ used_at p f all left x within some at passes none =
 abbrev needs_from : List Text → List Text → Needs
 needs_from prerequisites order_only = record { prerequisites = prerequisites; order_only = order_only }
 
-pub joined_told : (first : Needs) (earlier later : List (Rule × Target)) → joined_after first earlier later ≡ needs_after first (joined_needs (earlier ++ later))
+pub joined_told : (first : Needs) (earlier later : List (Entry × Target)) → joined_after first earlier later ≡ needs_after first (joined_needs (earlier ++ later))
 unfolding joined_needs
 joined_told first earlier later = grind (arith, flat_map-append)
 
@@ -82,22 +82,22 @@ pub joined_own : (first : Needs) → joined_after first [] [] ≡ first
 joined_own first = grind (arith, append-nil)
 
 -- without later ones
-pub joined_first : (first : Needs) (rules : List (Rule × Target)) → joined_after first rules [] ≡ needs_after first (joined_needs rules)
+pub joined_first : (first : Needs) (rules : List (Entry × Target)) → joined_after first rules [] ≡ needs_after first (joined_needs rules)
 joined_first first rules = joined_told first rules [] ∙ ap (λ l. needs_after first (joined_needs l)) (append-nil rules)
 
 -- without first ones, too
-pub joined_alone : (rules : List (Rule × Target)) → joined_after no_needs rules [] ≡ joined_needs rules
+pub joined_alone : (rules : List (Entry × Target)) → joined_after no_needs rules [] ≡ joined_needs rules
 joined_alone rules = joined_first no_needs rules
 
 -- the prerequisites of the rule whose recipe is used come first
-pub used_needs : (first : Needs) (used : Rule × Target) (rules earlier later : List (Rule × Target)) → first ≡ needs_for used.0 used.1
+pub used_needs : (first : Needs) (used : Entry × Target) (rules earlier later : List (Entry × Target)) → first ≡ needs_for used.0 used.1
     → before_last has_recipe rules ≡ earlier → after_last has_recipe rules ≡ later
     → joined_after first earlier later ≡ needs_after (needs_for used.0 used.1) (joined_needs (other_rules rules))
 used_needs first used rules earlier later is before after = grind (arith, joined_told)
 
 -- ---- the parts of a double-colon node
 
-pub one_more_part : {A : Type 0} (f : Rule × Target → A) (g : TargetRule → Rule × Target) (rules : List TargetRule) (i : ℕ) (rule : TargetRule) → i < length rules → rule ≡ get_or rules i rule
+pub one_more_part : {A : Type 0} (f : Entry × Target → A) (g : TargetRule → Entry × Target) (rules : List TargetRule) (i : ℕ) (rule : TargetRule) → i < length rules → rule ≡ get_or rules i rule
     → map f (map g (take (i + 1) rules)) ≡ map f (map g (take i rules)) ++ f (g rule) ∷ []
 one_more_part f g rules i rule h at =
     ap (λ (l : List TargetRule). map f (map g l)) (take_more rules i rule h)

@@ -1,6 +1,6 @@
 -- A graph of the nodes of all reached names.
 use Rattle.std.proofs.Common.{rules, ◌≡◌, ℕ, ◌<◌, Bool, true, ⊎_elim, List, [], ◌∷◌, ◌++◌, length, get_or, map, find, Option, None, Some, option_map, slice_get, refl, sym, ap, ◌∙◌, subst}
-use Rattle.kt_graph.proofs.Common.{Contains, cons_option, list_any, position, IsStrictlySortedBy, nat_cmp, slice_cmp, bytes_eq, cases_order, false≢true, map-append, All-contains, All-head, All-tail, get_or_from_slice_get, slice_get_within, bytes_eq-Decides, at_place, Text, Rule, Instance as Held, StoredNode, needed_numbers, AreDistinct, Node, all_inputs, inputs_of, node_of, AreBelow, HasInput, IsGraph, IsReached, Leads, instance_view, name_at, names_at, node_at, node_view, nodes_view, IsDone, NodeTable}
+use Rattle.kt_graph.proofs.Common.{Contains, cons_option, list_any, position, IsStrictlySortedBy, nat_cmp, slice_cmp, bytes_eq, cases_order, false≢true, map-append, All-contains, All-head, All-tail, get_or_from_slice_get, slice_get_within, bytes_eq-Decides, at_place, Text, Entry, Instance as Held, StoredNode, needed_numbers, AreDistinct, Node, all_inputs, inputs_of, node_of, AreBelow, HasInput, IsGraph, IsReached, Leads, instance_view, name_at, names_at, node_at, node_view, nodes_view, IsDone, NodeTable}
 use Rattle.std.proofs.lemmas.List.Quantifiers.{position-Some}
 use Rattle.kt_graph.specs.inner.nodes.Graph.{AreDifferent, IsWhole}
 use Rattle.kt_graph.proofs.lemmas.MemberLemmas.{Contains-from_map, Contains-map, Contains-slice_get, slice_get-Contains}
@@ -57,7 +57,7 @@ makings_apart same is instances apart one other first second e =
 -- ---- what the nodes are
 
 module _ (table : NodeTable) (order : List ℕ) (whole : IsWhole table order)
-    (rules : List Rule) (known goals : List Text) (done : IsDone rules known goals table.names table.instances table.nodes) where
+    (rules : List Entry) (known goals : List Text) (done : IsDone rules known goals table.names table.instances table.nodes) where
   is_told : (number : ℕ) (node : StoredNode) → slice_get table.nodes number ≡ Some node → node_view table.names table.instances number node ≡ node_of rules known (name_at table.names number)
   is_told number node at = (done.stored number node at).told number refl
 

@@ -1,6 +1,6 @@
 -- The groups of a graph are the names that one making makes.
 use Rattle.std.proofs.Common.{arith, rules, ◌≡◌, ◌↔◌, Bool, true, false, ◌||◌, ◌⊎◌, ⊎_elim, inl, inr, cond, List, [], ◌∷◌, map, filter, find, All, Option, None, Some, refl, sym, ap, ◌∙◌, subst}
-use Rattle.kt_graph.proofs.Common.{Contains, IsStrictlySortedBy, option_map_or, nat_cmp, Ordering, slice_cmp, bytes_eq, false≢true, or_cases, All-map, none-some, same_Some, bytes_eq-Decides, equal_when, Text, Rule, Node, is_leaf, node_of, AreOneMaking, IsGraph, IsInGroup, IsReached, beside, itself}
+use Rattle.kt_graph.proofs.Common.{Contains, IsStrictlySortedBy, option_map_or, nat_cmp, Ordering, slice_cmp, bytes_eq, false≢true, or_cases, All-map, none-some, same_Some, bytes_eq-Decides, equal_when, Text, Entry, Node, is_leaf, node_of, AreOneMaking, IsGraph, IsInGroup, IsReached, beside, itself}
 use Rattle.kt_graph.specs.nodes.Groups.{AreGroups, HasBoth, IsInOne, are_together, groups_among, is_leading, is_one_making, leader_name, made_nodes}
 use Rattle.kt_graph.specs.nodes.Node.{Instance}
 use Rattle.kt_graph.proofs.lemmas.nodes.GroupLemmas.{one_itself, one_same}
@@ -46,7 +46,7 @@ joined one middle other h more = grind arith
 as_test : (one other : Node) → AreOne one other → are_together one other ≡ true
 as_test one other h = grind (arith, itself_together, one_itself)
 
-module _ (rules : List Rule) (known goals : List Text) (nodes : List Node) (graph : IsGraph rules known goals nodes) where
+module _ (rules : List Entry) (known goals : List Text) (nodes : List Node) (graph : IsGraph rules known goals nodes) where
   same_node : (one other : Node) → Contains nodes one → Contains nodes other → one.name ≡ other.name → one ≡ other
   same_node one other first second same = sym (of_node rules known goals nodes graph one first) ∙ ap (node_of rules known) same ∙ of_node rules known goals nodes graph other second
 

@@ -1,6 +1,6 @@
 -- Numbers without repeats, and the inputs of parts.
 use Rattle.std.proofs.Common.{◌≡◌, ℕ, ◌<◌, ◌≤◌, not, get_or, List, [], ◌∷◌, ◌++◌, ap, append-nil, append_assoc, arith, fold, length, nat_eq, nat_lt, refl, sym, subst, ◌∙◌, false, true}
-use Rattle.kt_graph.proofs.Common.{AllByRecursion, IsDistinct, list_any, IsPermutation, eq-eqb, eqb-false, eqb-true, ltb-true, ne_eqb, true≢false, flat_map-map, IsPermutation-sym, IsDistinct-cons, IsDistinct-head, IsDistinct-tail, IsDistinct-IsPermutation, and_first, and_second, HeldPart, HasOwnInputs, differ, inputs_held, numbers_without, others_held, rise, rise_after, with_number, AreRowsOf, IsPartWithin, StoredPart, input_numbers, order_only_numbers, part_stored, parts_stored}
+use Rattle.kt_graph.proofs.Common.{AllByRecursion, IsDistinct, list_any, IsPermutation, eq-eqb, eqb-false, eqb-true, ltb-true, ne_eqb, true≢false, flat_map-map, IsPermutation-sym, IsDistinct-cons, IsDistinct-head, IsDistinct-tail, IsDistinct-IsPermutation, and_first, and_second, HeldPart, HasOwnInputs, differ, inputs_held, numbers_without, others_held, rise, rise_after, with_input_number, AreRowsOf, IsPartWithin, StoredPart, input_numbers, order_only_numbers, part_stored, parts_stored}
 
 -- ---- numbers that rise
 
@@ -48,16 +48,16 @@ isnt_among (first ∷ numbers) number later h =
     rw (is_last numbers number later first (IsDistinct-head nat_eq first (numbers ++ number ∷ later) h))
     (isnt_among numbers number later (IsDistinct-tail nat_eq first (numbers ++ number ∷ later) h))
 
-all_after : (front numbers : List ℕ) → IsDistinct nat_eq (front ++ numbers) → fold with_number front numbers ≡ front ++ numbers
+all_after : (front numbers : List ℕ) → IsDistinct nat_eq (front ++ numbers) → fold with_input_number front numbers ≡ front ++ numbers
 all_after front [] h = sym (append-nil front)
 all_after front (number ∷ numbers) h =
-    let new : with_number front number ≡ front ++ number ∷ [] = rw (isnt_among front number numbers h) refl in
+    let new : with_input_number front number ≡ front ++ number ∷ [] = rw (isnt_among front number numbers h) refl in
     let joined : (front ++ number ∷ []) ++ numbers ≡ front ++ number ∷ numbers = append_assoc front (number ∷ []) numbers in
-    ap (λ xs. fold with_number xs numbers) new
+    ap (λ xs. fold with_input_number xs numbers) new
     ∙ all_after (front ++ number ∷ []) numbers (subst (λ xs. IsDistinct nat_eq xs) (sym joined) h)
     ∙ joined
 
-pub all_stay : (numbers : List ℕ) → IsDistinct nat_eq numbers → fold with_number [] numbers ≡ numbers
+pub all_stay : (numbers : List ℕ) → IsDistinct nat_eq numbers → fold with_input_number [] numbers ≡ numbers
 all_stay numbers h = all_after [] numbers h
 
 -- ---- numbers that differ
@@ -74,10 +74,10 @@ differ_distinct (first ∷ numbers) h = grind (arith, IsDistinct-cons, nat_eq, a
 -- ---- the inputs of parts
 
 pub inputs_same : (rows : List (List ℕ)) (parts : List HeldPart) → inputs_held rows parts ≡ input_numbers (parts_stored rows parts)
-inputs_same rows parts = ap (fold with_number []) (sym (flat_map-map (λ (part : StoredPart). part.prerequisites) (part_stored rows) parts))
+inputs_same rows parts = ap (fold with_input_number []) (sym (flat_map-map (λ (part : StoredPart). part.prerequisites) (part_stored rows) parts))
 
 pub order_only_same : (rows : List (List ℕ)) (parts : List HeldPart)
-    → fold with_number [] (numbers_without (inputs_held rows parts) (others_held rows parts)) ≡ order_only_numbers (parts_stored rows parts)
+    → fold with_input_number [] (numbers_without (inputs_held rows parts) (others_held rows parts)) ≡ order_only_numbers (parts_stored rows parts)
 order_only_same rows parts = grind (arith, inputs_same, flat_map-map)
 
 pub one_alone : {A : Type 0} (xs : List A) (x : A) → 1 ≤ length xs → length xs < 2 → x ≡ get_or xs 0 x → xs ≡ x ∷ []

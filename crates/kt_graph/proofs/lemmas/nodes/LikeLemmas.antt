@@ -1,9 +1,9 @@
 -- The node of a target that needs what the one before does.
 use Rattle.std.proofs.Common.{rules, ◌≡◌, ℕ, zero, suc, Bool, true, false, ◌||◌, ◌-◌, List, [], ◌∷◌, ◌++◌, length, map, fold, take, Option, Some, slice_get, nat_eq, refl, sym, ap, subst, ◌∙◌, arith}
-use Rattle.kt_graph.proofs.Common.{list_any, pointwise, append-nil, fold-append, none-some, same_Some, bytes_eq-Decides, head_is, Needs, Target, explicit_rules, has_recipe, is_double, rule_needs, Rule, needs_for, is_among, with_name, all_needs, suffixes_of, Text, GraphBuilder, Explicit, AreTold, BuildsNode, IsLeafOf, IsLikeLast, LastNeeds, sole_node, part_with, IsMaking, SayParts, SaysNeeds, SaysNode, SaysPart, AreNumbersOf, HasOnePart, StoredNode, StoredPart, node_like, part_like, stored_at, Node, Part, group_of, joined_needs, needs_after, node_of, node_with, other_rules, own_part, part_of}
+use Rattle.kt_graph.proofs.Common.{list_any, pointwise, append-nil, fold-append, none-some, same_Some, bytes_eq-Decides, head_is, Needs, Target, explicit_rules, has_recipe, is_double, rule_needs, Entry, needs_for, is_among, with_name, all_needs, suffixes_of, Text, GraphBuilder, Explicit, AreTold, BuildsNode, IsLeafOf, IsLikeLast, HasLastNeeds, sole_node, part_with, IsMaking, SayParts, SaysNeeds, SaysNode, SaysPart, AreNumbersOf, HasOnePart, StoredNode, StoredPart, node_like, part_like, stored_at, Node, Part, group_of, joined_needs, needs_after, node_of, node_with, other_rules, own_part, part_of}
 use Rattle.std.proofs.Math.Bool.{or-true}
 use Rattle.kt_rules.specs.declared.entry.Kind.{Kind}
-use Rattle.kt_graph.specs.declared.nodes.part.Part.{Part as NewPart}
+use Rattle.kt_graph.specs.declared.nodes.part.PartRecipe.{PartRecipe}
 use Rattle.kt_graph.specs.nodes.Node.{Instance}
 use Rattle.kt_graph.proofs.lemmas.nodes.BuildingLemmas.{joined_first, joined_own, last_cut}
 use Rattle.kt_graph.proofs.lemmas.nodes.StepLemmas.{leaf_kept, node_is, single_with}
@@ -31,23 +31,23 @@ needs_reached names needs first second h = grind (arith, append-nil, fold-append
 
 -- ---- one rule with a recipe
 
-abbrev node_given : List Text → Text → Rule × Target → Needs → Node
+abbrev node_given : List Text → Text → Entry × Target → Needs → Node
 node_given suffixes name made needs =
     record { name = name; kind = Explicit; parts = part_of suffixes made needs ∷ []; made_with = group_of made.0 }
 
-pub sole_is : (rules : List Rule) (known : List Text) (name : Text) (made : Rule × Target) → has_recipe made ≡ true → is_double made.0.kind ≡ false
+pub sole_is : (rules : List Entry) (known : List Text) (name : Text) (made : Entry × Target) → has_recipe made ≡ true → is_double made.0.kind ≡ false
     → node_with rules known name (made ∷ []) ≡ sole_node (suffixes_of rules) name made
 sole_is rules known name made recipe single =
     let cut = last_cut has_recipe [] made [] recipe refl in
-    let none : list_any (λ (rule : Rule × Target). is_double rule.0.kind) (made ∷ []) ≡ false = rw single refl in
+    let none : list_any (λ (rule : Entry × Target). is_double rule.0.kind) (made ∷ []) ≡ false = rw single refl in
     let own = needs_for made.0 made.1 in
     let others : other_rules (made ∷ []) ≡ [] = rw (cut.1, cut.2) refl in
     sym (single_with rules known name (made ∷ []) (Some made) none cut.0)
-    ∙ ap (λ (rs : List (Rule × Target)). node_given (suffixes_of rules) name made (needs_after own (joined_needs rs))) others
+    ∙ ap (λ (rs : List (Entry × Target)). node_given (suffixes_of rules) name made (needs_after own (joined_needs rs))) others
     ∙ ap (node_given (suffixes_of rules) name made) (sym (joined_first own []) ∙ joined_own own)
 
-one_alike : (made : Rule × Target) (others : List (Rule × Target)) → map rule_needs (made ∷ []) ≡ map rule_needs others
-    → (other : Rule × Target) × (others ≡ other ∷ []) × (rule_needs made ≡ rule_needs other)
+one_alike : (made : Entry × Target) (others : List (Entry × Target)) → map rule_needs (made ∷ []) ≡ map rule_needs others
+    → (other : Entry × Target) × (others ≡ other ∷ []) × (rule_needs made ≡ rule_needs other)
 one_alike made [] e = cc
 one_alike made (other ∷ []) e = (other, refl, head_is (rule_needs made) (rule_needs other) [] [] e)
 one_alike made (other ∷ more ∷ rest) e = cc
@@ -57,8 +57,8 @@ one_part : (names : List Text) (name : Text) (expected : Part) (parts : List Sto
 one_part names name expected parts h = grind arith
 
 -- what the last node needs, the next one does
-pub last_needs : (builder : GraphBuilder) (name : Text) (made : Rule × Target) → AreTold builder → IsLikeLast builder name made
-    → made ∷ [] ≡ explicit_rules builder.book.now name → LastNeeds builder (needs_for made.0 made.1)
+pub last_needs : (builder : GraphBuilder) (name : Text) (made : Entry × Target) → AreTold builder → IsLikeLast builder name made
+    → made ∷ [] ≡ explicit_rules builder.book.now name → HasLastNeeds builder (needs_for made.0 made.1)
 last_needs builder name made told like rules =
     let book = builder.book.now in
     let known = builder.known.now in
@@ -88,15 +88,15 @@ last_needs builder name made told like rules =
     }
 
 -- so it has one part, also where other things were added
-pub last_alone : (old : GraphBuilder) (nodes : List StoredNode) (needs : Needs) → nodes ≡ old.nodes → LastNeeds old needs
+pub last_alone : (old : GraphBuilder) (nodes : List StoredNode) (needs : Needs) → nodes ≡ old.nodes → HasLastNeeds old needs
     → HasOnePart nodes (length old.nodes - 1)
 last_alone old nodes needs same last = rw (same, last.there, last.alone) refl
 
 -- it is stored as the last one
-pub holds_like : (old middle : GraphBuilder) (nodes : List StoredNode) (suffixes : List Text) (name : Text) (made : Rule × Target) (part : NewPart) (making : Option Instance)
+pub holds_like : (old middle : GraphBuilder) (nodes : List StoredNode) (suffixes : List Text) (name : Text) (made : Entry × Target) (part : PartRecipe) (making : Option Instance)
     (made_with : Option ℕ) → middle ≡ record old { instances = middle.instances } → take (length old.instances.keys) middle.instances.keys ≡ old.instances.keys
     → IsMaking middle.instances.keys making made_with → making ≡ group_of made.0
-    → ((needs : Needs) → part_with name part needs ≡ part_of suffixes made needs) → LastNeeds old (needs_for made.0 made.1)
+    → ((needs : Needs) → part_with name part needs ≡ part_of suffixes made needs) → HasLastNeeds old (needs_for made.0 made.1)
     → nodes ≡ middle.nodes ++ node_like Explicit made_with part (stored_at middle.nodes (length old.nodes - 1)) ∷ []
     → BuildsNode old (sole_node suffixes name made) (record middle { nodes = nodes })
 holds_like old middle nodes suffixes name made part making made_with others kept is made_is part_is needs pushed =

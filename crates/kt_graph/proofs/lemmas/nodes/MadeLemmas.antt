@@ -1,6 +1,6 @@
 -- What implicit nodes need: it is known, or a rule makes it.
 use Rattle.std.proofs.Common.{rules, ◌≡◌, ℕ, suc, ◌+◌, ◌<◌, Bool, true, false, not, ◌&&◌, ◌||◌, if◌then◌else◌, List, [], ◌∷◌, ◌++◌, length, filter, map, Option, Some, None, is_some, refl, sym, ap, ◌∙◌, subst, true≢false, ◌⊎◌, inl, inr, ⊎_elim, arith, bytes_eq, fold, nat_le, option_map}
-use Rattle.kt_graph.proofs.Common.{option_and_then, option_or, option_to_list, Contains, filter_map, find, flat_map, list_all, list_any, same_text, and_from, and_parts, not_from_false, Contains-append_cases, Contains-append_left, Contains-append_right, none-some, same_Some, first_or_rest, from_flat_map, in_first, in_flat_map, in_rest, none_in_empty, at_place, Text, Target, is_among, without_repeats, Rule, needs_for, all_needs, is_suffix_rule, suffixes_of, explicit_rules, is_double, is_explicit, is_made, is_phony, patterns_of, rules_of, target_rules, Implicit, Candidate, are_short, candidate_by, candidate_of, candidates_for, matching_from, shorter, shortest, size_of, unless_long, without_any, known_names, listed_names, named_by, named_with, choice_of, fitting, is_begun, is_inferred, is_met, is_used, open_candidates, unknown_needs, with_rule, Node, all_inputs, chosen_rule, double_node, implicit_node, inputs_of, is_leaf, joined_needs, node_by, node_of, order_only_of, searched, used_rule, HasMadeInputs, IsGraph}
+use Rattle.kt_graph.proofs.Common.{option_and_then, option_or, option_to_list, Contains, filter_map, find, flat_map, list_all, list_any, same_text, and_from, and_parts, not_from_false, Contains-append_cases, Contains-append_left, Contains-append_right, none-some, same_Some, first_or_rest, from_flat_map, in_first, in_flat_map, in_rest, none_in_empty, at_place, Text, Target, is_among, without_repeats, Entry, needs_for, all_needs, is_suffix_rule, suffixes_of, explicit_rules, is_double, is_explicit, is_made, is_phony, patterns_of, rules_of, target_rules, Implicit, Candidate, are_short, candidate_by, candidate_of, candidates_for, matching_from, shorter, shortest, size_of, unless_long, without_any, known_names, listed_names, named_by, named_with, choice_of, fitting, is_begun, is_inferred, is_met, is_used, open_candidates, unknown_needs, with_rule, Node, all_inputs, chosen_rule, double_node, implicit_node, inputs_of, is_leaf, joined_needs, node_by, node_of, order_only_of, searched, used_rule, HasMadeInputs, IsGraph}
 use Rattle.kt_graph.proofs.lemmas.search.GrowthLemmas.{from_by_size, tree_grows}
 use Rattle.kt_graph.proofs.lemmas.Membership.{any_passes, each_passes, kept_by_filter}
 use Rattle.kt_graph.proofs.lemmas.search.TreeLemmas.{found_as_trees}
@@ -32,10 +32,10 @@ module _ (number : ℕ) where
       ap (λ (c : Candidate). c.rule) (sym (same_Some (fold shorter candidate candidates) one e))
       ∙ shorter_rule candidate candidates (h candidate (in_first candidate candidates)) (λ other c. h other (in_rest candidate other candidates c))
 
-  by_rule : (rule : Rule) (name : Text) (target : Target) (one : Candidate) → candidate_by number rule name target ≡ Some one → one.rule ≡ number
+  by_rule : (rule : Entry) (name : Text) (target : Target) (one : Candidate) → candidate_by number rule name target ≡ Some one → one.rule ≡ number
   by_rule rule name target one e = grind (arith, none-some)
 
-  candidate_rule : (rule : Rule) (name : Text) (one : Candidate) → candidate_of number rule name ≡ Some one → one.rule ≡ number
+  candidate_rule : (rule : Entry) (name : Text) (one : Candidate) → candidate_of number rule name ≡ Some one → one.rule ≡ number
   unfolding candidate_of
   candidate_rule rule name one e = by (shortest (filter_map (candidate_by number rule name) rule.targets)) refl e
     where
@@ -53,7 +53,7 @@ module _ (number : ℕ) where
 pub in_option : {X : Type 0} (o : Option X) (x : X) → Contains (option_to_list o) x → o ≡ Some x
 in_option o x c = grind (arith, none_in_empty, ⊎_elim, first_or_rest)
 
-matching_rule : (number : ℕ) (rules : List Rule) (name : Text) (one : Candidate) → Contains (matching_from number rules name) one → one.rule < number + length rules
+matching_rule : (number : ℕ) (rules : List Entry) (name : Text) (one : Candidate) → Contains (matching_from number rules name) one → one.rule < number + length rules
 unfolding matching_from
 matching_rule number [] name one c = absurd (none_in_empty one c)
 matching_rule number (rule ∷ rules) name one c =
@@ -69,14 +69,14 @@ from_without_any in_chain candidates one c = by (in_chain || list_any (λ candid
     by false c = c
 
 -- a candidate is one of a rule
-pub has_rule : (rules : List Rule) (in_chain : Bool) (name : Text) (one : Candidate) → Contains (candidates_for rules in_chain name) one → one.rule < length rules
+pub has_rule : (rules : List Entry) (in_chain : Bool) (name : Text) (one : Candidate) → Contains (candidates_for rules in_chain name) one → one.rule < length rules
 unfolding candidates_for
 has_rule rules in_chain name one c =
     omega (arith, matching_rule 0 rules name one (from_without_any in_chain (matching_from 0 rules name) one (from_by_size name (without_any in_chain (matching_from 0 rules name)) one c)))
 
 -- ---- what is chosen
 
-module _ (rules : List Rule) (known : List Text) where
+module _ (rules : List Entry) (known : List Text) where
   -- it is an open candidate that is met or inferred
   pub chosen_is : (left : ℕ) (used : List ℕ) (name : Text) (one : Candidate) → fitting rules known (suc left) used name ≡ Some one
       → Contains (candidates_for rules (is_begun used) name) one × ((is_met known one ≡ true) ⊎ (is_inferred known (fitting rules known left) used one ≡ true))
@@ -109,28 +109,28 @@ module _ (rules : List Rule) (known : List Text) where
 
 -- ---- nodes
 
-module _ (rules : List Rule) (known : List Text) (name : Text) where
-  abbrev pub made : List (Rule × Target)
+module _ (rules : List Entry) (known : List Text) (name : Text) where
+  abbrev pub made : List (Entry × Target)
   made = explicit_rules rules name
 
-  pub searched_choice : (found : Candidate × Rule) → searched rules known name ≡ Some found → choice_of (patterns_of rules) known name ≡ Some found.0
+  pub searched_choice : (found : Candidate × Entry) → searched rules known name ≡ Some found → choice_of (patterns_of rules) known name ≡ Some found.0
   searched_choice found e = grind (arith, none-some)
 
   -- an implicit node is that of a candidate that is chosen
   pub record IsChosen (node : Node) : Type 0 where
     pub chosen : Candidate
-    pub rule : Rule
+    pub rule : Entry
     pub is : choice_of (patterns_of rules) known name ≡ Some chosen
     pub whole : node ≡ implicit_node name made chosen rule
 
-  implicit_by : (u : Option (Rule × Target)) (s : Option (Candidate × Rule)) → searched rules known name ≡ s → (node_by rules name made u s).kind ≡ Implicit → IsChosen (node_by rules name made u s)
+  implicit_by : (u : Option (Entry × Target)) (s : Option (Candidate × Entry)) → searched rules known name ≡ s → (node_by rules name made u s).kind ≡ Implicit → IsChosen (node_by rules name made u s)
   implicit_by u s f e = grind (arith, searched_choice)
 
   pub implicit_is : (node_of rules known name).kind ≡ Implicit → IsChosen (node_of rules known name)
   unfolding node_of
   implicit_is e = grind (arith, implicit_by)
 
-  name_by : (u : Option (Rule × Target)) (s : Option (Candidate × Rule)) → (node_by rules name made u s).name ≡ name
+  name_by : (u : Option (Entry × Target)) (s : Option (Candidate × Entry)) → (node_by rules name made u s).name ≡ name
   name_by u s = grind arith
 
   -- a node has its name
@@ -138,7 +138,7 @@ module _ (rules : List Rule) (known : List Text) (name : Text) where
   unfolding node_of
   node_name = grind (arith, name_by)
 
-  not_leaf_by : (u : Option (Rule × Target)) (s : Option (Candidate × Rule)) → (s ≡ None → is_phony rules name ≡ true) → is_leaf (node_by rules name made u s).kind ≡ false
+  not_leaf_by : (u : Option (Entry × Target)) (s : Option (Candidate × Entry)) → (s ≡ None → is_phony rules name ≡ true) → is_leaf (node_by rules name made u s).kind ≡ false
   not_leaf_by u s h = grind (arith, true≢false)
 
   -- if the search finds a rule, or a name is phony, its node is no leaf
@@ -165,31 +165,31 @@ module _ (rules : List Rule) (known : List Text) (name : Text) where
 
 -- ---- the inputs of an implicit node
 
-joined_from : (made : List (Rule × Target)) (input : Text) → Contains (joined_needs made).prerequisites input ⊎ Contains (joined_needs made).order_only input
-    → (one : Rule × Target) × Contains made one × Contains (all_needs (needs_for one.0 one.1)) input
+joined_from : (made : List (Entry × Target)) (input : Text) → Contains (joined_needs made).prerequisites input ⊎ Contains (joined_needs made).order_only input
+    → (one : Entry × Target) × Contains made one × Contains (all_needs (needs_for one.0 one.1)) input
 unfolding joined_needs
 joined_from made input (inl c) =
-    let found = from_flat_map (λ (one : Rule × Target). (needs_for one.0 one.1).prerequisites) made input c in
+    let found = from_flat_map (λ (one : Entry × Target). (needs_for one.0 one.1).prerequisites) made input c in
     (found.0, found.1, Contains-append_left (needs_for found.0.0 found.0.1).prerequisites (needs_for found.0.0 found.0.1).order_only input found.2)
 joined_from made input (inr c) =
-    let found = from_flat_map (λ (one : Rule × Target). (needs_for one.0 one.1).order_only) made input c in
+    let found = from_flat_map (λ (one : Entry × Target). (needs_for one.0 one.1).order_only) made input c in
     (found.0, found.1, Contains-append_right (needs_for found.0.0 found.0.1).prerequisites (needs_for found.0.0 found.0.1).order_only input found.2)
 
 -- it is a prerequisite of the chosen rule, or of an explicit rule
-from_inputs : (name : Text) (made : List (Rule × Target)) (chosen : Candidate) (rule : Rule) (input : Text) → Contains (all_inputs (implicit_node name made chosen rule)) input
-    → Contains (all_needs chosen.needs) input ⊎ ((one : Rule × Target) × Contains made one × Contains (all_needs (needs_for one.0 one.1)) input)
+from_inputs : (name : Text) (made : List (Entry × Target)) (chosen : Candidate) (rule : Entry) (input : Text) → Contains (all_inputs (implicit_node name made chosen rule)) input
+    → Contains (all_needs chosen.needs) input ⊎ ((one : Entry × Target) × Contains made one × Contains (all_needs (needs_for one.0 one.1)) input)
 unfolding inputs_of order_only_of
 from_inputs name made chosen rule input c = by (Contains-append_cases (inputs_of (implicit_node name made chosen rule)) (order_only_of (implicit_node name made chosen rule)) input c)
   where
     joined : Contains (joined_needs made).prerequisites input ⊎ Contains (joined_needs made).order_only input
-        → Contains (all_needs chosen.needs) input ⊎ ((one : Rule × Target) × Contains made one × Contains (all_needs (needs_for one.0 one.1)) input)
+        → Contains (all_needs chosen.needs) input ⊎ ((one : Entry × Target) × Contains made one × Contains (all_needs (needs_for one.0 one.1)) input)
     joined h = inr (joined_from made input h)
 
     empty : (xs : List Text) → Contains (xs ++ []) input → Contains xs input
     empty xs c = ⊎_elim (λ h. h) (λ none. absurd (none_in_empty input none)) (Contains-append_cases xs [] input c)
 
     by : Contains (inputs_of (implicit_node name made chosen rule)) input ⊎ Contains (order_only_of (implicit_node name made chosen rule)) input
-        → Contains (all_needs chosen.needs) input ⊎ ((one : Rule × Target) × Contains made one × Contains (all_needs (needs_for one.0 one.1)) input)
+        → Contains (all_needs chosen.needs) input ⊎ ((one : Entry × Target) × Contains made one × Contains (all_needs (needs_for one.0 one.1)) input)
     by (inl c) =
         ⊎_elim (λ own. inl (Contains-append_left chosen.needs.prerequisites chosen.needs.order_only input own)) (λ other. joined (inl other))
         (Contains-append_cases chosen.needs.prerequisites (joined_needs made).prerequisites input
@@ -201,25 +201,25 @@ from_inputs name made chosen rule input c = by (Contains-append_cases (inputs_of
         (kept_by_filter (λ one. not (is_among (inputs_of (implicit_node name made chosen rule)) one)) (without_repeats ((chosen.needs.order_only ++ (joined_needs made).order_only) ++ [])) input c).0)))
 
 -- the prerequisites of explicit rules are known
-needed_known : (rules : List Rule) (files name : Text) (one : Rule × Target) (input : Text) → Contains (explicit_rules rules name) one
+needed_known : (rules : List Entry) (files name : Text) (one : Entry × Target) (input : Text) → Contains (explicit_rules rules name) one
     → Contains (all_needs (needs_for one.0 one.1)) input → is_among (known_names rules files) input ≡ true
 unfolding explicit_rules rules_of known_names
 needed_known rules files name one input c needed =
     let suffixes = suffixes_of rules in
     let plain = kept_by_filter (λ made. not (is_suffix_rule suffixes name made)) (rules_of rules name) one c in
-    let named = kept_by_filter (λ (made : Rule × Target). bytes_eq name made.1.name) (flat_map target_rules rules) one plain.0 in
+    let named = kept_by_filter (λ (made : Entry × Target). bytes_eq name made.1.name) (flat_map target_rules rules) one plain.0 in
     let from = from_flat_map target_rules rules one named.0 in
     let target = Contains-from_map (λ t. (from.0, t)) (filter (is_made from.0) from.0.targets) one from.2 in
     let kept = kept_by_filter (is_made from.0) from.0.targets target.0 target.1 in
     let same : name ≡ one.1.name = same_text name one.1.name (sym named.1) in
     let explicit : is_explicit suffixes one ≡ true
-    = and_from (is_made one.0 one.1) (not (is_suffix_rule suffixes one.1.name one)) (subst (λ (made : Rule × Target). is_made made.0 made.1 ≡ true) target.2 kept.1)
+    = and_from (is_made one.0 one.1) (not (is_suffix_rule suffixes one.1.name one)) (subst (λ (made : Entry × Target). is_made made.0 made.1 ≡ true) target.2 kept.1)
     (subst (λ n. not (is_suffix_rule suffixes n one) ≡ true) same plain.1) in
     let by_target : Contains (named_with suffixes one.0 one.1) input
     = subst (λ b. Contains (if b then one.1.name ∷ all_needs (needs_for one.0 one.1) else []) input) (sym explicit) (in_rest one.1.name input (all_needs (needs_for one.0 one.1)) needed) in
     let by_targets : Contains (flat_map (named_with suffixes from.0) from.0.targets) input
     = in_flat_map (named_with suffixes from.0) from.0.targets target.0 input kept.0
-    (subst (λ (made : Rule × Target). Contains (named_with suffixes made.0 made.1) input) (sym target.2) by_target) in
+    (subst (λ (made : Entry × Target). Contains (named_with suffixes made.0 made.1) input) (sym target.2) by_target) in
     let by_rules : Contains (flat_map (named_by suffixes) rules) input
     = in_flat_map (named_by suffixes) rules from.0 input from.1 (Contains-append_left (flat_map (named_with suffixes from.0) from.0.targets) _ input by_targets) in
     among_from (known_names rules files) input
@@ -228,7 +228,7 @@ needed_known rules files name one input c needed =
 -- ---- the graph
 
 -- what an implicit node needs is known, or a rule makes it, if the names that the rules mention are known
-pub made_inputs : (rules : List Rule) (known goals : List Text) (nodes : List Node) (files : Text) → IsGraph rules known goals nodes → known ≡ known_names rules files → HasMadeInputs known nodes
+pub made_inputs : (rules : List Entry) (known goals : List Text) (nodes : List Node) (files : Text) → IsGraph rules known goals nodes → known ≡ known_names rules files → HasMadeInputs known nodes
 made_inputs rules known goals nodes files graph all = λ node input c kind needed unknown.
     let names = map (λ (one : Node). one.name) nodes in
     let of_name = Contains-from_map (node_of rules known) names node (subst (λ ns. Contains ns node) graph.stored c) in

@@ -1,6 +1,6 @@
 -- Nodes of the definitions, and numbers for their names.
 use Rattle.std.proofs.Common.{arith, ◌≡◌, ℕ, suc, zero, ◌<◌, Bool, true, false, not, ◌||◌, cond, if◌then◌else◌, ⊎_elim, List, [], ◌∷◌, ◌++◌, length, get_or, map, filter, fold, nat_eq, All, refl, sym, ap, ◌∙◌, subst}
-use Rattle.kt_graph.proofs.Common.{flat_map, list_any, bytes_eq, cases_eq, eq-eqb, ne_eqb, eqb-true, false≢true, map-append, All-append, All-head, All-nil, All-push, All-tail, filter-append, bytes_eq-Decides, Text, is_among, with_name, without_repeats, Instance as Held, StoredPart, StoredNode, AreDistinct, Part, inputs_of, order_only_of, HasNumbers, IsNumbered, AreBelow, numbers_without, with_number, input_numbers, name_at, names_at, node_view, part_view, stored_at}
+use Rattle.kt_graph.proofs.Common.{flat_map, list_any, bytes_eq, cases_eq, eq-eqb, ne_eqb, eqb-true, false≢true, map-append, All-append, All-head, All-nil, All-push, All-tail, filter-append, bytes_eq-Decides, Text, is_among, with_name, without_repeats, Instance as Held, StoredPart, StoredNode, AreDistinct, Part, inputs_of, order_only_of, HasNumbers, IsNumbered, AreBelow, numbers_without, with_input_number, input_numbers, name_at, names_at, node_view, part_view, stored_at}
 
 -- ---- numbers of names
 
@@ -20,10 +20,10 @@ among_numbers names distinct (first ∷ numbers) number below all =
 
 -- a name is added to others if its number is
 with_one : (names : List Text) → AreDistinct names → (numbers : List ℕ) (number : ℕ) → number < length names → AreBelow (length names) numbers
-    → with_name (names_at names numbers) (name_at names number) ≡ names_at names (with_number numbers number)
+    → with_name (names_at names numbers) (name_at names number) ≡ names_at names (with_input_number numbers number)
 with_one names distinct numbers number below all = grind (arith, among_numbers, nat_eq, map-append)
 
-below_one : (count : ℕ) (numbers : List ℕ) (number : ℕ) → number < count → AreBelow count numbers → AreBelow count (with_number numbers number)
+below_one : (count : ℕ) (numbers : List ℕ) (number : ℕ) → number < count → AreBelow count numbers → AreBelow count (with_input_number numbers number)
 below_one count numbers number below all = by (list_any (nat_eq number) numbers)
   where
     by : (b : Bool) → AreBelow count (if b then numbers else numbers ++ number ∷ [])
@@ -31,18 +31,18 @@ below_one count numbers number below all = by (list_any (nat_eq number) numbers)
     by false = All-push (λ n. n < count) numbers number all below
 
 pub with_all : (names : List Text) → AreDistinct names → (more numbers : List ℕ) → AreBelow (length names) more → AreBelow (length names) numbers
-    → fold with_name (names_at names numbers) (names_at names more) ≡ names_at names (fold with_number numbers more)
+    → fold with_name (names_at names numbers) (names_at names more) ≡ names_at names (fold with_input_number numbers more)
 with_all names distinct [] numbers below all = refl
 with_all names distinct (number ∷ more) numbers below all =
     let first = All-head (λ n. n < length names) number more below in
     ap (λ (acc : List Text). fold with_name acc (names_at names more)) (with_one names distinct numbers number first all)
-    ∙ with_all names distinct more (with_number numbers number) (All-tail (λ n. n < length names) number more below)
+    ∙ with_all names distinct more (with_input_number numbers number) (All-tail (λ n. n < length names) number more below)
     (below_one (length names) numbers number first all)
 
-pub below_all : (count : ℕ) (more numbers : List ℕ) → AreBelow count more → AreBelow count numbers → AreBelow count (fold with_number numbers more)
+pub below_all : (count : ℕ) (more numbers : List ℕ) → AreBelow count more → AreBelow count numbers → AreBelow count (fold with_input_number numbers more)
 below_all count [] numbers below all = all
 below_all count (number ∷ more) numbers below all =
-    below_all count more (with_number numbers number) (All-tail (λ n. n < count) number more below)
+    below_all count more (with_input_number numbers number) (All-tail (λ n. n < count) number more below)
     (below_one count numbers number (All-head (λ n. n < count) number more below) all)
 
 -- ---- what passes a test
@@ -64,14 +64,14 @@ any_passing : (p : ℕ → Bool) (number : ℕ) → p number ≡ true → (numbe
 any_passing p number on [] = refl
 any_passing p number on (first ∷ numbers) = grind (arith, nat_eq, false≢true, eqb-true, cond, any_passing p number on numbers)
 
-pass_one : (p : ℕ → Bool) (numbers : List ℕ) (number : ℕ) → filter p (with_number numbers number)
-    ≡ fold with_number (filter p numbers) (filter p (number ∷ []))
+pass_one : (p : ℕ → Bool) (numbers : List ℕ) (number : ℕ) → filter p (with_input_number numbers number)
+    ≡ fold with_input_number (filter p numbers) (filter p (number ∷ []))
 pass_one p numbers number = by (p number) refl
   where
     more : (b : Bool) → p number ≡ b → filter p (numbers ++ number ∷ []) ≡ filter p numbers ++ cond b (number ∷ []) []
     more b e = filter-append p numbers (number ∷ []) ∙ ap (λ c. filter p numbers ++ cond c (number ∷ []) []) e
 
-    by : (b : Bool) → p number ≡ b → filter p (with_number numbers number) ≡ fold with_number (filter p numbers) (cond b (number ∷ []) [])
+    by : (b : Bool) → p number ≡ b → filter p (with_input_number numbers number) ≡ fold with_input_number (filter p numbers) (cond b (number ∷ []) [])
     by true e = yes' (list_any (nat_eq number) numbers) refl
       where
         yes' : (c : Bool) → list_any (nat_eq number) numbers ≡ c → filter p (if c then numbers else numbers ++ number ∷ [])
@@ -84,9 +84,9 @@ pass_one p numbers number = by (p number) refl
         no' true = refl
         no' false = more false e ∙ Rattle.std.proofs.lemmas.List.append-nil (filter p numbers)
 
-pass_all : (p : ℕ → Bool) (more numbers : List ℕ) → filter p (fold with_number numbers more) ≡ fold with_number (filter p numbers) (filter p more)
+pass_all : (p : ℕ → Bool) (more numbers : List ℕ) → filter p (fold with_input_number numbers more) ≡ fold with_input_number (filter p numbers) (filter p more)
 pass_all p [] numbers = refl
-pass_all p (number ∷ more) numbers = grind (arith, pass_one, cond, pass_all p more (with_number numbers number))
+pass_all p (number ∷ more) numbers = grind (arith, pass_one, cond, pass_all p more (with_input_number numbers number))
 
 -- ---- what a node needs
 
@@ -162,11 +162,11 @@ others_are names instances number node distinct numbers =
     let few : AreBelow (length names) inputs = subst (AreBelow (length names)) numbers.inputs (inputs_below (length names) (length instances) node numbers) in
     let told : inputs_of (node_view names instances number node) ≡ names_at names inputs =
     sym (inputs_are names instances number node distinct numbers) ∙ ap (names_at names) numbers.inputs in
-    let once : AreBelow (length names) (fold with_number [] (other_numbers parts)) = below_all (length names) (other_numbers parts) [] all (All-nil (λ n. n < length names)) in
-    let same : All (λ n. q (name_at names n) ≡ p n) (fold with_number [] (other_numbers parts)) =
-    λ k d within. ap not (ap (λ (ns : List Text). is_among ns (name_at names (get_or (fold with_number [] (other_numbers parts)) k d))) told
-    ∙ among_numbers names distinct inputs (get_or (fold with_number [] (other_numbers parts)) k d) (once k d within) few) in
+    let once : AreBelow (length names) (fold with_input_number [] (other_numbers parts)) = below_all (length names) (other_numbers parts) [] all (All-nil (λ n. n < length names)) in
+    let same : All (λ n. q (name_at names n) ≡ p n) (fold with_input_number [] (other_numbers parts)) =
+    λ k d within. ap not (ap (λ (ns : List Text). is_among ns (name_at names (get_or (fold with_input_number [] (other_numbers parts)) k d))) told
+    ∙ among_numbers names distinct inputs (get_or (fold with_input_number [] (other_numbers parts)) k d) (once k d within) few) in
     ap (names_at names) (numbers.order_only ∙ sym (pass_all p (other_numbers parts) []))
-    ∙ sym (names_pass names p q (fold with_number [] (other_numbers parts)) same)
+    ∙ sym (names_pass names p q (fold with_input_number [] (other_numbers parts)) same)
     ∙ ap (filter q) (sym (with_all names distinct (other_numbers parts) [] all (All-nil (λ n. n < length names)))
     ∙ ap (fold with_name []) (sym (other_told names (name_at names number) parts)))

@@ -1,6 +1,6 @@
 -- Names that are reached one after another, and what their nodes need.
 use Rattle.std.proofs.Common.{rules, ◌≡◌, Bool, true, false, not, cond, if◌then◌else◌, List, [], ◌∷◌, ◌++◌, filter, fold, Contains, All, refl, sym, ap, subst, arith}
-use Rattle.kt_graph.proofs.Common.{flat_map, All-nil, All-cons, All-head, All-tail, All-push, All-append, All-weaker, All-contains, Contains-append_left, Contains-append_right, Contains-push, Contains-get_or, Text, Rule, is_among, with_name, without_repeats, needed_by, Node, all_inputs, inputs_of, node_of, order_only_of, HasInput, IsReached, Leads}
+use Rattle.kt_graph.proofs.Common.{flat_map, All-nil, All-cons, All-head, All-tail, All-push, All-append, All-weaker, All-contains, Contains-append_left, Contains-append_right, Contains-push, Contains-get_or, Text, Entry, is_among, with_name, without_repeats, needed_by, Node, all_inputs, inputs_of, node_of, order_only_of, HasInput, IsReached, Leads}
 use Rattle.kt_graph.proofs.lemmas.search.UnknownLemmas.{from_among}
 use Rattle.kt_rules.proofs.FindLemmas.{names_grow}
 
@@ -88,7 +88,7 @@ leads_on Edge from [] middle to h e = (subst (λ x. Edge x to) (sym h) e, refl)
 leads_on Edge from (step ∷ steps) middle to h e = (h.0, leads_on Edge step steps middle to h.1 e)
 
 -- what a reached name needs is reached
-pub reached_on : (rules : List Rule) (known goals : List Text) (name input : Text) → IsReached rules known goals name
+pub reached_on : (rules : List Entry) (known goals : List Text) (name input : Text) → IsReached rules known goals name
     → Contains (all_inputs (node_of rules known name)) input → IsReached rules known goals input
 reached_on rules known goals name input h needed = record {
   goal = h.goal;
@@ -97,5 +97,5 @@ reached_on rules known goals name input h needed = record {
 }
 
 -- a goal is reached
-pub goal_reached : (rules : List Rule) (known goals : List Text) (goal : Text) → Contains goals goal → IsReached rules known goals goal
+pub goal_reached : (rules : List Entry) (known goals : List Text) (goal : Text) → Contains goals goal → IsReached rules known goals goal
 goal_reached rules known goals goal h = record { goal = goal; named = h; path = ([], refl) }

@@ -2,7 +2,7 @@
 use Rattle.std.proofs.Common.{◌≡◌, ℕ, zero, suc, ◌+◌, ◌<◌, ◌≤◌, Bool, true, false, nat_eq, cond, if◌then◌else◌, List, [], ◌∷◌, ◌++◌, length, replicate, get_or, Option, Some, None, option_map, is_some, slice_get, Result, Ok, Err, IfOk, OnErr, OnOk, refl, sym, ap, ◌∙◌, subst, arith, length-append}
 use Rattle.kt_graph.proofs.Common.{IsDistinct, position_from, option_or, unwrap_or, bytes_eq, eq-eqb, nat_list_eq_equiv, append_assoc, length-map, map-append, All-head, All-nil, All-push, All-tail, IsDistinct-push, slice_get-get_or, slice_get_within, IfOk-weaker, on_err_weaker, bytes_eq-Decides, AreBelow, is_among, place_of, with_name, number_found, Text, no_two, same_place, HasSame, IsPlaced, IsPushed, IsReachedAt, ReachesNumber, StaysPlaced, place_held, place_marked, HasMore, name_at, names_at}
 use Rattle.std.proofs.lemmas.Iterator.Adapters.{position_from-zero}
-use Rattle.kt_graph.specs.declared.nodes.reached.Reached.{Reached}
+use Rattle.kt_graph.specs.declared.nodes.reached.ReachedNumbers.{ReachedNumbers}
 use Rattle.kt_list.proofs.OverLemmas.{slice_get-left}
 
 -- ---- places of names
@@ -111,7 +111,7 @@ held_same old new same found = grind arith
 -- ---- a name is reached
 
 -- it was before
-pub reached_before : (names : List Text) (reached : Reached) (name : Text) (number place : ℕ) → Some place ≡ place_marked (get_or reached.marks.items number 0)
+pub reached_before : (names : List Text) (reached : ReachedNumbers) (name : Text) (number place : ℕ) → Some place ≡ place_marked (get_or reached.marks.items number 0)
     → IsPlaced names reached.numbers.items reached.marks.items → place_of names name ≡ Some number
     → IsReachedAt names reached.numbers.items name reached place
 reached_before names reached name number place marked is at =
@@ -125,7 +125,7 @@ reached_before names reached name number place marked is at =
     }
 
 -- it wasn't, and comes after the others
-module _ (names : List Text) (old new : Reached) (name : Text) (number place : ℕ) (unmarked : None ≡ place_marked (get_or old.marks.items number 0))
+module _ (names : List Text) (old new : ReachedNumbers) (name : Text) (number place : ℕ) (unmarked : None ≡ place_marked (get_or old.marks.items number 0))
     (pushed : IsPushed old number new place) (is : IsPlaced names old.numbers.items old.marks.items) (at : place_of names name ≡ Some number) where
   there : slice_get names number ≡ Some name
   there = number_found names name number at
@@ -185,7 +185,7 @@ in_both P (Ok x) done refused = done
 in_both P (Err e) done refused = refused
 
 -- a name that has a number among a table's and others is reached
-module _ {E : Type 0} (table others more view : List Text) (grown : HasMore others more) (old new : Reached) (name : Text) (number : ℕ) (result : Result ℕ E)
+module _ {E : Type 0} (table others more view : List Text) (grown : HasMore others more) (old new : ReachedNumbers) (name : Text) (number : ℕ) (result : Result ℕ E)
     (told : names_at (table ++ others) old.numbers.items ≡ view) (is : IsPlaced (table ++ others) old.numbers.items old.marks.items)
     (at : place_of (table ++ more) name ≡ Some number) (done : IfOk result (ReachesNumber old number new)) (refused : OnErr result (StaysPlaced old new)) where
   placed : IsPlaced (table ++ more) old.numbers.items old.marks.items

@@ -1,6 +1,6 @@
 -- Nodes that hold their inputs together have the same ones.
 use Rattle.std.proofs.Common.{◌≡◌, ℕ, ◌∷◌, List, length, Option, None, Some, option_map, slice_get, refl, sym, ap, subst, ◌∙◌}
-use Rattle.kt_graph.proofs.Common.{Contains, All-contains, none-some, same_Some, head_is, HasNumbers, AreAlike, StoredNode, stored_at, Node, inputs_of, order_only_of, names_at, node_at, node_view, nodes_view, NodeTable}
+use Rattle.kt_graph.proofs.Common.{Contains, All-contains, none-some, same_Some, head_is, HasNumbers, HaveOneMaking, StoredNode, stored_at, Node, inputs_of, order_only_of, names_at, node_at, node_view, nodes_view, NodeTable}
 use Rattle.kt_graph.specs.inner.nodes.Graph.{AreNodesHeld}
 use Rattle.kt_graph.specs.inner.nodes.Grouping.{AreAllAlike}
 use Rattle.kt_graph.specs.nodes.Groups.{FirstSharesInputs, ShareInputs}
@@ -18,9 +18,9 @@ module _ (table : NodeTable) (held : AreNodesHeld table)
   has_inputs : (node : Node) → Contains (nodes_view table numbers) node → HasInputs node
   has_inputs node has =
       let from = Contains-from_filter_map (node_at table) numbers node has in
-      by from.0 (All-contains (λ number. AreAlike (stored_at table.nodes one) (stored_at table.nodes number)) numbers from.0 alike from.1) (slice_get table.nodes from.0) refl from.2
+      by from.0 (All-contains (λ number. HaveOneMaking (stored_at table.nodes one) (stored_at table.nodes number)) numbers from.0 alike from.1) (slice_get table.nodes from.0) refl from.2
     where
-      told : (number : ℕ) (stored : StoredNode) → AreAlike (stored_at table.nodes one) (stored_at table.nodes number) → slice_get table.nodes number ≡ Some stored
+      told : (number : ℕ) (stored : StoredNode) → HaveOneMaking (stored_at table.nodes one) (stored_at table.nodes number) → slice_get table.nodes number ≡ Some stored
           → HasInputs (node_view table.names table.instances number stored)
       told number stored same at =
           let numbered = All-contains (HasNumbers (length table.names) (length table.instances)) table.nodes stored held.numbers (Contains-slice_get table.nodes number stored at) in
@@ -30,7 +30,7 @@ module _ (table : NodeTable) (held : AreNodesHeld table)
                 ∙ ap (names_at table.names) (sym same.order_only),
           )
 
-      by : (number : ℕ) → AreAlike (stored_at table.nodes one) (stored_at table.nodes number) → (o : Option StoredNode) → slice_get table.nodes number ≡ o
+      by : (number : ℕ) → HaveOneMaking (stored_at table.nodes one) (stored_at table.nodes number) → (o : Option StoredNode) → slice_get table.nodes number ≡ o
           → option_map (node_view table.names table.instances number) o ≡ Some node → HasInputs node
       by number same None at is = absurd (none-some node is)
       by number same (Some stored) at is =

@@ -3,8 +3,8 @@ use Rattle.std.proofs.Common.{◌≡◌, ℕ, zero, suc, not, ◌+◌, ◌-◌, 
 use Rattle.kt_graph.proofs.Common.{append-nil, append_assoc, drop-append-le, get_or_append_left, length-append, length-drop, length-map, map-append, take-append-le, All-contains, All-drop, All-head, All-push, All-tail, All-take, All-weaker, none-some, same_Some, slice_get-get_or, slice_get-map, option_to_list, NodeKind, HeldPart, AreRowsOf, AreStored, Grew, HasOnePart, IsHeadOf, IsHeadWithin, IsLike, IsPartWithin, IsSpanWithin, PutsParts, StoredNode, StoredPart, cut, input_numbers, node_like, node_stored, stored_with, nodes_stored, order_only_numbers, part_stored, parts_stored, some_if, stored_at, HasMore, is_leaf}
 use Rattle.std.proofs.Math.Seq.{drop-append_seam}
 use Rattle.kt_graph.specs.declared.nodes.part.Maker.{Maker}
-use Rattle.kt_graph.specs.declared.nodes.part.Part.{Part as NewPart}
-use Rattle.kt_graph.specs.declared.nodes.stored.Head.{Head}
+use Rattle.kt_graph.specs.declared.nodes.part.PartRecipe.{PartRecipe}
+use Rattle.kt_graph.specs.declared.nodes.stored.NodeHead.{NodeHead}
 use Rattle.kt_graph.specs.declared.nodes.stored.Span.{Span}
 use Rattle.kt_graph.specs.inner.nodes.Grouping.{is_made_at, making_at}
 use Rattle.kt_graph.proofs.lemmas.MemberLemmas.{Contains-slice_get}
@@ -43,7 +43,7 @@ all_cut P xs span h = All-take P (span.end - span.start) (drop span.start xs) (A
 
 -- ---- nodes
 
-head_longer : (parts more_parts : List HeldPart) (rows more : List (List ℕ)) (head : Head) → All (IsPartWithin (length rows)) parts
+head_longer : (parts more_parts : List HeldPart) (rows more : List (List ℕ)) (head : NodeHead) → All (IsPartWithin (length rows)) parts
     → IsHeadWithin (length parts) (length rows) head → node_stored (parts ++ more_parts) (rows ++ more) head ≡ node_stored parts rows head
 head_longer parts more_parts rows more head within h =
     let held : parts_stored (rows ++ more) (cut (parts ++ more_parts) head.parts) ≡ parts_stored rows (cut parts head.parts)
@@ -52,7 +52,7 @@ head_longer parts more_parts rows more head within h =
     let both = rows_longer rows more head.inputs h.inputs in
     rw (held, both.0, both.1) refl
 
-heads_longer : (parts more_parts : List HeldPart) (rows more : List (List ℕ)) (heads : List Head) → All (IsPartWithin (length rows)) parts
+heads_longer : (parts more_parts : List HeldPart) (rows more : List (List ℕ)) (heads : List NodeHead) → All (IsPartWithin (length rows)) parts
     → All (IsHeadWithin (length parts) (length rows)) heads → nodes_stored (parts ++ more_parts) (rows ++ more) heads ≡ nodes_stored parts rows heads
 heads_longer parts more_parts rows more [] within h = refl
 heads_longer parts more_parts rows more (head ∷ heads) within h =
@@ -60,15 +60,15 @@ heads_longer parts more_parts rows more (head ∷ heads) within h =
     ap (λ (n : StoredNode). n ∷ nodes_stored (parts ++ more_parts) (rows ++ more) heads) (head_longer parts more_parts rows more head within (All-head P head heads h))
     ∙ ap (λ (ns : List StoredNode). node_stored parts rows head ∷ ns) (heads_longer parts more_parts rows more heads within (All-tail P head heads h))
 
-head_within_more : (parts more_parts rows more : ℕ) (head : Head) → parts ≤ more_parts → rows ≤ more → IsHeadWithin parts rows head → IsHeadWithin more_parts more head
+head_within_more : (parts more_parts rows more : ℕ) (head : NodeHead) → parts ≤ more_parts → rows ≤ more → IsHeadWithin parts rows head → IsHeadWithin more_parts more head
 head_within_more parts more_parts rows more head up_parts up h = grind (arith, within_more)
 
 pub longer : {A : Type 0} (old new : List A) → HasMore old new → length old ≤ length new
 longer old new more = omega (arith, ap length more.1, length-append old more.0)
 
 -- the invariant, when lists grew and a head was added
-pub stored_push : (parts new_parts : List HeldPart) (rows new_rows : List (List ℕ)) (heads more : List Head)
-    (head : Head) → more ≡ heads ++ head ∷ [] → Grew parts rows new_parts new_rows → AreStored parts rows heads
+pub stored_push : (parts new_parts : List HeldPart) (rows new_rows : List (List ℕ)) (heads more : List NodeHead)
+    (head : NodeHead) → more ≡ heads ++ head ∷ [] → Grew parts rows new_parts new_rows → AreStored parts rows heads
     → IsHeadWithin (length new_parts) (length new_rows) head → AreStored new_parts new_rows more
 stored_push parts new_parts rows new_rows heads more head pushed grew h within =
     let Within = IsHeadWithin (length new_parts) (length new_rows) in
@@ -82,22 +82,22 @@ stored_push parts new_parts rows new_rows heads more head pushed grew h within =
     })
 
 -- what was stored is the same when lists grew
-pub nodes_same : (parts new_parts : List HeldPart) (rows new_rows : List (List ℕ)) (heads : List Head) → Grew parts rows new_parts new_rows
+pub nodes_same : (parts new_parts : List HeldPart) (rows new_rows : List (List ℕ)) (heads : List NodeHead) → Grew parts rows new_parts new_rows
     → AreStored parts rows heads → nodes_stored new_parts new_rows heads ≡ nodes_stored parts rows heads
 nodes_same parts new_parts rows new_rows heads grew h = grind (arith, heads_longer)
 
-pub nodes_push : (parts new_parts : List HeldPart) (rows new_rows : List (List ℕ)) (heads : List Head) (head : Head) (node : StoredNode) → Grew parts rows new_parts new_rows
+pub nodes_push : (parts new_parts : List HeldPart) (rows new_rows : List (List ℕ)) (heads : List NodeHead) (head : NodeHead) (node : StoredNode) → Grew parts rows new_parts new_rows
     → AreStored parts rows heads → node_stored new_parts new_rows head ≡ node
     → nodes_stored new_parts new_rows (heads ++ head ∷ []) ≡ nodes_stored parts rows heads ++ node ∷ []
 nodes_push parts new_parts rows new_rows heads head node grew h is = grind (arith, map-append, nodes_same)
 
-again_told : (parts : List HeldPart) (rows : List (List ℕ)) (heads : List Head) (number : ℕ) (found : Option Head) → slice_get heads number ≡ found
+again_told : (parts : List HeldPart) (rows : List (List ℕ)) (heads : List NodeHead) (number : ℕ) (found : Option NodeHead) → slice_get heads number ≡ found
     → nodes_stored parts rows heads ++ option_to_list (option_map (node_stored parts rows) found)
     ≡ nodes_stored parts rows heads ++ option_to_list (slice_get (nodes_stored parts rows heads) number)
 again_told parts rows heads number found at = grind (arith, slice_get-map)
 
 -- one more node like one that is there
-pub nodes_again : (parts : List HeldPart) (rows : List (List ℕ)) (heads : List Head) (number : ℕ) (found : Option Head) → slice_get heads number ≡ found
+pub nodes_again : (parts : List HeldPart) (rows : List (List ℕ)) (heads : List NodeHead) (number : ℕ) (found : Option NodeHead) → slice_get heads number ≡ found
     → nodes_stored parts rows (heads ++ option_to_list found) ≡ nodes_stored parts rows heads ++ option_to_list (slice_get (nodes_stored parts rows heads) number)
 nodes_again parts rows heads number None at =
     map-append (node_stored parts rows) heads [] ∙ again_told parts rows heads number None at
@@ -157,7 +157,7 @@ node_from kind parts made_with inputs order_only =
     record { kind = kind; parts = parts; made_with = made_with; inputs = inputs; order_only = order_only }
 
 -- the node whose parts begin at a place and are the last ones
-pub head_from : (parts : List HeldPart) (rows new : List (List ℕ)) (start : ℕ) (kind : NodeKind) (made_with : Option ℕ) (head : Head) → head.kind ≡ kind → some_if head.has_making head.making ≡ made_with
+pub head_from : (parts : List HeldPart) (rows new : List (List ℕ)) (start : ℕ) (kind : NodeKind) (made_with : Option ℕ) (head : NodeHead) → head.kind ≡ kind → some_if head.has_making head.making ≡ made_with
     → start ≤ length parts → head.parts.start ≡ start → head.parts.end ≡ length parts → All (IsPartWithin (length rows)) parts → HasMore rows new
     → AreRowsOf new (input_numbers (parts_stored rows (drop start parts))) (order_only_numbers (parts_stored rows (drop start parts))) head.inputs
     → IsHeadOf parts new (stored_with kind made_with (parts_stored rows (drop start parts))) head
@@ -184,21 +184,21 @@ stored_is (first ∷ nodes) zero node at = same_Some first node at
 stored_is (first ∷ nodes) (suc number) node at = stored_is nodes number node at
 
 -- a node that has one part is there, and its part is alone in its place
-pub one_there : (parts : List HeldPart) (rows : List (List ℕ)) (heads : List Head) (number : ℕ) → HasOnePart (nodes_stored parts rows heads) number
+pub one_there : (parts : List HeldPart) (rows : List (List ℕ)) (heads : List NodeHead) (number : ℕ) → HasOnePart (nodes_stored parts rows heads) number
     → number < length heads
 one_there parts rows [] number one = cc
 one_there parts rows (head ∷ heads) zero one = omega arith
 one_there parts rows (head ∷ heads) (suc number) one = omega (arith, one_there parts rows heads number one)
 
-pub one_cut : (parts : List HeldPart) (rows : List (List ℕ)) (heads : List Head) (number : ℕ) → HasOnePart (nodes_stored parts rows heads) number
-    → (head : Head) → slice_get heads number ≡ Some head → length (cut parts head.parts) ≡ 1
+pub one_cut : (parts : List HeldPart) (rows : List (List ℕ)) (heads : List NodeHead) (number : ℕ) → HasOnePart (nodes_stored parts rows heads) number
+    → (head : NodeHead) → slice_get heads number ≡ Some head → length (cut parts head.parts) ≡ 1
 one_cut parts rows heads number one head at =
     let is = stored_is (nodes_stored parts rows heads) number (node_stored parts rows head)
     (slice_get-map (node_stored parts rows) heads number ∙ ap (option_map (node_stored parts rows)) at) in
     sym (length-map (cut parts head.parts) (part_stored rows)) ∙ ap (λ (s : StoredNode). length s.parts) (sym is) ∙ one
 
 -- a node that needs what another does
-module _ (parts : List HeldPart) (rows : List (List ℕ)) (heads : List Head) (number : ℕ) (maker : Maker) (made : Head × ℕ) (part : NewPart) (held : HeldPart)
+module _ (parts : List HeldPart) (rows : List (List ℕ)) (heads : List NodeHead) (number : ℕ) (maker : Maker) (made : NodeHead × ℕ) (part : PartRecipe) (held : HeldPart)
     (new : List HeldPart) (stored : AreStored parts rows heads) (like : IsLike heads parts number maker made)
     (recipe : some_if held.has_recipe held.lines.now ≡ option_map (λ lines. lines.now) part.recipe) (stem : held.stem ≡ part.stem) (needs : held.needs ≡ made.1)
     (pushed : new ≡ parts ++ held ∷ []) where

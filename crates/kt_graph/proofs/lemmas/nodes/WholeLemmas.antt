@@ -1,6 +1,6 @@
 -- A graph's vertices and the names that they are.
 use Rattle.std.proofs.Common.{rules, ◌≡◌, ℕ, ◌+◌, ◌<◌, Bool, true, false, ◌⊎◌, ⊎_elim, inl, inr, List, [], ◌∷◌, length, get_or, map, filter_map, find, cond, Option, None, Some, IfSome, option_map, slice_get, refl, sym, ap, ◌∙◌, subst, arith}
-use Rattle.kt_graph.proofs.Common.{Contains, cons_option, bytes_eq, false≢true, bytes_eq-Decides, get_or-map, length-map, map-append, All-contains, All-head, All-tail, Contains-append_cases, none-some, same_Some, slice_get-get_or, slice_get_within, at_place, Text, Rule, Edges, Instance as Held, StoredNode, AreEdgesOf, AreMadeBelow, AreNeededBelow, HasNext, IsEdge, LeadsBack, LeadsOn, LeadsTo, needed_numbers, Node, all_inputs, node_of, HasNumbers, AreBelow, AreOneMaking, HasEdge, HasInput, IsCyclic, IsGraph, IsInGroup, IsReached, Leads, Reaches, itself, beside, instance_at, instance_view, name_at, names_at, node_at, node_view, nodes_view, first_or_rest, in_first, in_rest, NodeTable}
+use Rattle.kt_graph.proofs.Common.{Contains, cons_option, bytes_eq, false≢true, bytes_eq-Decides, get_or-map, length-map, map-append, All-contains, All-head, All-tail, Contains-append_cases, none-some, same_Some, slice_get-get_or, slice_get_within, at_place, Text, Entry, Edges, Instance as Held, StoredNode, AreEdgesOf, AreMadeBelow, AreNeededBelow, HasNext, IsEdge, LeadsBack, LeadsOn, LeadsTo, needed_numbers, Node, all_inputs, node_of, HasNumbers, AreBelow, AreOneMaking, HasEdge, HasInput, IsCyclic, IsGraph, IsInGroup, IsReached, Leads, Reaches, itself, beside, instance_at, instance_view, name_at, names_at, node_at, node_view, nodes_view, first_or_rest, in_first, in_rest, NodeTable}
 use Rattle.kt_graph.specs.nodes.Node.{Instance}
 use Rattle.kt_graph.specs.inner.nodes.Graph.{IsWhole}
 use Rattle.kt_graph.proofs.lemmas.faults.CircleLemmas.{Reaches-join, Reaches-none, Reaches-step, on_step, on_more}
@@ -72,7 +72,7 @@ instance_there instances making within =
     let at : (one : Held) × (slice_get instances making ≡ Some one) = at_place instances making within in
     (instance_view at.0, ap (option_map instance_view) at.1)
 
-pub group_cases : (rules : List Rule) (known goals : List Text) (name member : Text) → IsInGroup rules known goals name member
+pub group_cases : (rules : List Entry) (known goals : List Text) (name member : Text) → IsInGroup rules known goals name member
     → (name ≡ member) ⊎ (IsReached rules known goals member × AreOneMaking rules known name member)
 group_cases rules known goals name _ itself = inl refl
 group_cases rules known goals name _ (beside reached made) = inr (reached, made)
@@ -168,7 +168,7 @@ module _ (table : NodeTable) (order : List ℕ) (whole : IsWhole table order) wh
       by other of false e = e
       by other of true e = absurd (nowhere of.0 of.2 (ap (λ (one : Node). one.name) of.4 ∙ sym ((bytes_eq-Decides name other.name).0 e)))
 
-  module _ (rules : List Rule) (known goals : List Text) (graph : IsGraph rules known goals (nodes_view table order)) where
+  module _ (rules : List Entry) (known goals : List Text) (graph : IsGraph rules known goals (nodes_view table order)) where
     pub is_node : (number : ℕ) (node : StoredNode) → slice_get table.nodes number ≡ Some node → node_of rules known (name_at table.names number) ≡ node_view table.names table.instances number node
     is_node number node at =
         mapped_itself (node_of rules known) (λ (one : Node). one.name) (nodes_view table order) (node_view table.names table.instances number node)

@@ -1,6 +1,6 @@
 -- The number of rules in the chains of questions.
 use Rattle.std.proofs.Common.{rules, ◌≡◌, ℕ, zero, suc, ◌+◌, ◌-◌, ◌≤◌, Bool, true, false, if◌then◌else◌, cond, List, [], ◌∷◌, ◌++◌, length, take, drop, refl, ap, ◌∙◌, ⊎_elim, arith, nat_lt, nat_le, is_some}
-use Rattle.kt_graph.proofs.Common.{Contains, list_any, prefix_len, le-leb, lt-leb, ltb-false, ltb-true, append_assoc, take_rest, Contains-append_cases, Text, Rule, Candidate, Sought, Asking, Choosing, asked_among, asked_by, asked_for, asked_inside, asking, fitting, is_inferred, is_met, open_candidates, unknown_needs, with_rule, first_or_rest, none_in_empty}
+use Rattle.kt_graph.proofs.Common.{Contains, list_any, prefix_len, le-leb, lt-leb, ltb-false, ltb-true, append_assoc, take_rest, Contains-append_cases, Text, Entry, Candidate, Question, Asking, Choosing, questions_among, questions_by, questions_for, questions_inside, asking, fitting, is_inferred, is_met, open_candidates, unknown_needs, with_rule, first_or_rest, none_in_empty}
 use Rattle.kt_graph.specs.inner.search.Chains.{asked_besides}
 
 -- one rule more
@@ -34,54 +34,54 @@ pub put_between : (rule : ℕ) (used : List ℕ) (place : ℕ) → place ≡ pre
 put_between rule used place e = grind (arith, append_assoc, take, length, take_rest, with_rule_is)
 
 module _ (known : List Text) (deeper : Choosing) (ask : Asking)
-    (deep : (used : List ℕ) (name : Text) (asked : Sought) → Contains (ask used name) asked → length used ≤ length asked.1) where
-  deep_for : (used : List ℕ) (names : List Text) (asked : Sought) → Contains (asked_for deeper ask used names) asked → length used ≤ length asked.1
+    (deep : (used : List ℕ) (name : Text) (asked : Question) → Contains (ask used name) asked → length used ≤ length asked.1) where
+  deep_for : (used : List ℕ) (names : List Text) (asked : Question) → Contains (questions_for deeper ask used names) asked → length used ≤ length asked.1
   deep_for used [] asked c = absurd (none_in_empty asked c)
   deep_for used (name ∷ names) asked c =
       ⊎_elim (λ here. deep used name asked here) (λ rest. by (is_some (deeper used name)) (deep_for used names asked) rest)
-      (Contains-append_cases (ask used name) (if is_some (deeper used name) then asked_for deeper ask used names else []) asked c)
+      (Contains-append_cases (ask used name) (if is_some (deeper used name) then questions_for deeper ask used names else []) asked c)
     where
-      by : (b : Bool) → (Contains (asked_for deeper ask used names) asked → length used ≤ length asked.1) → Contains (if b then asked_for deeper ask used names else []) asked → length used ≤ length asked.1
+      by : (b : Bool) → (Contains (questions_for deeper ask used names) asked → length used ≤ length asked.1) → Contains (if b then questions_for deeper ask used names else []) asked → length used ≤ length asked.1
       by true later rest = later rest
       by false later rest = absurd (none_in_empty asked rest)
 
-  deep_by : (used : List ℕ) (candidate : Candidate) (asked : Sought) → Contains (asked_by known deeper ask used candidate) asked → length used + 1 ≤ length asked.1
+  deep_by : (used : List ℕ) (candidate : Candidate) (asked : Question) → Contains (questions_by known deeper ask used candidate) asked → length used + 1 ≤ length asked.1
   deep_by used candidate asked c = by candidate.is_last c
     where
-      by : (b : Bool) → Contains (if b then [] else asked_for deeper ask (with_rule candidate.rule used) (unknown_needs known candidate)) asked → length used + 1 ≤ length asked.1
+      by : (b : Bool) → Contains (if b then [] else questions_for deeper ask (with_rule candidate.rule used) (unknown_needs known candidate)) asked → length used + 1 ≤ length asked.1
       by true none = absurd (none_in_empty asked none)
       by false some = omega (arith, length-with_rule candidate.rule used, deep_for (with_rule candidate.rule used) (unknown_needs known candidate) asked some)
 
-  deep_among : (used : List ℕ) (candidates : List Candidate) (asked : Sought) → Contains (asked_among known deeper ask used candidates) asked → length used + 1 ≤ length asked.1
+  deep_among : (used : List ℕ) (candidates : List Candidate) (asked : Question) → Contains (questions_among known deeper ask used candidates) asked → length used + 1 ≤ length asked.1
   deep_among used [] asked c = absurd (none_in_empty asked c)
   deep_among used (candidate ∷ candidates) asked c =
       ⊎_elim (λ here. deep_by used candidate asked here) (λ rest. by (is_inferred known deeper used candidate) (deep_among used candidates asked) rest)
-      (Contains-append_cases (asked_by known deeper ask used candidate) (if is_inferred known deeper used candidate then [] else asked_among known deeper ask used candidates) asked c)
+      (Contains-append_cases (questions_by known deeper ask used candidate) (if is_inferred known deeper used candidate then [] else questions_among known deeper ask used candidates) asked c)
     where
-      by : (b : Bool) → (Contains (asked_among known deeper ask used candidates) asked → length used + 1 ≤ length asked.1)
-          → Contains (if b then [] else asked_among known deeper ask used candidates) asked → length used + 1 ≤ length asked.1
+      by : (b : Bool) → (Contains (questions_among known deeper ask used candidates) asked → length used + 1 ≤ length asked.1)
+          → Contains (if b then [] else questions_among known deeper ask used candidates) asked → length used + 1 ≤ length asked.1
       by true later none = absurd (none_in_empty asked none)
       by false later rest = later rest
 
-  deep_inside : (used : List ℕ) (candidates : List Candidate) (asked : Sought) → Contains (asked_inside known deeper ask used candidates) asked → length used + 1 ≤ length asked.1
+  deep_inside : (used : List ℕ) (candidates : List Candidate) (asked : Question) → Contains (questions_inside known deeper ask used candidates) asked → length used + 1 ≤ length asked.1
   deep_inside used candidates asked c = by (list_any (is_met known) candidates) c
     where
-      by : (b : Bool) → Contains (if b then [] else asked_among known deeper ask used candidates) asked → length used + 1 ≤ length asked.1
+      by : (b : Bool) → Contains (if b then [] else questions_among known deeper ask used candidates) asked → length used + 1 ≤ length asked.1
       by true none = absurd (none_in_empty asked none)
       by false some = deep_among used candidates asked some
 
 -- what a question asks has at least the rules of its own chain
-pub asking_deep : (rules : List Rule) (known : List Text) (left : ℕ) (used : List ℕ) (name : Text) (asked : Sought)
+pub asking_deep : (rules : List Entry) (known : List Text) (left : ℕ) (used : List ℕ) (name : Text) (asked : Question)
     → Contains (asking rules known left used name) asked → length used ≤ length asked.1
 unfolding asking
 asking_deep rules known zero used name asked c = grind (arith, ⊎_elim, length, none_in_empty, first_or_rest)
 asking_deep rules known (suc left) used name asked c =
     ⊎_elim (λ e. omega (arith, ap (λ a. length a.1) e))
     (λ after. omega (arith, deep_inside known (fitting rules known left) (asking rules known left) (asking_deep rules known left) used (open_candidates rules used name) asked after))
-    (first_or_rest (name, used) asked (asked_inside known (fitting rules known left) (asking rules known left) used (open_candidates rules used name)) c)
+    (first_or_rest (name, used) asked (questions_inside known (fitting rules known left) (asking rules known left) used (open_candidates rules used name)) c)
 
 -- and what it asks besides itself has more
-pub after_deep : (rules : List Rule) (known : List Text) (left : ℕ) (used : List ℕ) (name : Text) (asked : Sought)
+pub after_deep : (rules : List Entry) (known : List Text) (left : ℕ) (used : List ℕ) (name : Text) (asked : Question)
     → Contains (asked_besides rules known left used name) asked → length used + 1 ≤ length asked.1
 unfolding asked_besides
 after_deep rules known zero used name asked c = absurd (none_in_empty asked c)
@@ -89,7 +89,7 @@ after_deep rules known (suc left) used name asked c =
     deep_inside known (fitting rules known left) (asking rules known left) (asking_deep rules known left) used (open_candidates rules used name) asked c
 
 -- a question asks itself first
-pub asking_is : (rules : List Rule) (known : List Text) (left : ℕ) (used : List ℕ) (name : Text)
+pub asking_is : (rules : List Entry) (known : List Text) (left : ℕ) (used : List ℕ) (name : Text)
     → asking rules known left used name ≡ (name, used) ∷ asked_besides rules known left used name
 unfolding asking asked_besides
 asking_is rules known left used name = grind arith

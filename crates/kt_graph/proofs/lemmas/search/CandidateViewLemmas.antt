@@ -1,13 +1,13 @@
 -- Candidates as those of the definitions, one by one.
 use Rattle.std.proofs.Common.{rules, ◌≡◌, ℕ, ◌+◌, ◌<◌, ◌≤◌, Bool, true, false, cond, not, List, [], ◌∷◌, length, get_or, drop, filter, Option, Some, None, is_some, refl, sym, ap, ◌∙◌, subst, arith, ◌==◌, option_map, slice_get, IfSome}
-use Rattle.kt_graph.proofs.Common.{none-some, cons_option, find, eqb-true, drop_more, drop_all, get_or_default, at_place, Text, Rule, is_terminal, Candidate, is_begun, AreWithin, IsFitWithin, candidate_at, candidate_view, candidates_view}
+use Rattle.kt_graph.proofs.Common.{none-some, cons_option, find, eqb-true, drop_more, drop_all, get_or_default, at_place, Text, Entry, is_terminal, Candidate, is_begun, AreWithin, IsFitWithin, candidate_at, candidate_view, candidates_view}
 use Rattle.kt_graph.specs.declared.search.candidate.Candidate.{Candidate as HeldCandidate}
 use Rattle.kt_graph.specs.inner.search.Chains.{IsFound}
 
 pub at_some : {X : Type 0} (o : Option X) (P : X → Type 0) (x : X) → o ≡ Some x → IfSome o P → P x
 at_some o P x e h = rw e at h
 
-module _ (rules : List Rule) (name : Text) where
+module _ (rules : List Entry) (name : Text) where
   -- the view of a candidate with a rule
   pub told_at : (candidate : HeldCandidate) → candidate.rule < length rules → (told : Candidate) × (candidate_view rules name candidate ≡ Some told)
   told_at candidate h =
@@ -61,13 +61,13 @@ module _ (rules : List Rule) (name : Text) where
       found_later not_passed = sym (ap (λ b. cond b (Some told) (find p (candidates_view rules name (drop (i + 1) candidates)))) not_passed) ∙ sym rest_is ∙ left
 
 -- something is found where something is expected
-pub found_some : (rules : List Rule) (name : Text) (expected : Option Candidate) (found : Option HeldCandidate) → IsFound rules name expected found → is_some expected ≡ is_some found
+pub found_some : (rules : List Entry) (name : Text) (expected : Option Candidate) (found : Option HeldCandidate) → IsFound rules name expected found → is_some expected ≡ is_some found
 found_some rules name expected None is = ap is_some (sym is.told)
 found_some rules name expected (Some candidate) is =
     ap is_some (sym is.told ∙ (told_at rules name candidate is.within.0).1)
 
 -- a candidate of the definitions has its rule, and is last exactly if its rule is terminal
-module _ (rules : List Rule) (name : Text) (candidate : HeldCandidate) (told : Candidate) where
+module _ (rules : List Entry) (name : Text) (candidate : HeldCandidate) (told : Candidate) where
   pub told_rule : candidate_view rules name candidate ≡ Some told → candidate.rule ≡ told.rule
   told_rule e = grind (arith, none-some)
 

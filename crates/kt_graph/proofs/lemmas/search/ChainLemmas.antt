@@ -1,6 +1,6 @@
 -- The questions of a search before and after a step, with their answers.
 use Rattle.std.proofs.Common.{◌≡◌, ℕ, ◌+◌, ◌<◌, ◌≤◌, true, List, [], ◌∷◌, ◌++◌, length, get_or, set, map, Option, Some, None, refl, sym, ap, ◌∙◌, subst, ◌⊎◌, inl, inr, ⊎_elim, arith, fold, option_map, slice_get, unwrap_or}
-use Rattle.kt_graph.proofs.Common.{Contains, list_any, cases_lt, cases_order, or_left, list_any-append, get_or_append_left, get_or-set_other, get_or-set_same, get_or-take, get_or_at, length-append, length-map, length-set, map-append, get_or_from_slice_get, same_Some, slice_get-get_or, slice_get-map, slice_get_within, unwrap_or-slice_get, Text, Rule, Question, Tried, IsPrefix, Sought, asked_eq, asking, chain_limit, fitting, with_question, question_view}
+use Rattle.kt_graph.proofs.Common.{Contains, list_any, cases_lt, cases_order, or_left, list_any-append, get_or_append_left, get_or-set_other, get_or-set_same, get_or-take, get_or_at, length-append, length-map, length-set, map-append, get_or_from_slice_get, same_Some, slice_get-get_or, slice_get-map, slice_get_within, unwrap_or-slice_get, Text, Entry, HeldQuestion, TriedQuestions, IsPrefix, Question, question_eq, asking, chain_limit, fitting, with_question, question_view}
 use Rattle.kt_graph.specs.declared.search.candidate.Candidate.{Candidate as HeldCandidate}
 use Rattle.kt_graph.specs.inner.search.Chains.{IsFound, IsRight, IsRightFor, KeepsAnswers, HasAnswered, StandsLast, StoodBefore, asked_besides, expected_for, left_for}
 use Rattle.kt_graph.proofs.lemmas.search.AskingLemmas.{asking_is, after_deep}
@@ -39,24 +39,24 @@ module _ {X : Type 0} where
       let e : k ≡ length xs = omega (arith, length-append xs (y ∷ [])) in
       (e, sym (get_or_at xs y [] x k (sym e)) ∙ get_or_from_slice_get (xs ++ y ∷ []) k x x at)
 
-pub keeps_all : (tried : Tried) → KeepsAnswers tried tried
+pub keeps_all : (tried : TriedQuestions) → KeepsAnswers tried tried
 keeps_all tried = record { questions = front_itself tried.questions.keys; answers = front_itself tried.answers.items }
 
-pub keeps_more : (one two three : Tried) → KeepsAnswers one two → KeepsAnswers two three → KeepsAnswers one three
+pub keeps_more : (one two three : TriedQuestions) → KeepsAnswers one two → KeepsAnswers two three → KeepsAnswers one three
 keeps_more one two three h k = grind (arith, front_more)
 
-module _ (rules : List Rule) (known : List Text) where
+module _ (rules : List Entry) (known : List Text) where
   -- what is expected of a question
-  pub expected_is : (question : Question) (left : ℕ) (used : List ℕ) (name : Text) → question.name ≡ name → question.used.items ≡ used
+  pub expected_is : (question : HeldQuestion) (left : ℕ) (used : List ℕ) (name : Text) → question.name ≡ name → question.used.items ≡ used
       → left + length used ≡ chain_limit → expected_for rules known question ≡ fitting rules known left used name
   expected_is question left used name n u whole = grind (arith, length)
 
-  pub asking_for : (question : Question) (left : ℕ) (used : List ℕ) (name : Text) → question.name ≡ name → question.used.items ≡ used
+  pub asking_for : (question : HeldQuestion) (left : ℕ) (used : List ℕ) (name : Text) → question.name ≡ name → question.used.items ≡ used
       → left + length used ≡ chain_limit → asking rules known (left_for question) question.used.items question.name ≡ asking rules known left used name
   asking_for question left used name n u whole = grind (arith, length)
 
   -- a question that was there has its answer, and adds nothing
-  module _ (old new : Tried) (question : Question) (answer : Option HeldCandidate) (left : ℕ) (used : List ℕ) (name : Text)
+  module _ (old new : TriedQuestions) (question : HeldQuestion) (answer : Option HeldCandidate) (left : ℕ) (used : List ℕ) (name : Text)
       (n : question.name ≡ name) (u : question.used.items ≡ used) (whole : left + length used ≡ chain_limit)
       (right : IsRightFor rules known old (length used)) (stood : StoodBefore old new question answer) where
     one_name : stood.one.name ≡ name
@@ -81,7 +81,7 @@ module _ (rules : List Rule) (known : List Text) where
     }
 
   -- a new question is after the others
-  module _ (old mid : Tried) (question : Question) (place : ℕ) (used : List ℕ) (u : question.used.items ≡ used)
+  module _ (old mid : TriedQuestions) (question : HeldQuestion) (place : ℕ) (used : List ℕ) (u : question.used.items ≡ used)
       (right : IsRightFor rules known old (length used)) (last : StandsLast old mid question place) where
     -- the questions with longer chains are right as they were
     pub last_ready : IsRightFor rules known mid (length used + 1)
@@ -92,12 +92,12 @@ module _ (rules : List Rule) (known : List Text) where
       closed = λ k one at long asked c. before_closed k one (subst (λ keys. slice_get keys k ≡ Some one) last.questions at) long asked c (cases_lt k (length old.questions.keys));
     }
       where
-        short : (k : ℕ) (one : Question) → length old.questions.keys ≤ k → slice_get (old.questions.keys ++ question ∷ []) k ≡ Some one → length used + 1 ≤ length one.used.items → ⊥
+        short : (k : ℕ) (one : HeldQuestion) → length old.questions.keys ≤ k → slice_get (old.questions.keys ++ question ∷ []) k ≡ Some one → length used + 1 ≤ length one.used.items → ⊥
         short k one past at long =
-            let e = ap (λ (q : Question). length q.used.items) (get_last old.questions.keys question one k past at).1 in
+            let e = ap (λ (q : HeldQuestion). length q.used.items) (get_last old.questions.keys question one k past at).1 in
             omega (arith, ap length u)
 
-        before_found : (k : ℕ) (one : Question) → slice_get (old.questions.keys ++ question ∷ []) k ≡ Some one → length used + 1 ≤ length one.used.items
+        before_found : (k : ℕ) (one : HeldQuestion) → slice_get (old.questions.keys ++ question ∷ []) k ≡ Some one → length used + 1 ≤ length one.used.items
             → (k < length old.questions.keys) ⊎ (length old.questions.keys ≤ k)
             → IsFound rules one.name (expected_for rules known one) (unwrap_or (slice_get mid.answers.items k) None)
         before_found k one at long (inl within) =
@@ -108,19 +108,19 @@ module _ (rules : List Rule) (known : List Text) where
             (right.found k one (get_append old.questions.keys (question ∷ []) k one within at) (omega arith))
         before_found k one at long (inr past) = absurd (short k one past at long)
 
-        before_closed : (k : ℕ) (one : Question) → slice_get (old.questions.keys ++ question ∷ []) k ≡ Some one → length used + 1 ≤ length one.used.items
-            → (asked : Sought) → Contains (asking rules known (left_for one) one.used.items one.name) asked
+        before_closed : (k : ℕ) (one : HeldQuestion) → slice_get (old.questions.keys ++ question ∷ []) k ≡ Some one → length used + 1 ≤ length one.used.items
+            → (asked : Question) → Contains (asking rules known (left_for one) one.used.items one.name) asked
             → (k < length old.questions.keys) ⊎ (length old.questions.keys ≤ k)
-            → list_any (asked_eq asked) (map question_view mid.questions.keys) ≡ true
+            → list_any (question_eq asked) (map question_view mid.questions.keys) ≡ true
         before_closed k one at long asked c (inl within) =
             let stands = right.closed k one (get_append old.questions.keys (question ∷ []) k one within at) (omega arith) asked c in
-            ap (λ keys. list_any (asked_eq asked) (map question_view keys)) last.questions
-            ∙ ap (list_any (asked_eq asked)) (map-append question_view old.questions.keys (question ∷ []))
-            ∙ list_any-append (asked_eq asked) (map question_view old.questions.keys) (question_view question ∷ []) ∙ or_left _ _ stands
+            ap (λ keys. list_any (question_eq asked) (map question_view keys)) last.questions
+            ∙ ap (list_any (question_eq asked)) (map-append question_view old.questions.keys (question ∷ []))
+            ∙ list_any-append (question_eq asked) (map question_view old.questions.keys) (question_view question ∷ []) ∙ or_left _ _ stands
         before_closed k one at long asked c (inr past) = absurd (short k one past at long)
 
     -- once it has its answer, all questions with chains as long are right
-    module _ (new final : Tried) (answer : Option HeldCandidate) (left : ℕ) (name : Text)
+    module _ (new final : TriedQuestions) (answer : Option HeldCandidate) (left : ℕ) (name : Text)
         (n : question.name ≡ name) (whole : left + length used ≡ chain_limit)
         (leaves : HasAnswered rules known mid new (length used + 1) (asked_besides rules known left used name)) (keeps : KeepsAnswers mid new)
         (found : IsFound rules name (fitting rules known left used name) answer)
@@ -145,7 +145,7 @@ module _ (rules : List Rule) (known : List Text) where
           ∙ ap Some (get_or_at old.questions.keys question [] question place (sym last.place_after)))
 
       -- what comes after it has a longer chain
-      longer : (k : ℕ) (one : Question) → place < k → slice_get new.questions.keys k ≡ Some one → length used + 1 ≤ length one.used.items
+      longer : (k : ℕ) (one : HeldQuestion) → place < k → slice_get new.questions.keys k ≡ Some one → length used + 1 ≤ length one.used.items
       longer k one past at =
           after_deep rules known left used name (question_view one)
           (put_after (map question_view mid.questions.keys) (asked_besides rules known left used name) k (question_view one)
@@ -153,7 +153,7 @@ module _ (rules : List Rule) (known : List Text) where
           (ap (λ xs. slice_get xs k) (sym leaves.put) ∙ slice_get-map question_view new.questions.keys k ∙ ap (option_map question_view) at))
 
       -- an older one is as it was
-      older_at : (k : ℕ) (one : Question) → k < place → slice_get new.questions.keys k ≡ Some one → slice_get old.questions.keys k ≡ Some one
+      older_at : (k : ℕ) (one : HeldQuestion) → k < place → slice_get new.questions.keys k ≡ Some one → slice_get old.questions.keys k ≡ Some one
       older_at k one before at =
           get_append old.questions.keys (question ∷ []) k one (omega (arith, last.place_after))
           (ap (λ keys. slice_get keys k) (sym last.questions)
@@ -168,25 +168,25 @@ module _ (rules : List Rule) (known : List Text) where
       other_answer : (k : ℕ) → (k ≡ place → ⊥) → unwrap_or (slice_get final.answers.items k) None ≡ unwrap_or (slice_get new.answers.items k) None
       other_answer k other = grind (arith, unwrap_or-slice_get, get_or, get_or-set_other)
 
-      abbrev IsRightAt : ℕ → Question → Type 0
+      abbrev IsRightAt : ℕ → HeldQuestion → Type 0
       IsRightAt k one =
           IsFound rules one.name (expected_for rules known one) (unwrap_or (slice_get final.answers.items k) None)
-          × ((asked : Sought) → Contains (asking rules known (left_for one) one.used.items one.name) asked
-          → list_any (asked_eq asked) (map question_view final.questions.keys) ≡ true)
+          × ((asked : Question) → Contains (asking rules known (left_for one) one.used.items one.name) asked
+          → list_any (question_eq asked) (map question_view final.questions.keys) ≡ true)
 
-      still_put : (asked : Sought) → list_any (asked_eq asked) (map question_view old.questions.keys) ≡ true → list_any (asked_eq asked) (map question_view final.questions.keys) ≡ true
+      still_put : (asked : Question) → list_any (question_eq asked) (map question_view old.questions.keys) ≡ true → list_any (question_eq asked) (map question_view final.questions.keys) ≡ true
       still_put asked h = grind (arith, all_asked, stays_put)
 
-      own_right : (one : Question) → question ≡ one → IsRightAt place one
+      own_right : (one : HeldQuestion) → question ≡ one → IsRightAt place one
       own_right one is = grind (arith, one_name, one_used, noted_answer, expected_is, all_asked, all_put, asking_for)
 
-      older_right : (k : ℕ) (one : Question) → k < place → slice_get new.questions.keys k ≡ Some one → length used ≤ length one.used.items → IsRightAt k one
+      older_right : (k : ℕ) (one : HeldQuestion) → k < place → slice_get new.questions.keys k ≡ Some one → length used ≤ length one.used.items → IsRightAt k one
       older_right k one before at long = grind (arith, older_at, older_answer, long, still_put)
 
-      longer_right : (k : ℕ) (one : Question) → place < k → slice_get new.questions.keys k ≡ Some one → IsRightAt k one
+      longer_right : (k : ℕ) (one : HeldQuestion) → place < k → slice_get new.questions.keys k ≡ Some one → IsRightAt k one
       longer_right k one past at = grind (arith, long, longer, other_answer)
 
-      right_at : (k : ℕ) (one : Question) → slice_get final.questions.keys k ≡ Some one → length used ≤ length one.used.items → IsRightAt k one
+      right_at : (k : ℕ) (one : HeldQuestion) → slice_get final.questions.keys k ≡ Some one → length used ≤ length one.used.items → IsRightAt k one
       right_at k one at long =
           let now : slice_get new.questions.keys k ≡ Some one = ap (λ keys. slice_get keys k) (sym same) ∙ at in
           ⊎_elim (λ here. subst (λ p. IsRightAt p one) (sym here) (own_right one (same_Some question one (sym placed ∙ ap (slice_get new.questions.keys) (sym here) ∙ now))))

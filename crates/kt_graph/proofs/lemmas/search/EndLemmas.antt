@@ -1,6 +1,6 @@
 -- Rules that are found by the ends of their targets.
 use Rattle.std.proofs.Common.{rules, ◌≡◌, ℕ, zero, suc, ◌+◌, ◌-◌, ◌<◌, ◌≤◌, true, ◌⊎◌, ⊎_elim, inl, inr, nat_eq, nat_le, List, [], ◌∷◌, ◌++◌, length, drop, get_or, filter_map, IfSome, Option, Some, None, option_map, slice_get, refl, sym, ap, ◌∙◌, subst, arith}
-use Rattle.kt_graph.proofs.Common.{Contains, cons_option, dedup, position_or_len, slice_index, IsPermutation, IsSorted, IsStrictlyIncreasing, nat_cmp, option_and_then, option_to_list, cases_eq, cases_lt, false≢true, leb-true, append-nil, append_assoc, drop-drop, drop_all, drop_more, length-drop, All-head, All-push, All-tail, filter_map-append, Contains-permutation, IsStrictlyIncreasing-dedup, get_or_from_slice_get, none-some, slice_get_past, bytes_eq-Decides, IsFirstByte, is_byte, Text, is_between, is_percent, pattern_back, stem_span, first_byte_place, Target, Rule, Ends, Candidate, candidate_by, candidate_of, fit_of, matched_part, matching_from, shortest, stem_of, unless_long, AreAllNoted, AreNoted, HasAll, IsNoted, candidate_numbered, candidates_numbered, numbers_at, AreWithin, IsFitWithin, candidate_at, candidates_view, found_view, first_or_rest}
+use Rattle.kt_graph.proofs.Common.{Contains, cons_option, dedup, position_or_len, slice_index, IsPermutation, IsSorted, IsStrictlyIncreasing, nat_cmp, option_and_then, option_to_list, cases_eq, cases_lt, false≢true, leb-true, append-nil, append_assoc, drop-drop, drop_all, drop_more, length-drop, All-head, All-push, All-tail, filter_map-append, Contains-permutation, IsStrictlyIncreasing-dedup, get_or_from_slice_get, none-some, slice_get_past, bytes_eq-Decides, IsFirstByte, is_byte, Text, is_between, is_percent, pattern_back, stem_span, first_byte_place, Target, Entry, TargetEnds, Candidate, candidate_by, candidate_of, fit_of, matched_part, matching_from, shortest, stem_of, unless_long, AreAllNoted, AreNoted, HasAll, IsNoted, candidate_numbered, candidates_numbered, numbers_at, AreWithin, IsFitWithin, candidate_at, candidates_view, found_view, first_or_rest}
 use Rattle.std.proofs.lemmas.List.Kept.{Contains-dedup_nat}
 use Rattle.kt_graph.specs.declared.search.candidate.Candidate.{Candidate as HeldCandidate}
 use Rattle.kt_graph.proofs.lemmas.search.CandidateLemmas.{matching_at, matching_none, rule_at, told_at}
@@ -37,18 +37,18 @@ fit_ends : (pattern name : Text) (fit : Text × Text) → fit_of pattern name �
 unfolding fit_of stem_of
 fit_ends pattern name fit found = grind (arith, none-some, part_ends, span_ends)
 
-target_ends : (number : ℕ) (rule : Rule) (name : Text) (target : Target)
+target_ends : (number : ℕ) (rule : Entry) (name : Text) (target : Target)
     → (candidate_by number rule name target ≡ None) ⊎ EndsIn name (pattern_back target.name)
 target_ends number rule name target = grind (arith, fit_ends)
 
 -- ---- a rule that makes a name is found
 
-end_found : (ends : Ends) (name end : Text) (number : ℕ) (found : List ℕ) → HasAll ends name ends.lengths.keys found
+end_found : (ends : TargetEnds) (name end : Text) (number : ℕ) (found : List ℕ) → HasAll ends name ends.lengths.keys found
     → EndsIn name end → IsNoted ends end number → Contains found number
 end_found ends name end number found all ending noted =
     all (length end) number noted.1 ending.0 (subst (λ (text : Text). Contains (numbers_at ends text) number) (sym ending.1) noted.0)
 
-targets_found : (ends : Ends) (name : Text) (number : ℕ) (rule : Rule) (found : List ℕ) → HasAll ends name ends.lengths.keys found
+targets_found : (ends : TargetEnds) (name : Text) (number : ℕ) (rule : Entry) (found : List ℕ) → HasAll ends name ends.lengths.keys found
     → (targets : List Target) → AreNoted ends targets number
     → (filter_map (candidate_by number rule name) targets ≡ []) ⊎ Contains found number
 targets_found ends name number rule found all [] noted = inl refl
@@ -63,11 +63,11 @@ targets_found ends name number rule found all (target ∷ targets) noted = ⊎_e
     (target_ends number rule name target)
 
 -- each rule is among these numbers, or doesn't make the name
-abbrev pub Covers : List Rule → Text → List ℕ → Type 0
+abbrev pub Covers : List Entry → Text → List ℕ → Type 0
 Covers rules name numbers =
-    (number : ℕ) (rule : Rule) → slice_get rules number ≡ Some rule → (candidate_of number rule name ≡ None) ⊎ Contains numbers number
+    (number : ℕ) (rule : Entry) → slice_get rules number ≡ Some rule → (candidate_of number rule name ≡ None) ⊎ Contains numbers number
 
-pub found_covers : (ends : Ends) (rules : List Rule) (name : Text) (found : List ℕ) → AreAllNoted ends rules → HasAll ends name ends.lengths.keys found
+pub found_covers : (ends : TargetEnds) (rules : List Entry) (name : Text) (found : List ℕ) → AreAllNoted ends rules → HasAll ends name ends.lengths.keys found
     → Covers rules name found
 unfolding candidate_of
 found_covers ends rules name found noted all number rule at = ⊎_elim
@@ -111,43 +111,43 @@ rises_past number (first ∷ numbers) up there = ⊎_elim
     rises_past number numbers (rises_lower (first + 1) (number + 1) numbers (let above = up.0 in omega arith) up.1) after)
     (first_or_rest first number numbers there)
 
-none_numbered : (rules : List Rule) (name : Text) (numbers : List ℕ) (least : ℕ) → length rules ≤ least → Rises least numbers → candidates_numbered rules name numbers ≡ []
+none_numbered : (rules : List Entry) (name : Text) (numbers : List ℕ) (least : ℕ) → length rules ≤ least → Rises least numbers → candidates_numbered rules name numbers ≡ []
 none_numbered rules name [] least past up = refl
 none_numbered rules name (number ∷ numbers) least past up =
     let above = up.0 in
-    ap (λ o. cons_option (option_and_then (λ (rule : Rule). candidate_of number rule name) o) (candidates_numbered rules name numbers)) (slice_get_past rules number (omega arith))
+    ap (λ o. cons_option (option_and_then (λ (rule : Entry). candidate_of number rule name) o) (candidates_numbered rules name numbers)) (slice_get_past rules number (omega arith))
     ∙ none_numbered rules name numbers (number + 1) (omega arith) up.1
 
 -- each rule from one on is among these numbers, or doesn't make the name
-abbrev CoversFrom : ℕ → List Rule → Text → List ℕ → Type 0
+abbrev CoversFrom : ℕ → List Entry → Text → List ℕ → Type 0
 CoversFrom least rules name numbers =
-    (number : ℕ) (rule : Rule) → least ≤ number → slice_get rules number ≡ Some rule → (candidate_of number rule name ≡ None) ⊎ Contains numbers number
+    (number : ℕ) (rule : Entry) → least ≤ number → slice_get rules number ≡ Some rule → (candidate_of number rule name ≡ None) ⊎ Contains numbers number
 
 -- a rule that isn't among the numbers makes no candidate
-passed_over : (rules : List Rule) (name : Text) (at : ℕ) (numbers : List ℕ) (rule : Rule) → slice_get rules at ≡ Some rule → CoversFrom at rules name numbers
+passed_over : (rules : List Entry) (name : Text) (at : ℕ) (numbers : List ℕ) (rule : Entry) → slice_get rules at ≡ Some rule → CoversFrom at rules name numbers
     → Rises (at + 1) numbers → (ones : List Candidate) → option_to_list (candidate_of at rule name) ++ ones ≡ ones
 passed_over rules name at numbers rule found covers up ones = grind (arith, ⊎_elim, rises_past)
 
 -- those from the next on
-covers_after : (rules : List Rule) (name : Text) (at : ℕ) (numbers : List ℕ) → CoversFrom at rules name (at ∷ numbers) → CoversFrom (at + 1) rules name numbers
+covers_after : (rules : List Entry) (name : Text) (at : ℕ) (numbers : List ℕ) → CoversFrom at rules name (at ∷ numbers) → CoversFrom (at + 1) rules name numbers
 covers_after rules name at numbers covers number rule above found = grind (arith, ⊎_elim, first_or_rest)
 
-first_told : (rules : List Rule) (name : Text) (at : ℕ) (rule : Rule) (ones : List Candidate) → slice_get rules at ≡ Some rule
+first_told : (rules : List Entry) (name : Text) (at : ℕ) (rule : Entry) (ones : List Candidate) → slice_get rules at ≡ Some rule
     → cons_option (candidate_numbered rules name at) ones ≡ option_to_list (candidate_of at rule name) ++ ones
 first_told rules name at rule ones found = grind arith
 
 -- so their candidates are those of all rules
-numbered_from : (rules : List Rule) (name : Text) (left at : ℕ) (numbers : List ℕ) → left + at ≡ length rules → Rises at numbers → CoversFrom at rules name numbers
+numbered_from : (rules : List Entry) (name : Text) (left at : ℕ) (numbers : List ℕ) → left + at ≡ length rules → Rises at numbers → CoversFrom at rules name numbers
     → candidates_numbered rules name numbers ≡ matching_from at (drop at rules) name
 numbered_from rules name zero at numbers size up covers = grind (arith, none_numbered, matching_none)
 numbered_from rules name (suc left) at [] size up covers =
-    let there : (rule : Rule) × (slice_get rules at ≡ Some rule) = rule_at rules at (omega arith) in
+    let there : (rule : Entry) × (slice_get rules at ≡ Some rule) = rule_at rules at (omega arith) in
     numbered_from rules name left (at + 1) [] (omega arith) tt (λ number rule above found. covers number rule (omega arith) found)
     ∙ sym (passed_over rules name at [] there.0 there.1 covers tt (matching_from (at + 1) (drop (at + 1) rules) name))
     ∙ sym (matching_at rules name at there.0 (omega arith) (sym (get_or_from_slice_get rules at there.0 there.0 there.1)))
 numbered_from rules name (suc left) at (number ∷ numbers) size up covers = ⊎_elim
     (λ (same : number ≡ at).
-    let there : (rule : Rule) × (slice_get rules at ≡ Some rule) = rule_at rules at (omega arith) in
+    let there : (rule : Entry) × (slice_get rules at ≡ Some rule) = rule_at rules at (omega arith) in
     let here : CoversFrom at rules name (at ∷ numbers) = subst (λ (n : ℕ). CoversFrom at rules name (n ∷ numbers)) same covers in
     ap (λ (n : ℕ). candidates_numbered rules name (n ∷ numbers)) same
     ∙ ap (λ ones. cons_option (candidate_numbered rules name at) ones)
@@ -155,20 +155,20 @@ numbered_from rules name (suc left) at (number ∷ numbers) size up covers = ⊎
     ∙ first_told rules name at there.0 (matching_from (at + 1) (drop (at + 1) rules) name) there.1
     ∙ sym (matching_at rules name at there.0 (omega arith) (sym (get_or_from_slice_get rules at there.0 there.0 there.1))))
     (λ (differ : number ≡ at → ⊥).
-    let there : (rule : Rule) × (slice_get rules at ≡ Some rule) = rule_at rules at (omega arith) in
+    let there : (rule : Entry) × (slice_get rules at ≡ Some rule) = rule_at rules at (omega arith) in
     let later : Rises (at + 1) (number ∷ numbers) = (next_above at number up.0 differ, up.1) in
     numbered_from rules name left (at + 1) (number ∷ numbers) (omega arith) later (λ n rule above found. covers n rule (omega arith) found)
     ∙ sym (passed_over rules name at (number ∷ numbers) there.0 there.1 covers later (matching_from (at + 1) (drop (at + 1) rules) name))
     ∙ sym (matching_at rules name at there.0 (omega arith) (sym (get_or_from_slice_get rules at there.0 there.0 there.1))))
     (cases_eq number at)
 
-pub numbered_all : (rules : List Rule) (name : Text) (numbers : List ℕ) → IsStrictlyIncreasing numbers → Covers rules name numbers
+pub numbered_all : (rules : List Entry) (name : Text) (numbers : List ℕ) → IsStrictlyIncreasing numbers → Covers rules name numbers
     → candidates_numbered rules name numbers ≡ matching_from 0 rules name
 numbered_all rules name numbers up covers =
     numbered_from rules name (length rules) 0 numbers (omega arith) (rises numbers up) (λ number rule above found. covers number rule found)
 
 -- also after a sort, each number once
-pub numbers_in_order : (ends : Ends) (rules : List Rule) (name : Text) (found sorted kept : List ℕ) → AreAllNoted ends rules → HasAll ends name ends.lengths.keys found
+pub numbers_in_order : (ends : TargetEnds) (rules : List Entry) (name : Text) (found sorted kept : List ℕ) → AreAllNoted ends rules → HasAll ends name ends.lengths.keys found
     → IsPermutation found sorted → IsSorted nat_cmp sorted → kept ≡ dedup nat_eq sorted
     → candidates_numbered rules name kept ≡ matching_from 0 rules name
 numbers_in_order ends rules name found sorted kept noted all same order once =
@@ -181,28 +181,28 @@ numbers_in_order ends rules name found sorted kept noted all same order once =
 -- ---- candidates as they are held
 
 -- the rule of a number as it makes a name
-pub told_numbered : (rules : List Rule) (name : Text) (number : ℕ) (rule : Rule) (found : Option HeldCandidate) → slice_get rules number ≡ Some rule
+pub told_numbered : (rules : List Entry) (name : Text) (number : ℕ) (rule : Entry) (found : Option HeldCandidate) → slice_get rules number ≡ Some rule
     → IfSome found (λ candidate. (candidate.rule ≡ number) × IsFitWithin name candidate.fit) → option_map (candidate_at name rule) found ≡ candidate_of number rule name
     → found_view rules name found ≡ candidate_numbered rules name number
 told_numbered rules name number rule found there within is = grind (arith, told_at)
 
-pub told_none : (rules : List Rule) (name : Text) (number : ℕ) → slice_get rules number ≡ None → None ≡ candidate_numbered rules name number
-told_none rules name number none = sym (ap (option_and_then (λ (one : Rule). candidate_of number one name)) none)
+pub told_none : (rules : List Entry) (name : Text) (number : ℕ) → slice_get rules number ≡ None → None ≡ candidate_numbered rules name number
+told_none rules name number none = sym (ap (option_and_then (λ (one : Entry). candidate_of number one name)) none)
 
-pub within_numbered : (rules : List Rule) (name : Text) (number : ℕ) (found : Option HeldCandidate) → number < length rules
+pub within_numbered : (rules : List Entry) (name : Text) (number : ℕ) (found : Option HeldCandidate) → number < length rules
     → IfSome found (λ candidate. (candidate.rule ≡ number) × IsFitWithin name candidate.fit)
     → IfSome found (λ candidate. (candidate.rule < length rules) × IsFitWithin name candidate.fit)
 within_numbered rules name number found below within = grind arith
 
 -- one more number
-pub numbered_more : (rules : List Rule) (name : Text) (numbers : List ℕ) (i number : ℕ) (candidates more : List HeldCandidate) (found : Option HeldCandidate)
+pub numbered_more : (rules : List Entry) (name : Text) (numbers : List ℕ) (i number : ℕ) (candidates more : List HeldCandidate) (found : Option HeldCandidate)
     → i < length numbers → number ≡ get_or numbers i number → found_view rules name found ≡ candidate_numbered rules name number
     → more ≡ candidates ++ option_to_list found
     → candidates_view rules name more ++ candidates_numbered rules name (drop (i + 1) numbers)
     ≡ candidates_view rules name candidates ++ candidates_numbered rules name (drop i numbers)
 numbered_more rules name numbers i number candidates more found within at is grown = grind (arith, filter_map-append, append_assoc, drop_more)
 
-pub within_with : (rules : List Rule) (name : Text) (candidates more : List HeldCandidate) (found : Option HeldCandidate)
+pub within_with : (rules : List Entry) (name : Text) (candidates more : List HeldCandidate) (found : Option HeldCandidate)
     → IfSome found (λ candidate. (candidate.rule < length rules) × IsFitWithin name candidate.fit) → more ≡ candidates ++ option_to_list found
     → AreWithin rules name candidates → AreWithin rules name more
 within_with rules name candidates more (Some candidate) there grown within =

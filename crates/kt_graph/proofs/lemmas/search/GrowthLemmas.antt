@@ -1,6 +1,6 @@
 -- Trees stay when a chain has fewer rules and more may be added: what makes a name after a chain makes it without one.
 use Rattle.std.proofs.Common.{rules, ◌≡◌, ℕ, zero, suc, ◌+◌, ◌≤◌, Bool, true, false, not, ◌||◌, if◌then◌else◌, List, [], ◌∷◌, length, filter, refl, sym, ◌∙◌, true≢false, ⊎_elim, arith, ◌==◌, nat_eq, nat_lt}
-use Rattle.kt_graph.proofs.Common.{Contains, list_any, range_with_len, eq-eqb, false_from_ne_true, or_cases, or_left, or_right, All-weaker, from_flat_map, in_flat_map, Text, Rule, Candidate, by_size, candidates_for, matching_from, size_of, without_any, HasTree, is_begun, is_used, unknown_needs, with_rule}
+use Rattle.kt_graph.proofs.Common.{Contains, list_any, range_with_len, eq-eqb, false_from_ne_true, or_cases, or_left, or_right, All-weaker, from_flat_map, in_flat_map, Text, Entry, Candidate, by_size, candidates_for, matching_from, size_of, without_any, HasTree, is_begun, is_used, unknown_needs, with_rule}
 use Rattle.kt_graph.proofs.lemmas.Membership.{in_filter, kept_by_filter}
 
 -- ---- candidates outside a chain
@@ -26,7 +26,7 @@ outside candidates one c = by (list_any (λ candidate. not candidate.is_any) can
     by true = c
     by false = (kept_by_filter (λ candidate. not candidate.is_any || candidate.is_last) candidates one c).0
 
-outside_chain : (rules : List Rule) (name : Text) (one : Candidate) → Contains (candidates_for rules true name) one → Contains (candidates_for rules false name) one
+outside_chain : (rules : List Entry) (name : Text) (one : Candidate) → Contains (candidates_for rules true name) one → Contains (candidates_for rules false name) one
 unfolding candidates_for
 outside_chain rules name one c =
     by_size_more name (without_any true (matching_from 0 rules name)) (without_any false (matching_from 0 rules name)) (outside (matching_from 0 rules name)) one c
@@ -45,7 +45,7 @@ has_all_with : (rule : ℕ) (used fewer : List ℕ) → HasAll used fewer → Ha
 has_all_with rule used fewer all other h = grind (arith, used_with, ⊎_elim, or_left, nat_eq, or_right, or_cases)
 
 -- a candidate after a chain is one after a chain with fewer rules
-fewer_candidates : (rules : List Rule) (name : Text) (used fewer : List ℕ) → HasAll used fewer → (one : Candidate)
+fewer_candidates : (rules : List Entry) (name : Text) (used fewer : List ℕ) → HasAll used fewer → (one : Candidate)
     → Contains (candidates_for rules (is_begun used) name) one → Contains (candidates_for rules (is_begun fewer) name) one
 fewer_candidates rules name [] [] all one c = c
 fewer_candidates rules name (rule ∷ used) [] all one c = outside_chain rules name one c
@@ -54,7 +54,7 @@ fewer_candidates rules name [] (other ∷ fewer) all one c = absurd (true≢fals
 
 -- ---- trees
 
-pub tree_grows : (rules : List Rule) (known : List Text) (left more : ℕ) → left ≤ more → (used fewer : List ℕ) → HasAll used fewer → (name : Text)
+pub tree_grows : (rules : List Entry) (known : List Text) (left more : ℕ) → left ≤ more → (used fewer : List ℕ) → HasAll used fewer → (name : Text)
     → HasTree rules known left used name → HasTree rules known more fewer name
 unfolding HasTree
 tree_grows rules known zero more h used fewer all name tree = absurd tree

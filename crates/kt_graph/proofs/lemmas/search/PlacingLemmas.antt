@@ -1,31 +1,31 @@
 -- Where a question is placed among others, in the set that holds them.
 use Rattle.std.proofs.Common.{◌≡◌, ℕ, Bool, true, false, cond, not, ◌&&◌, ◌||◌, if◌then◌else◌, List, [], ◌∷◌, ◌++◌, length, map, Option, Some, None, refl, sym, ap, ◌∙◌, true≢false, arith, nat_eq, slice_get, unwrap_or}
-use Rattle.kt_graph.proofs.Common.{list_any, position_or_len, pointwise, same_text, and_parts, not-true, not-false, insert_key, Question, Tried, asked_eq, question_view}
+use Rattle.kt_graph.proofs.Common.{list_any, position_or_len, pointwise, same_text, and_parts, not-true, not-false, insert_key, HeldQuestion, TriedQuestions, question_eq, question_view}
 use Rattle.kt_graph.specs.declared.search.candidate.Candidate.{Candidate as HeldCandidate}
 use Rattle.kt_graph.specs.inner.search.Chains.{StandsLast, StoodBefore}
 
 -- whether two questions are equal, by their own equality
-abbrev pub questions_eq : Question → Question → Bool
+abbrev pub questions_eq : HeldQuestion → HeldQuestion → Bool
 questions_eq one other = pointwise nat_eq one.name other.name && pointwise nat_eq one.used.items other.used.items
 
-any_told : (question : Question) (others : List Question) → list_any (questions_eq question) others ≡ list_any (asked_eq (question_view question)) (map question_view others)
+any_told : (question : HeldQuestion) (others : List HeldQuestion) → list_any (questions_eq question) others ≡ list_any (question_eq (question_view question)) (map question_view others)
 any_told question [] = refl
 any_told question (other ∷ others) = ap (λ b. questions_eq question other || b) (any_told question others)
 
-place_after : (p : Question → Bool) (others : List Question) → list_any p others ≡ false → position_or_len p others ≡ length others
+place_after : (p : HeldQuestion → Bool) (others : List HeldQuestion) → list_any p others ≡ false → position_or_len p others ≡ length others
 place_after p [] h = refl
 place_after p (other ∷ others) h = grind (arith, length, true≢false, cond, not, place_after p others)
 
 -- a new one is added at the end
-pub placed_last : (old new : Tried) (question : Question) (place : ℕ) (is_new : Bool) → is_new ≡ true → is_new ≡ not (list_any (questions_eq question) old.questions.keys)
+pub placed_last : (old new : TriedQuestions) (question : HeldQuestion) (place : ℕ) (is_new : Bool) → is_new ≡ true → is_new ≡ not (list_any (questions_eq question) old.questions.keys)
     → new.questions.keys ≡ insert_key questions_eq old.questions.keys question → place ≡ position_or_len (questions_eq question) old.questions.keys
     → new.answers.items ≡ old.answers.items ++ None ∷ [] → StandsLast old new question place
 placed_last old new question place is_new yes_new tells grown at pushed = grind (arith, not-true, place_after, any_told)
 
 -- another one is where it was
-pub placed_before : (old new : Tried) (question : Question) (place : ℕ) (is_new : Bool) (answer : Option HeldCandidate) → is_new ≡ false
+pub placed_before : (old new : TriedQuestions) (question : HeldQuestion) (place : ℕ) (is_new : Bool) (answer : Option HeldCandidate) → is_new ≡ false
     → is_new ≡ not (list_any (questions_eq question) old.questions.keys) → new.questions.keys ≡ insert_key questions_eq old.questions.keys question
-    → (one : Question) × (slice_get new.questions.keys place ≡ Some one) × (questions_eq question one ≡ true)
+    → (one : HeldQuestion) × (slice_get new.questions.keys place ≡ Some one) × (questions_eq question one ≡ true)
     → new.answers.items ≡ old.answers.items → answer ≡ unwrap_or (slice_get old.answers.items place) None → StoodBefore old new question answer
 placed_before old new question place is_new answer not_new tells grown stored kept answered =
     let there : list_any (questions_eq question) old.questions.keys ≡ true = not-false _ (sym tells ∙ not_new) in

@@ -1,10 +1,10 @@
 -- The search finds a rule for a name exactly if a tree makes it.
 use Rattle.std.proofs.Common.{◌≡◌, ℕ, zero, suc, true, false, not, ◌||◌, List, [], get_or, is_some, Option, option_map, sym, ◌∙◌, true≢false, ⊎_elim, arith, ◌↔◌, All}
-use Rattle.kt_graph.proofs.Common.{Contains, list_any, cases_Bool, and_from, and_parts, or_cases, or_left, or_right, not-true, not_from_false, All-contains, Contains-get_or, Text, Rule, Candidate, candidates_for, HasTree, chosen_of, fitting, is_begun, is_inferred, is_met, is_used, open_candidates, unknown_needs, with_rule}
+use Rattle.kt_graph.proofs.Common.{Contains, list_any, cases_Bool, and_from, and_parts, or_cases, or_left, or_right, not-true, not_from_false, All-contains, Contains-get_or, Text, Entry, Candidate, candidates_for, HasTree, chosen_of, fitting, is_begun, is_inferred, is_met, is_used, open_candidates, unknown_needs, with_rule}
 use Rattle.kt_graph.proofs.lemmas.Membership.{any_passes, all_pass, each_passes, found_any, in_filter, kept_by_filter, one_passes, some_or}
 use Rattle.kt_graph.proofs.lemmas.search.UnknownLemmas.{met_none, none_met}
 
-module _ (rules : List Rule) (known : List Text) where
+module _ (rules : List Entry) (known : List Text) where
   -- a candidate's unknown prerequisites have rules exactly if they have trees
   abbrev SameFor : ℕ → Type 0
   SameFor left = (used : List ℕ) (name : Text) → (is_some (fitting rules known left used name) ≡ true) ↔ HasTree rules known left used name

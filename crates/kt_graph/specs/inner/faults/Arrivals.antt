@@ -3,7 +3,7 @@ use Rattle.std.specs.Prelude.{ℕ, ◌+◌, ◌-◌, ◌<◌, ◌≤◌, Bool, n
 use Rattle.std.specs.Prelude.{if◌then◌else◌, length}
 use Rattle.std.specs.List.{count_by}
 use Rattle.kt_graph.specs.declared.faults.edges.Edges.{Edges}
-use Rattle.kt_graph.specs.inner.faults.Edges.{LeadsBack, next_of, rows_of, work_with}
+use Rattle.kt_graph.specs.inner.faults.Edges.{LeadsBack, edge_rows, next_of, work_with}
 
 -- a vertex remains as long as there are edges to it
 abbrev pub is_left : ℕ → Bool
@@ -44,5 +44,5 @@ next_of_all edges work = flat_map (next_of edges) work
 pub record AreCounted (edges : Edges) (counts work rest : List ℕ) : Type 0 where
   pub circular : LeavesCircular edges counts
   pub counted : (vertex : ℕ) → vertex < length counts
-      → arrivals_at vertex (next_of_left counts (rows_of edges)) + arrivals_at vertex (next_of_all edges work)
+      → arrivals_at vertex (next_of_left counts (edge_rows edges)) + arrivals_at vertex (next_of_all edges work)
       + arrivals_at vertex rest ≤ get_or counts vertex 0

@@ -4,7 +4,7 @@ use Rattle.std.specs.Prelude.{◌≡◌, ◌↔◌, ℕ, suc, ◌+◌, ◌<◌, 
 use Rattle.std.specs.Prelude.{set, replicate, take, flat_map, fold, map, All, IfSome, if◌then◌else◌, Option, Some, None}
 use Rattle.kt_graph.specs.Prelude.{slice_get, Vec, Contains, count_by, range_with_len, option_to_list}
 use Rattle.std.specs.declared.alloc.Global.{Global}
-use Rattle.kt_graph.specs.inner.nodes.Stored.{AreAlike, StoredNode, stored_at}
+use Rattle.kt_graph.specs.inner.nodes.Stored.{HaveOneMaking, StoredNode, stored_at}
 use Rattle.kt_graph.specs.declared.faults.edges.Edges.{Edges}
 use Rattle.kt_graph.specs.Reach.{Reaches}
 
@@ -17,28 +17,28 @@ abbrev pub needed_numbers : StoredNode → List ℕ
 needed_numbers node = node.inputs ++ node.order_only
 
 -- the number at a place, as a list
-abbrev pub one_at : List ℕ → ℕ → List ℕ
-one_at numbers place = option_to_list (slice_get numbers place)
+abbrev pub listed_number : List ℕ → ℕ → List ℕ
+listed_number numbers place = option_to_list (slice_get numbers place)
 
 -- where a name leads: to its making, if it has one, or else to what it needs
 abbrev pub row_by : List ℕ → StoredNode → Option ℕ → List ℕ
 row_by makings node None = needed_numbers node
-row_by makings node (Some making) = one_at makings making
+row_by makings node (Some making) = listed_number makings making
 
-abbrev pub row_of : List ℕ → StoredNode → List ℕ
-row_of makings node = row_by makings node node.made_with
+abbrev pub edge_row : List ℕ → StoredNode → List ℕ
+edge_row makings node = row_by makings node node.made_with
 
 -- where each vertex leads
-abbrev pub rows_of : Edges → List (List ℕ)
-rows_of edges = map (row_of edges.makings.items) edges.nodes.now ++ rows_held edges.rows.items
+abbrev pub edge_rows : Edges → List (List ℕ)
+edge_rows edges = map (edge_row edges.makings.items) edges.nodes.now ++ rows_held edges.rows.items
 
 -- the number of vertices
-abbrev pub count_of : Edges → ℕ
-count_of edges = length edges.nodes.now + length edges.rows.items
+abbrev pub vertex_count : Edges → ℕ
+vertex_count edges = length edges.nodes.now + length edges.rows.items
 
 -- where one vertex leads
 abbrev pub next_of : Edges → ℕ → List ℕ
-next_of edges vertex = get_or (rows_of edges) vertex []
+next_of edges vertex = get_or (edge_rows edges) vertex []
 
 abbrev pub HasNext : Edges → ℕ → ℕ → Type 0
 HasNext edges from to = Contains (next_of edges from) to
@@ -72,7 +72,7 @@ edges_from from numbers = map (λ to. (from, to)) numbers
 
 -- edges lead to vertices
 abbrev pub LeadToVertices : Edges → Type 0
-LeadToVertices edges = (from to : ℕ) → HasNext edges from to → to < count_of edges
+LeadToVertices edges = (from to : ℕ) → HasNext edges from to → to < vertex_count edges
 
 -- the same edges, reversed
 abbrev pub AreReversed : Edges → Edges → Type 0
@@ -103,7 +103,7 @@ pub record HaveEdges (count : ℕ) (expected : List (ℕ × ℕ)) (rows : List (
 pub record IsRepeated (nodes : List StoredNode) (number : ℕ) : Type 0 where
   pub before : ℕ
   pub next : number ≡ suc before
-  pub alike : AreAlike (stored_at nodes before) (stored_at nodes number)
+  pub alike : HaveOneMaking (stored_at nodes before) (stored_at nodes number)
 
 -- after the edges that the first nodes add, those of one more node stand there, too
 abbrev pub AddsNode : List StoredNode → ℕ → List (List ℕ) → List (List ℕ) → Type 0

@@ -3,31 +3,32 @@ use Rattle.std.specs.Prelude.{◌≡◌, ◌↔◌, ℕ, ◌<◌, Bool, not, ◌
 use Rattle.kt_graph.specs.Prelude.{List, None, Option, Some, map, Contains, IsStrictlySortedBy, list_all, nat_cmp}
 use Rattle.kt_graph.specs.Prelude.{slice_cmp, slice_split, Text, Node}
 use Rattle.std.specs.Map.{lookup}
-use Rattle.kt_graph.specs.declared.faults.files.Files.{Files}
+use Rattle.kt_graph.specs.declared.faults.files.FileSpellings.{FileSpellings}
 use Rattle.kt_graph.specs.nodes.Groups.{made_nodes}
 use Rattle.kt_graph.specs.faults.Paths.{above_name, canon_of, is_idle}
 use Rattle.kt_list.specs.Names.{name_at, names_at}
 
 -- the number of names that are names of a file
-abbrev pub count_of : List Text → Text → ℕ
-count_of names file = length (filter (λ name. bytes_eq (canon_of name) file) names)
+abbrev pub spelling_count : List Text → Text → ℕ
+spelling_count names file = length (filter (λ name. bytes_eq (canon_of name) file) names)
 
 -- the file of a name has another of these names, too
 abbrev pub is_repeated : List Text → Text → Bool
-is_repeated names name = nat_lt 1 (count_of names (canon_of name))
+is_repeated names name = nat_lt 1 (spelling_count names (canon_of name))
 
 abbrev pub made_names : List Node → List Text
 made_names nodes = map (λ node. node.name) (made_nodes nodes)
 
 -- whether several of these names are names of a file, if any is
 abbrev pub several_in : List Text → Text → Option Bool
-several_in names file = if nat_eq (count_of names file) 0 then None else Some (nat_lt 1 (count_of names file))
+several_in names file =
+    if nat_eq (spelling_count names file) 0 then None else Some (nat_lt 1 (spelling_count names file))
 
 abbrev pub held_for : List (Text × Bool) → Text → Option Bool
 held_for entries file = lookup (λ key. bytes_eq file key) entries
 
 -- the code holds this for each file
-abbrev pub HasFiles : Files → List Text → Type 0
+abbrev pub HasFiles : FileSpellings → List Text → Type 0
 HasFiles files names = (file : Text) → held_for files.several.entries file ≡ several_in names file
 
 -- no two names are equal
@@ -43,9 +44,9 @@ pub record IsByteOrder (names : List Text) (order : List ℕ) : Type 0 where
 -- ---- names with plain components only: each is the canonical spelling of its file
 
 -- a component that isn't empty, `.` or `..`
-abbrev pub is_name : Text → Bool
-is_name part = not (is_idle part || bytes_eq part above_name)
+abbrev pub is_proper_component : Text → Bool
+is_proper_component part = not (is_idle part || bytes_eq part above_name)
 
 -- whether each component of a name is such a one
 unfoldable pub has_names_only : Text → Bool
-has_names_only name = list_all is_name (slice_split (λ byte. byte == 47) name)
+has_names_only name = list_all is_proper_component (slice_split (λ byte. byte == 47) name)

@@ -1,7 +1,7 @@
 -- The names reached so far, and the nodes of the first of them, as the code holds them (kati's own).
 use Rattle.std.specs.Prelude.{◌≡◌, ℕ, ◌+◌, ◌-◌, true, false, List, [], ◌∷◌, ◌++◌, length, fold, take, All, Some, slice_get}
 use Rattle.kt_graph.specs.Prelude.{IfSome, None, Option, map, Contains, after_last, before_last, Text, Needs, Target}
-use Rattle.kt_graph.specs.Prelude.{AreMadeAlike, has_recipe, is_double, patterns_of, Rule, with_name, suffixes_of}
+use Rattle.kt_graph.specs.Prelude.{AreMadeAlike, has_recipe, is_double, patterns_of, Entry, with_name, suffixes_of}
 use Rattle.kt_graph.specs.Prelude.{Explicit, Leaf, Node, group_of, node_of, own_part, rule_view}
 use Rattle.kt_graph.specs.declared.nodes.node.Instance.{Instance as Held}
 use Rattle.kt_graph.specs.inner.nodes.Stems.{own}
@@ -11,15 +11,15 @@ use Rattle.kt_graph.specs.inner.nodes.Needed.{needed_by}
 use Rattle.kt_graph.specs.inner.nodes.Numbering.{IsStoredAs, SaysNeeds, SaysNode}
 use Rattle.kt_graph.specs.Reach.{IsReached}
 use Rattle.kt_list.specs.Names.{name_at}
-use Rattle.kt_graph.specs.declared.nodes.building.Used.{Used}
+use Rattle.kt_graph.specs.declared.nodes.building.RecipeRule.{RecipeRule}
 
 -- the rules before the last rule with a recipe, and those after it
-pub record IsCut (rules : List (Rule × Target)) (used : Used) : Type 0 where
+pub record IsCut (rules : List (Entry × Target)) (used : RecipeRule) : Type 0 where
   pub before : before_last has_recipe rules ≡ map rule_view used.earlier.now
   pub after : after_last has_recipe rules ≡ map rule_view used.later.now
 
 -- the targets of these rules have a name
-abbrev pub AreOf : Text → List (Rule × Target) → Type 0
+abbrev pub AreOf : Text → List (Entry × Target) → Type 0
 AreOf name rules = All (λ made. made.1.name ≡ name) rules
 
 -- how each leaf is stored that needs nothing
@@ -28,7 +28,7 @@ leaf_stored suffixes = stored_with Leaf None
     (record { recipe = None; stem = own suffixes; prerequisites = []; order_only = [] } ∷ [])
 
 -- the number of such a leaf, if there is one
-abbrev pub IsLeafOf : Option ℕ → List StoredNode → List Rule → Type 0
+abbrev pub IsLeafOf : Option ℕ → List StoredNode → List Entry → Type 0
 IsLeafOf leaf nodes rules = IfSome leaf (λ number. slice_get nodes number ≡ Some (leaf_stored (suffixes_of rules)))
 
 -- the search uses the rules of the book and its known names
@@ -56,7 +56,7 @@ pub record BuildsNode (old : GraphBuilder) (expected : Node) (new : GraphBuilder
   pub says : SaysNode new.numbers new.instances.keys expected node
 
 -- each node is that of its name
-abbrev pub AllSay : List Rule → List Text → List Text → List Held → List StoredNode → Type 0
+abbrev pub AllSay : List Entry → List Text → List Text → List Held → List StoredNode → Type 0
 AllSay rules known names instances nodes =
     (number : ℕ) (name : Text) (node : StoredNode) → slice_get names number ≡ Some name
     → slice_get nodes number ≡ Some node → SaysNode names instances (node_of rules known name) node
@@ -67,7 +67,7 @@ pub record AreTold (builder : GraphBuilder) : Type 0 where
 -- ---- the node of a target that needs what the one before does
 
 -- the node of a name whose only rule has a recipe
-abbrev pub sole_node : List Text → Text → Rule × Target → Node
+abbrev pub sole_node : List Text → Text → Entry × Target → Node
 sole_node suffixes name made = record {
   name = name;
   kind = Explicit;
@@ -87,13 +87,13 @@ pub record NeedsAsLast (builder : GraphBuilder) (name : Text) : Type 0 where
   pub next : length builder.nodes ≡ last + 1
   pub same : NeedsAs builder name last
 
-pub record IsLikeLast (builder : GraphBuilder) (name : Text) (made : Rule × Target) : Type 0 where
+pub record IsLikeLast (builder : GraphBuilder) (name : Text) (made : Entry × Target) : Type 0 where
   pub recipe : has_recipe made ≡ true
   pub single : is_double made.0.kind ≡ false
   pub needs : NeedsAsLast builder name
 
 -- the last node has one part, with these prerequisites
-pub record LastNeeds (builder : GraphBuilder) (needs : Needs) : Type 0 where
+pub record HasLastNeeds (builder : GraphBuilder) (needs : Needs) : Type 0 where
   pub last : StoredNode
   pub there : stored_at builder.nodes (length builder.nodes - 1) ≡ last
   pub part : StoredPart
@@ -108,7 +108,7 @@ pub record IsBegun (goals : List Text) (builder : GraphBuilder) : Type 0 where
   pub nodes : builder.nodes ≡ []
 
 -- each name has its node
-pub record IsDone (rules : List Rule) (known goals : List Text) (names : List Text) (instances : List Held)
+pub record IsDone (rules : List Entry) (known goals : List Text) (names : List Text) (instances : List Held)
     (nodes : List StoredNode) : Type 0 where
   pub reached : All (IsReached rules known goals) names
   pub named : All (Contains names) goals
@@ -117,5 +117,5 @@ pub record IsDone (rules : List Rule) (known goals : List Text) (names : List Te
   pub all : length nodes ≡ length names
 
 -- no node remains to be built
-abbrev pub IsBuilt : List Rule → List Text → List Text → GraphBuilder → Type 0
+abbrev pub IsBuilt : List Entry → List Text → List Text → GraphBuilder → Type 0
 IsBuilt rules known goals builder = IsDone rules known goals builder.numbers builder.instances.keys builder.nodes

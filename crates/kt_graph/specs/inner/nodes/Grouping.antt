@@ -2,7 +2,7 @@
 use Rattle.std.specs.Prelude.{◌≡◌, ℕ, ◌<◌, Bool, true, false, not, ◌&&◌, nat_eq, List, [], ◌∷◌, filter, flat_map}
 use Rattle.std.specs.Prelude.{All, get_or, length, Option, Some, None, slice_get, if◌then◌else◌}
 use Rattle.kt_graph.specs.Prelude.{option_and_then, option_map_or, Node, is_leaf}
-use Rattle.kt_graph.specs.inner.nodes.Stored.{AreAlike, StoredNode, stored_at}
+use Rattle.kt_graph.specs.inner.nodes.Stored.{HaveOneMaking, StoredNode, stored_at}
 use Rattle.kt_graph.specs.nodes.Views.{NodeTable, nodes_view}
 use Rattle.kt_graph.specs.inner.faults.Edges.{with_edge}
 
@@ -14,12 +14,12 @@ is_made_at nodes number = option_map_or (λ node. not (is_leaf node.kind)) (slic
 abbrev pub making_at : List StoredNode → ℕ → Option ℕ
 making_at nodes number = option_and_then (λ node. node.made_with) (slice_get nodes number)
 
-abbrev pub is_number : ℕ → Option ℕ → Bool
-is_number making None = false
-is_number making (Some other) = nat_eq making other
+abbrev pub is_same_making : ℕ → Option ℕ → Bool
+is_same_making making None = false
+is_same_making making (Some other) = nat_eq making other
 
 abbrev pub is_made_with : List StoredNode → ℕ → ℕ → Bool
-is_made_with nodes making number = is_made_at nodes number && is_number making (making_at nodes number)
+is_made_with nodes making number = is_made_at nodes number && is_same_making making (making_at nodes number)
 
 -- for each of a number of makings, those of the numbers whose nodes it makes
 pub record HasMembers (nodes : List StoredNode) (makings : ℕ) (numbers : List ℕ) (members : List
@@ -46,7 +46,7 @@ members_of nodes members number = members_by members number (making_at nodes num
 
 -- nodes have the making and the inputs of one
 abbrev pub AreAllAlike : List StoredNode → ℕ → List ℕ → Type 0
-AreAllAlike nodes one numbers = All (λ number. AreAlike (stored_at nodes one) (stored_at nodes number)) numbers
+AreAllAlike nodes one numbers = All (λ number. HaveOneMaking (stored_at nodes one) (stored_at nodes number)) numbers
 
 -- whether a number is the first in a list
 abbrev pub is_first : List ℕ → ℕ → Bool

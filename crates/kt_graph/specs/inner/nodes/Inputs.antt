@@ -5,8 +5,8 @@ use Rattle.std.specs.List.{IsDistinct, list_any}
 use Rattle.kt_graph.specs.declared.nodes.stored.HeldPart.{HeldPart}
 
 -- numbers with one more at the end, unless they have it already
-abbrev pub with_number : List ℕ → ℕ → List ℕ
-with_number numbers number = if list_any (nat_eq number) numbers then numbers else numbers ++ number ∷ []
+abbrev pub with_input_number : List ℕ → ℕ → List ℕ
+with_input_number numbers number = if list_any (nat_eq number) numbers then numbers else numbers ++ number ∷ []
 
 -- the numbers that aren't among others
 abbrev pub numbers_without : List ℕ → List ℕ → List ℕ
@@ -30,7 +30,7 @@ differ (first ∷ numbers) = not (list_any (nat_eq first) numbers) && differ num
 -- ---- from the rows of parts
 
 abbrev pub inputs_held : List (List ℕ) → List HeldPart → List ℕ
-inputs_held rows parts = fold with_number [] (flat_map (λ part. get_or rows part.needs []) parts)
+inputs_held rows parts = fold with_input_number [] (flat_map (λ part. get_or rows part.needs []) parts)
 
 abbrev pub others_held : List (List ℕ) → List HeldPart → List ℕ
 others_held rows parts = flat_map (λ part. get_or rows (part.needs + 1) []) parts

@@ -2,7 +2,7 @@
 use Rattle.std.specs.Prelude.{◌≡◌, ℕ, zero, suc, ◌≤◌, List, [], ◌∷◌, ◌++◌, length, get_or, slice_get, bytes_eq}
 use Rattle.kt_graph.specs.Prelude.{Option, Some, None, IsDistinct, AreBelow, place_of, with_name, Text}
 use Rattle.std.specs.Borrow.{Bor}
-use Rattle.kt_graph.specs.declared.nodes.reached.Reached.{Reached}
+use Rattle.kt_graph.specs.declared.nodes.reached.ReachedNumbers.{ReachedNumbers}
 use Rattle.kt_graph.specs.declared.nodes.reached_name.ReachedName.{ReachedName}
 use Rattle.kt_graph.specs.declared.nodes.reached_name.ReachedName.TheVariants.{InTables, Other}
 use Rattle.kt_list.specs.Names.{names_at}
@@ -32,7 +32,7 @@ abbrev pub HasSame : List ℕ → List ℕ → Type 0
 HasSame old new = (number : ℕ) → get_or new number 0 ≡ get_or old number 0
 
 -- a number has come after the others, and has the mark of its place
-pub record IsPushed (old : Reached) (number : ℕ) (new : Reached) (place : ℕ) : Type 0 where
+pub record IsPushed (old : ReachedNumbers) (number : ℕ) (new : ReachedNumbers) (place : ℕ) : Type 0 where
   pub last : place ≡ length old.numbers.items
   pub numbers : new.numbers.items ≡ old.numbers.items ++ number ∷ []
   pub marked : get_or new.marks.items number 0 ≡ suc place
@@ -46,20 +46,20 @@ pub record IsPlaced (names : List Text) (numbers marks : List ℕ) : Type 0 wher
   pub free : (number : ℕ) → length names ≤ number → get_or marks number 0 ≡ 0
 
 -- a name is reached, if it wasn't before, and has a place
-pub record IsReachedAt (names : List Text) (numbers : List ℕ) (name : Text) (reached : Reached) (place : ℕ)
+pub record IsReachedAt (names : List Text) (numbers : List ℕ) (name : Text) (reached : ReachedNumbers) (place : ℕ)
     : Type 0 where
   pub placed : IsPlaced names reached.numbers.items reached.marks.items
   pub grown : names_at names reached.numbers.items ≡ with_name (names_at names numbers) name
   pub at : slice_get (names_at names reached.numbers.items) place ≡ Some name
 
 -- whatever name has the number is reached
-abbrev pub ReachesNumber : Reached → ℕ → Reached → ℕ → Type 0
+abbrev pub ReachesNumber : ReachedNumbers → ℕ → ReachedNumbers → ℕ → Type 0
 ReachesNumber old number new place =
     (names : List Text) (name : Text) → IsPlaced names old.numbers.items old.marks.items
     → place_of names name ≡ Some number → IsReachedAt names old.numbers.items name new place
 
 -- names that had their places have them
-abbrev pub StaysPlaced : Reached → Reached → Type 0
+abbrev pub StaysPlaced : ReachedNumbers → ReachedNumbers → Type 0
 StaysPlaced old new =
     (names : List Text) → IsPlaced names old.numbers.items old.marks.items
     → IsPlaced names new.numbers.items new.marks.items

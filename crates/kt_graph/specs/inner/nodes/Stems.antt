@@ -1,22 +1,22 @@
 -- The stem of a part, as the code holds it (kati's own).
 use Rattle.std.specs.Prelude.{◌≡◌, ◌+◌, ◌++◌, ℕ, drop, length, take}
 use Rattle.kt_graph.specs.Prelude.{List, Text, suffixes_of, suffix_stem}
-use Rattle.kt_graph.specs.declared.nodes.stem.Form.{Form}
-use Rattle.kt_graph.specs.declared.nodes.stem.Form.TheVariants.{Own, Within, Given}
+use Rattle.kt_graph.specs.declared.nodes.stem.StemStorage.{StemStorage}
+use Rattle.kt_graph.specs.declared.nodes.stem.StemStorage.TheVariants.{Own, Within, Given}
 
 -- the name of the node without the first of these suffixes that it ends with, a part of it, or a text
-pub data HeldStem : Type 0 where
-  own : (suffixes : List Text) → HeldStem
-  within : (place len : ℕ) → HeldStem
-  given : (text : Text) → HeldStem
+pub data Stem : Type 0 where
+  own : (suffixes : List Text) → Stem
+  within : (place len : ℕ) → Stem
+  given : (text : Text) → Stem
 
 -- the stem in the node of a name
-abbrev pub stem_in : Text → HeldStem → Text
+abbrev pub stem_in : Text → Stem → Text
 stem_in name (own suffixes) = suffix_stem suffixes name
 stem_in name (within place len) = take len (drop place name)
 stem_in name (given text) = text
 
-abbrev pub stem_held : Form → HeldStem
+abbrev pub stem_held : StemStorage → Stem
 stem_held (Own book) = own (suffixes_of book.now)
 stem_held (Within place len) = within place len
 stem_held (Given text) = given text.value.items

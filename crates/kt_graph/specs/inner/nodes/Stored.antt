@@ -3,20 +3,20 @@ use Rattle.std.specs.Prelude.{◌≡◌, ℕ, ◌≤◌, ◌<◌, ◌+◌, List,
 use Rattle.std.specs.Prelude.{◌∷◌, Bool, Some, false, flat_map, fold, get_or, slice_get, true}
 use Rattle.kt_graph.specs.Prelude.{slice_range, HasMore, RecipeLine, NodeKind, Leaf}
 use Rattle.kt_graph.specs.declared.nodes.part.Maker.{Maker}
-use Rattle.kt_graph.specs.declared.nodes.part.Numbered.{Numbered}
+use Rattle.kt_graph.specs.declared.nodes.part.NumberedNeeds.{NumberedNeeds}
 use Rattle.kt_graph.specs.declared.nodes.part.NumberedPart.{NumberedPart}
-use Rattle.kt_graph.specs.declared.nodes.part.Part.{Part}
-use Rattle.kt_graph.specs.declared.nodes.stored.Head.{Head}
+use Rattle.kt_graph.specs.declared.nodes.part.PartRecipe.{PartRecipe}
+use Rattle.kt_graph.specs.declared.nodes.stored.NodeHead.{NodeHead}
 use Rattle.kt_graph.specs.declared.nodes.stored.HeldPart.{HeldPart}
 use Rattle.kt_graph.specs.declared.nodes.stored.SeenPart.{SeenPart}
 use Rattle.kt_graph.specs.declared.nodes.stored.Span.{Span}
-use Rattle.kt_graph.specs.inner.nodes.Inputs.{numbers_without, with_number}
-use Rattle.kt_graph.specs.inner.nodes.Stems.{HeldStem}
+use Rattle.kt_graph.specs.inner.nodes.Inputs.{numbers_without, with_input_number}
+use Rattle.kt_graph.specs.inner.nodes.Stems.{Stem}
 
 -- a recipe with the stem and prerequisites for its automatic macros; the prerequisites in order and with repeats
 pub record StoredPart : Type 0 where
   pub recipe : Option (List RecipeLine)
-  pub stem : HeldStem
+  pub stem : Stem
   pub prerequisites : List ℕ
   pub order_only : List ℕ
 
@@ -39,12 +39,12 @@ HasOnePart nodes number = length (stored_at nodes number).parts ≡ 1
 
 -- the prerequisites of parts, each once
 abbrev pub input_numbers : List StoredPart → List ℕ
-input_numbers parts = fold with_number [] (flat_map (λ part. part.prerequisites) parts)
+input_numbers parts = fold with_input_number [] (flat_map (λ part. part.prerequisites) parts)
 
 -- the order-only prerequisites of parts, each once and without the inputs
 abbrev pub order_only_numbers : List StoredPart → List ℕ
 order_only_numbers parts =
-    fold with_number [] (numbers_without (input_numbers parts) (flat_map (λ part. part.order_only) parts))
+    fold with_input_number [] (numbers_without (input_numbers parts) (flat_map (λ part. part.order_only) parts))
 
 -- a node with these parts
 abbrev pub stored_with : NodeKind → Option ℕ → List StoredPart → StoredNode
@@ -57,14 +57,14 @@ stored_with kind made_with parts = record {
 }
 
 -- two nodes have one making and the same inputs
-pub record AreAlike (one other : StoredNode) : Type 0 where
+pub record HaveOneMaking (one other : StoredNode) : Type 0 where
   pub made_with : one.made_with ≡ other.made_with
   pub inputs : one.inputs ≡ other.inputs
   pub order_only : one.order_only ≡ other.order_only
 
 -- ---- before they are stored
 
-abbrev pub part_held : Part → Numbered → StoredPart
+abbrev pub part_held : PartRecipe → NumberedNeeds → StoredPart
 part_held part needs = record {
   recipe = option_map (λ lines. lines.now) part.recipe;
   stem = part.stem;
@@ -76,7 +76,7 @@ abbrev pub parts_held : List NumberedPart → List StoredPart
 parts_held parts = map (λ one. part_held one.part one.needs) parts
 
 -- a part that needs what another does
-abbrev pub part_like : Part → StoredPart → StoredPart
+abbrev pub part_like : PartRecipe → StoredPart → StoredPart
 part_like part other = record {
   recipe = option_map (λ lines. lines.now) part.recipe;
   stem = part.stem;
@@ -85,7 +85,7 @@ part_like part other = record {
 }
 
 -- a node that needs what another does
-abbrev pub node_like : NodeKind → Option ℕ → Part → StoredNode → StoredNode
+abbrev pub node_like : NodeKind → Option ℕ → PartRecipe → StoredNode → StoredNode
 node_like kind made_with part other = record {
   kind = kind;
   parts = map (part_like part) other.parts;
@@ -115,7 +115,7 @@ part_stored rows part = record {
 abbrev pub parts_stored : List (List ℕ) → List HeldPart → List StoredPart
 parts_stored rows parts = map (part_stored rows) parts
 
-abbrev pub node_stored : List HeldPart → List (List ℕ) → Head → StoredNode
+abbrev pub node_stored : List HeldPart → List (List ℕ) → NodeHead → StoredNode
 node_stored parts rows head = record {
   kind = head.kind;
   parts = parts_stored rows (cut parts head.parts);
@@ -124,7 +124,7 @@ node_stored parts rows head = record {
   order_only = get_or rows (head.inputs + 1) [];
 }
 
-abbrev pub nodes_stored : List HeldPart → List (List ℕ) → List Head → List StoredNode
+abbrev pub nodes_stored : List HeldPart → List (List ℕ) → List NodeHead → List StoredNode
 nodes_stored parts rows heads = map (node_stored parts rows) heads
 
 abbrev pub part_seen : SeenPart → StoredPart
@@ -144,12 +144,12 @@ pub record IsSpanWithin (count : ℕ) (span : Span) : Type 0 where
 abbrev pub IsPartWithin : ℕ → HeldPart → Type 0
 IsPartWithin count part = part.needs + 1 < count
 
-pub record IsHeadWithin (many_parts many_rows : ℕ) (head : Head) : Type 0 where
+pub record IsHeadWithin (many_parts many_rows : ℕ) (head : NodeHead) : Type 0 where
   pub parts : IsSpanWithin many_parts head.parts
   pub inputs : head.inputs + 1 < many_rows
 
 -- all places are in the lists of parts and rows
-pub record AreStored (parts : List HeldPart) (rows : List (List ℕ)) (heads : List Head) : Type 0 where
+pub record AreStored (parts : List HeldPart) (rows : List (List ℕ)) (heads : List NodeHead) : Type 0 where
   pub parts_within : All (IsPartWithin (length rows)) parts
   pub heads_within : All (IsHeadWithin (length parts) (length rows)) heads
 
@@ -169,9 +169,9 @@ pub record AreRowsOf (rows : List (List ℕ)) (first second : List ℕ) (place :
   pub other : get_or rows (place + 1) [] ≡ second
 
 -- a node whose part comes next, and the place of the part's rows: they are those of another node with one part
-pub record IsLike (heads : List Head) (parts : List HeldPart) (number : ℕ) (maker : Maker)
-    (made : Head × ℕ) : Type 0 where
-  pub other : Head
+pub record IsLike (heads : List NodeHead) (parts : List HeldPart) (number : ℕ) (maker : Maker)
+    (made : NodeHead × ℕ) : Type 0 where
+  pub other : NodeHead
   pub at : slice_get heads number ≡ Some other
   pub part : HeldPart
   pub alone : cut parts other.parts ≡ part ∷ []
@@ -190,6 +190,7 @@ pub record PutsParts (parts new_parts : List HeldPart) (rows : List (List ℕ))
   pub are : parts_stored rows more ≡ expected
 
 -- a node without its lists
-pub record IsHeadOf (parts : List HeldPart) (rows : List (List ℕ)) (expected : StoredNode) (head : Head) : Type 0 where
-  pub within : IsHeadWithin (length parts) (length rows) head
-  pub is : node_stored parts rows head ≡ expected
+pub record IsHeadOf (parts : List HeldPart) (rows : List (List ℕ)) (expected : StoredNode) (head : NodeHead) : Type 0
+  where
+    pub within : IsHeadWithin (length parts) (length rows) head
+    pub is : node_stored parts rows head ≡ expected

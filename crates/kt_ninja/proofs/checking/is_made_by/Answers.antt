@@ -1,6 +1,6 @@
 use Rattle.std.proofs.Common.{arith, ◌≡◌, ◌∙◌, ap, sym, rules, false, Option}
 use Rattle.kt_ninja.proofs.Common.{is_among, Statement, at_place}
-use Rattle.kt_ninja.specs.View.{names_at}
+use Rattle.kt_ninja.specs.View.{statement_names}
 use Rattle.kt_ninja.proofs.Places.{passes_here, passes_later, passes_none}
 use Rattle.kt_ninja.proofs.checking.is_made_by.Goals as goal
 
@@ -13,7 +13,7 @@ loop-statement-preserved g c =
     let name = c.args.name.now in
     let there = at_place ss c.loop-statement.statement (search rules) in
     let made : c.is_made_at.result ≡ is_among there.0.outs name
-    = c.is_made_at.ensures ∙ ap (λ (o : Option Statement). is_among (names_at (λ s. s.outs) o) name) there.1 in
+    = c.is_made_at.ensures ∙ ap (λ (o : Option Statement). is_among (statement_names (λ s. s.outs) o) name) there.1 in
     let no : c.is_made_at.result ≡ false = search rules in
     record {
       within = search rules;

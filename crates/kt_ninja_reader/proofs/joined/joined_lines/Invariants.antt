@@ -1,5 +1,5 @@
 use Rattle.std.proofs.Common.{◌≡◌, ◌≤◌, ◌+◌, ◌++◌, [], length, false}
-use Rattle.kt_ninja_reader.specs.JoinedLines.{file_lines, is_blank, is_comment, joined_from, joined_lines}
+use Rattle.kt_ninja_reader.specs.JoinedLines.{file_lines, is_blank_line, is_comment, joined_from, joined_lines}
 use Rattle.kt_ninja_reader.proofs.JoinedLemmas.{begun_by}
 use Rattle.kt_ninja_reader.proofs.joined.joined_lines.Given as goal
 
@@ -8,7 +8,7 @@ invariant-loop-rest l = record {
   cut : l.lines.items ++ joined_from l.next (begun_by l.begun.going_on l.begun) (file_lines l.rest) ≡ joined_lines l.text;
   numbered : l.begun.going_on ≡ false → l.begun.number ≡ l.next;
   fresh : l.begun.going_on ≡ false → l.begun.text ≡ [];
-  blank : l.begun.blank ≡ is_blank l.begun.text;
+  blank : l.begun.blank ≡ is_blank_line l.begun.text;
   plain : is_comment l.begun.text ≡ false;
   bound : l.next + length l.rest ≤ length l.text + 1;
 }

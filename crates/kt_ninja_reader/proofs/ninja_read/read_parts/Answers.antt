@@ -1,6 +1,6 @@
 use Rattle.std.proofs.Common.{sym, ◌∙◌, arith, drop}
 use Rattle.kt_ninja_reader.specs.NinjaRead.{cut_lines, nothing_read, read_part, read_parts}
-use Rattle.kt_ninja_reader.specs.Reading.{part_of}
+use Rattle.kt_ninja_reader.specs.Reading.{file_part}
 use Rattle.kt_ninja_reader.proofs.ReaderLemmas.{none_left, part_refused, part_taken, parts_step}
 use Rattle.kt_ninja_reader.proofs.ninja_read.read_parts.Goals as goal
 
@@ -15,7 +15,7 @@ returns-in-Err c =
     let later = drop c.in-Some.part.next lines in
     let step = parts_step c.loop-part.state head (drop c.loop-part.from lines) body later c.in-Some.ensures.parts in
     rw (c.fault_at.ensures, c.number.ensures)
-    (part_refused head.number (read_part c.loop-part.state (part_of head body)) (λ s. read_parts s (cut_lines later).parts) (read_parts nothing_read (cut_lines lines).parts)
+    (part_refused head.number (read_part c.loop-part.state (file_part head body)) (λ s. read_parts s (cut_lines later).parts) (read_parts nothing_read (cut_lines lines).parts)
     (sym c.loop-part.invariant.same ∙ step) c.in-Err.fault c.in-Err.ensures)
 
 pub loop-part-preserved : goal.loop-part-preserved
@@ -27,7 +27,7 @@ loop-part-preserved c =
     let step = parts_step c.loop-part.state head (drop c.loop-part.from lines) body later c.in-Some.ensures.parts in
     record {
       begun = c.in-Some.ensures.begun;
-      same = part_taken head.number (read_part c.loop-part.state (part_of head body)) c.in-Ok.next (λ s. read_parts s (cut_lines later).parts) (read_parts nothing_read (cut_lines lines).parts)
+      same = part_taken head.number (read_part c.loop-part.state (file_part head body)) c.in-Ok.next (λ s. read_parts s (cut_lines later).parts) (read_parts nothing_read (cut_lines lines).parts)
           (sym c.loop-part.invariant.same ∙ step) c.in-Ok.ensures;
       bound = c.in-Some.ensures.bound;
     }

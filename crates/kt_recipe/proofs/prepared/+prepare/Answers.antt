@@ -1,6 +1,6 @@
 use Rattle.std.proofs.Common.{◌≡◌, ◌==◌, ◌+◌, ◌∙◌, ℕ, List, [], Bor, false, true, sym, ap, arith, rules, drop, get_or, length, map, option_map}
 use Rattle.std.proofs.lemmas.List.{drop_all, drop_more, length-map}
-use Rattle.kt_recipe.proofs.Common.{IfOk-weaker, Text, dollar, literal, reference, terms_of, token_of, apply, asked_by, evaluator, names_plainly}
+use Rattle.kt_recipe.proofs.Common.{IfOk-weaker, Text, dollar, literal, reference, terms_of, token_of, apply, request_by_mark, evaluator, names_plainly}
 use Rattle.kt_text.specs.TextFunctions.{arity}
 use Rattle.kt_eval.specs.expanding.Calls.{calls}
 use Rattle.kt_recipe.proofs.PreparedCallLemmas.{applied_adds, argument_known, arguments_known, call_adds, chosen_adds, known_is, none_chosen_adds, other_adds, some_weaker, three_are, two_are}
@@ -86,7 +86,7 @@ put_value-returns-in-Deferred t c = rw c.in-Deferred.is c.put_deeper.ensures
 pub put_asked-returns-in-Calls : goal.put_asked-returns-in-Calls
 put_asked-returns-in-Calls t c =
     let texts : List Text = map (λ a. a.now) c.in-Calls.arguments.items in
-    let is : asked_by c.args.mark c.args.body.now ≡ calls c.in-Calls.function texts = sym (rw c.in-Calls.is at c.in_ok-function.ensures) in
+    let is : request_by_mark c.args.mark c.args.body.now ≡ calls c.in-Calls.function texts = sym (rw c.in-Calls.is at c.in_ok-function.ensures) in
     IfOk-weaker c.put_call.result _ _
     (λ known adds yes. call_adds c.args.macros.now (evaluator false [] c.args.limit) c.args.mark c.args.body.now c.in-Calls.function texts c.args.pieces.now
     c.put_call.new.pieces is (adds yes))

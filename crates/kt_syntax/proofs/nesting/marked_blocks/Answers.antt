@@ -1,6 +1,6 @@
 use Rattle.std.proofs.Common.{arith}
 use Rattle.kt_syntax.proofs.Common.{length-map}
-use Rattle.kt_syntax.specs.Parts.{parts_of}
+use Rattle.kt_syntax.specs.Parts.{block_parts}
 use Rattle.kt_syntax.specs.Roles.{heads_of}
 use Rattle.kt_syntax.proofs.NestingLemmas.{length-parts}
 use Rattle.kt_syntax.proofs.ReadingOn.{length-steps, steps_are_readable}
@@ -9,7 +9,7 @@ use Rattle.kt_syntax.proofs.WholeTree.{whole_tree_is_left}
 use Rattle.kt_syntax.proofs.nesting.marked_blocks.Goals as goal
 
 pub new-requires : goal.new-requires
-new-requires c = rw (c.in_ok-steps.ensures, c.in_ok-parts.ensures.parts) (steps_are_readable (parts_of (heads_of c.args.text.now c.args.lines.now)))
+new-requires c = rw (c.in_ok-steps.ensures, c.in_ok-parts.ensures.parts) (steps_are_readable (block_parts (heads_of c.args.text.now c.args.lines.now)))
 
 pub returns-clause-tree : goal.returns-clause-tree
 returns-clause-tree c = grind (arith, tree_is_of)

@@ -1,6 +1,6 @@
 use Rattle.std.proofs.Common.{◌≤◌, length, ap, ◌∙◌, arith}
 use Rattle.kt_syntax.specs.Parts.{missing_in}
-use Rattle.kt_syntax.specs.Roles.{head_of}
+use Rattle.kt_syntax.specs.Roles.{numbered_role}
 use Rattle.kt_syntax.proofs.NestingLemmas.{depth-after, parts_ended, parts_more, scanned_ended, scanned_more}
 use Rattle.kt_syntax.proofs.nesting.parts.Goals as goal
 
@@ -11,7 +11,7 @@ loop-line-preserved c = record {
   scanned = scanned_more _ _ _ c.args.text.now c.args.lines.now c.loop-line.line-index _ _ c.loop-line-test.true c.line-item.is
       c.in_ok-next_part.ensures.scan c.loop-line.invariant.scanned;
   shallow =
-      let head = head_of c.args.text.now c.line-item.result in
+      let head = numbered_role c.args.text.now c.line-item.result in
       let deeper = depth-after c.loop-line.scan.define c.loop-line.scan.conditionals head.role head.number in
       rw c.in_ok-next_part.ensures.scan (omega (arith, deeper, c.loop-line.invariant.shallow));
 }

@@ -1,6 +1,6 @@
 use Rattle.std.proofs.Common.{◌≡◌, ◌++◌, List, length, replicate}
 use Rattle.kt_syntax.specs.declared.part.BlockPart.{BlockPart}
-use Rattle.kt_syntax.specs.declared.step.Step.TheVariants as step
+use Rattle.kt_syntax.specs.declared.step.BlockStep.TheVariants as step
 use Rattle.kt_syntax.specs.Steps.{ahead_of, steps_from}
 use Rattle.kt_syntax.proofs.nesting.steps.Given as goal
 

@@ -1,5 +1,5 @@
 use Rattle.std.proofs.Common.{◌∙◌, ap}
-use Rattle.kati.specs.inner.Drawn.{Drawn}
+use Rattle.kati.specs.inner.Drawn.{GroupSketch}
 use Rattle.kati.proofs.SketchLemmas.{one_is}
 use Rattle.kati.proofs.sketch.Sketch.always.Goals as goal
 
@@ -7,5 +7,5 @@ pub returns : goal.returns
 returns c =
     let sketch = c.self.inside in
     rw c.as_slice.ensures.value at c.flag_at.ensures
-    ∙ ap (λ (drawn : Drawn). drawn.always)
+    ∙ ap (λ (drawn : GroupSketch). drawn.always)
     (one_is sketch.commands sketch.joined sketch.always.items c.args.place c.args.self.now c.self.invariant.0 c.self.invariant.1 c.self.view_is)

@@ -1,5 +1,5 @@
 use Rattle.std.proofs.Common.{◌∙◌, ap}
-use Rattle.kati.specs.inner.Drawn.{Drawn, first_joined}
+use Rattle.kati.specs.inner.Drawn.{GroupSketch, first_joined}
 use Rattle.kati.proofs.SketchLemmas.{one_is}
 use Rattle.kati.proofs.sketch.Sketch.joined.Goals as goal
 
@@ -7,5 +7,5 @@ pub returns : goal.returns
 returns c =
     let sketch = c.self.inside in
     c.first_of.ensures ∙ ap first_joined c.row_at.ensures
-    ∙ ap (λ (drawn : Drawn). drawn.joined)
+    ∙ ap (λ (drawn : GroupSketch). drawn.joined)
     (one_is sketch.commands sketch.joined sketch.always.items c.args.place c.args.self.now c.self.invariant.0 c.self.invariant.1 c.self.view_is)

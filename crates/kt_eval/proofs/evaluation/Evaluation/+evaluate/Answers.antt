@@ -1,5 +1,5 @@
 use Rattle.std.proofs.Common.{◌≡◌, ◌∙◌, ap, arith, length, List, rules, subst, sym, IfErr, IfOk, Some, option_map, map}
-use Rattle.kt_eval.proofs.Common.{Text, left_at, token_of, expanded, Fails, Gave, IfCut, Outcome, left_of, World, lookup, GoesOn, AgreeWith, Store, err_from_is_err_and, evaluator, read_items}
+use Rattle.kt_eval.proofs.Common.{Text, left_at, token_of, expanded, Fails, Gave, IfCut, StepEnd, left_of, World, lookup, GoesOn, AgreeWith, Store, err_from_is_err_and, evaluator, read_items}
 use Rattle.kt_eval.specs.inner.Views.{compared_view}
 use Rattle.kt_eval.proofs.lemmas.EarlyLemmas.{Early, call_fails, close_fails, eval_fails, foreach_fails, word_fails, sheet_fails, equal_fails, argument_at_fails, argument_at_front, or_at_fails, and_at_fails, definition_fails, definition_taken, first_fails, branch_fails}
 use Rattle.kt_eval.specs.inner.Plain.{put_of}
@@ -87,7 +87,7 @@ expand_here-returns-in_err-put_term g t c =
     let h = c.in_err-put_term.ensures.gives in
     let k = c.in_err-put_term.ensures.cut in
     let early = λ (store : Store) (agrees : AgreeWith store c.put_term.new.self.answers).
-    (subst (λ (o : Outcome World Text). Early c.in_err-put_term.field-0.0 c.put_term.new.self.world o) (c.terms.invariant.rest store (omega (arith, c.in_err-put_term.ensures.kept.0 store)))
+    (subst (λ (o : StepEnd World Text). Early c.in_err-put_term.field-0.0 c.put_term.new.self.world o) (c.terms.invariant.rest store (omega (arith, c.in_err-put_term.ensures.kept.0 store)))
     (term_fails g.M.Scope.writable store c.args.below c.in_err-put_term.field-0.0 c.terms.out.items (token_of c.in-Some.term) c.terms.rest c.next.new.self c.terms.self.world c.put_term.new.self.world c.in-Some.ensures.steps (h store agrees, k store agrees))) in
     record {
       gives = λ store agrees. rw (p.1, p.2) (early store agrees).0;
@@ -220,7 +220,7 @@ each_argument-returns-in_err-x g t c =
     let h = c.in_err-x.ensures.gives in
     let k = c.in_err-x.ensures.cut in
     let early = λ (store : Store) (agrees : AgreeWith store c.expand.new.self.answers).
-    (subst (λ (o : Outcome World (List Text)). Early c.in_err-x.field-0.0 c.expand.new.self.world o) (c.arguments.invariant.rest store (omega (arith, c.in_err-x.ensures.kept.0 store)))
+    (subst (λ (o : StepEnd World (List Text)). Early c.in_err-x.field-0.0 c.expand.new.self.world o) (c.arguments.invariant.rest store (omega (arith, c.in_err-x.ensures.kept.0 store)))
     (argument_at_fails g.M.Scope.writable store c.args.below c.in_err-x.field-0.0 c.arguments.self.world c.expand.new.self.world c.arguments.out.items c.args.texts.now c.arguments.place _ c.arguments-test.true (h store agrees, k store agrees))) in
     record {
       gives = λ store agrees. rw (p.1, p.2) (early store agrees).0;
@@ -236,7 +236,7 @@ each_argument-returns-in_err-from_vec g t c =
     record {
       gives = λ store agrees. rw (p.1, p.2) tt;
       cut = λ store agrees. rw (p.1, p.2)
-          (subst (λ (o : Outcome World (List Text)). GoesOn c.expand.new.self.world (left_of o)) (c.arguments.invariant.rest store (omega (arith, c.in_ok-x.ensures.kept.0 store)))
+          (subst (λ (o : StepEnd World (List Text)). GoesOn c.expand.new.self.world (left_of o)) (c.arguments.invariant.rest store (omega (arith, c.in_ok-x.ensures.kept.0 store)))
           (argument_at_front g.M.Scope.writable store c.args.below c.arguments.self.world c.expand.new.self.world c.arguments.out.items c.args.texts.now c.arguments.place _ _ c.arguments-test.true (h store agrees)));
       kept = search rules;
       blames = search rules;
@@ -249,7 +249,7 @@ each_argument-returns-in_err-push g t c =
     record {
       gives = λ store agrees. rw (p.1, p.2) tt;
       cut = λ store agrees. rw (p.1, p.2)
-          (subst (λ (o : Outcome World (List Text)). GoesOn c.expand.new.self.world (left_of o)) (c.arguments.invariant.rest store (omega (arith, c.in_ok-x.ensures.kept.0 store)))
+          (subst (λ (o : StepEnd World (List Text)). GoesOn c.expand.new.self.world (left_of o)) (c.arguments.invariant.rest store (omega (arith, c.in_ok-x.ensures.kept.0 store)))
           (argument_at_front g.M.Scope.writable store c.args.below c.arguments.self.world c.expand.new.self.world c.arguments.out.items c.args.texts.now c.arguments.place _ _ c.arguments-test.true (h store agrees)));
       kept = search rules;
       blames = search rules;
@@ -261,7 +261,7 @@ each_word-returns-in_err-x g t c =
     let h = rw c.in_ok-bind.ensures.done at c.in_err-x.ensures.gives in
     let k = rw c.in_ok-bind.ensures.done at c.in_err-x.ensures.cut in
     let early = λ (store : Store) (agrees : AgreeWith store c.expand.new.self.answers).
-    (subst (λ (o : Outcome World Text). Early c.in_err-x.field-0.0 c.expand.new.self.world o) (c.words.invariant.rest store (omega (arith, rw c.in_ok-bind.ensures.done at (c.in_err-x.ensures.kept.0 store))))
+    (subst (λ (o : StepEnd World Text). Early c.in_err-x.field-0.0 c.expand.new.self.world o) (c.words.invariant.rest store (omega (arith, rw c.in_ok-bind.ensures.done at (c.in_err-x.ensures.kept.0 store))))
     (word_fails g.M.Scope.writable store c.args.below c.in_err-x.field-0.0 c.words.self.world c.expand.new.self.world c.args.name.now c.args.body.now c.words.out.items c.words.separator.now _ _ c.in-Some.word.now c.words.rest c.next.new.self c.in-Some.ensures.steps (search rules) (search rules) (h store agrees, k store agrees))) in
     record {
       gives = λ store agrees. rw (p.1, p.2) (early store agrees).0;
@@ -300,7 +300,7 @@ apply_or-returns-in_err-x g t c =
     let h = rw c.stripped.ensures at c.in_err-x.ensures.gives in
     let k = rw c.stripped.ensures at c.in_err-x.ensures.cut in
     let early = λ (store : Store) (agrees : AgreeWith store c.expand.new.self.answers).
-    (subst (λ (o : Outcome World Text). Early c.in_err-x.field-0.0 c.expand.new.self.world o) (c.arguments.invariant.rest store (omega (arith, c.in_err-x.ensures.kept.0 store)))
+    (subst (λ (o : StepEnd World Text). Early c.in_err-x.field-0.0 c.expand.new.self.world o) (c.arguments.invariant.rest store (omega (arith, c.in_err-x.ensures.kept.0 store)))
     (or_at_fails g.M.Scope.writable store c.args.below c.in_err-x.field-0.0 c.arguments.self.world c.expand.new.self.world c.args.texts.now c.arguments.place _ c.arguments-test.true (h store agrees, k store agrees))) in
     record {
       gives = λ store agrees. rw (p.1, p.2) (early store agrees).0;
@@ -315,7 +315,7 @@ apply_and-returns-in_err-x g t c =
     let h = rw c.stripped.ensures at c.in_err-x.ensures.gives in
     let k = rw c.stripped.ensures at c.in_err-x.ensures.cut in
     let early = λ (store : Store) (agrees : AgreeWith store c.expand.new.self.answers).
-    (subst (λ (o : Outcome World Text). Early c.in_err-x.field-0.0 c.expand.new.self.world o) (c.arguments.invariant.rest store (omega (arith, c.in_err-x.ensures.kept.0 store)))
+    (subst (λ (o : StepEnd World Text). Early c.in_err-x.field-0.0 c.expand.new.self.world o) (c.arguments.invariant.rest store (omega (arith, c.in_err-x.ensures.kept.0 store)))
     (and_at_fails g.M.Scope.writable store c.args.below c.in_err-x.field-0.0 c.arguments.self.world c.expand.new.self.world c.args.texts.now c.arguments.place _ c.arguments-test.true (h store agrees, k store agrees))) in
     record {
       gives = λ store agrees. rw (p.1, p.2) (early store agrees).0;
@@ -405,18 +405,18 @@ pub read_next-returns-clause-goes_on : goal.read_next-returns-clause-goes_on
 read_next-returns-clause-goes_on g t c = λ store agrees.
     let e = evaluator g.M.Scope.writable store c.args.below in
     subst
-    (λ (o : Outcome World (Unit {0})).
+    (λ (o : StepEnd World (Unit {0})).
     IfOk c.read_step.result (λ at. o ≡ read_items e c.args.page.now (left_at c.args.page.now.blocks.steps at) c.read_step.new.self.world))
     (sym (c.past_comments-at.ensures.same e c.args.self.now.world)) (c.read_step.ensures.goes_on store agrees)
 
 pub read_next-returns-clause-fails : goal.read_next-returns-clause-fails
 read_next-returns-clause-fails g t c = λ store agrees.
     let e = evaluator g.M.Scope.writable store c.args.below in
-    subst (λ (o : Outcome World (Unit {0})). IfErr c.read_step.result (λ stop. Fails stop c.read_step.new.self.world o))
+    subst (λ (o : StepEnd World (Unit {0})). IfErr c.read_step.result (λ stop. Fails stop c.read_step.new.self.world o))
     (sym (c.past_comments-at.ensures.same e c.args.self.now.world)) (c.read_step.ensures.fails store agrees)
 
 pub read_next-returns-clause-cut : goal.read_next-returns-clause-cut
 read_next-returns-clause-cut g t c = λ store agrees.
     let e = evaluator g.M.Scope.writable store c.args.below in
-    subst (λ (o : Outcome World (Unit {0})). IfCut c.read_step.result (GoesOn c.read_step.new.self.world (left_of o)))
+    subst (λ (o : StepEnd World (Unit {0})). IfCut c.read_step.result (GoesOn c.read_step.new.self.world (left_of o)))
     (sym (c.past_comments-at.ensures.same e c.args.self.now.world)) (c.read_step.ensures.cut store agrees)

@@ -1,6 +1,6 @@
 use Rattle.std.proofs.Common.{◌≡◌, drop, fold}
-use Rattle.kt_graph.specs.inner.nodes.Inputs.{with_number}
+use Rattle.kt_graph.specs.inner.nodes.Inputs.{with_input_number}
 use Rattle.kt_graph.proofs.nodes.inputs.add_all.Given as goal
 
 abbrev pub invariant-loop-number : goal.invariant-loop-number
-invariant-loop-number l = fold with_number l.set.keys (drop l.number-index l.numbers) ≡ fold with_number l.fn.set.keys l.numbers
+invariant-loop-number l = fold with_input_number l.set.keys (drop l.number-index l.numbers) ≡ fold with_input_number l.fn.set.keys l.numbers

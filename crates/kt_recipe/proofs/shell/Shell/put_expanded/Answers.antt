@@ -1,4 +1,4 @@
-use Rattle.kt_recipe.proofs.Common.{refl, err_from_is_err_and, Text, front_same, after_run, is_marked, pieces_of, expansion, put_line, put_pieces, command_in, setting_at}
+use Rattle.kt_recipe.proofs.Common.{refl, err_from_is_err_and, Text, front_same, after_run, ignores_failure, pieces_of_line, expansion, put_line, put_pieces, command_in, setting_at}
 use Rattle.kt_recipe.proofs.ShellLemmas.{put_pieces_front, stops_all}
 use Rattle.kt_recipe.proofs.shell.Shell.put_expanded.Goals as goal
 
@@ -13,5 +13,5 @@ returns-in_err-text c =
     let said = c.args.messages.now.items in
     rw (p.1, p.2)
     (stops_all _ _ c.in_err-text.field-0.0 said said c.expand.new.messages.items (expansion at (after_run line))
-    (λ (text : Text). put_pieces at (is_marked line) (pieces_of text) command) (put_line at line command)
-    (λ (text : Text). put_pieces_front at (is_marked line) (pieces_of text) command) (front_same said) refl told)
+    (λ (text : Text). put_pieces at (ignores_failure line) (pieces_of_line text) command) (put_line at line command)
+    (λ (text : Text). put_pieces_front at (ignores_failure line) (pieces_of_line text) command) (front_same said) refl told)

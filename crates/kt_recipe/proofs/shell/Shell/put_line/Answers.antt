@@ -1,5 +1,5 @@
 use Rattle.std.proofs.Common.{◌≡◌, true, rules, subst}
-use Rattle.kt_recipe.proofs.Common.{err_from_is_err_and, Text, after_run, CommandsOf, put_line, command_in, setting_at}
+use Rattle.kt_recipe.proofs.Common.{err_from_is_err_and, Text, after_run, Commands, put_line, command_in, setting_at}
 use Rattle.kt_recipe.specs.inner.Prepared.{IsFilled}
 use Rattle.kt_recipe.proofs.PieceLemmas.{says_expanded}
 use Rattle.kt_recipe.proofs.ShellLemmas.{out_of_memory, put_line_front}
@@ -20,7 +20,7 @@ returns-then-branch-clause-says c =
     let known : c.in_ok-fill.field-0 ≡ true = search rules in
     let filled = c.in_ok-fill.ensures.filled known in
     let told =
-    subst (λ (commands : CommandsOf). IsFilled commands (after_run line) shell.node.now shell.part c.fill.new.out.items) c.requires
+    subst (λ (commands : Commands). IsFilled commands (after_run line) shell.node.now shell.part c.fill.new.out.items) c.requires
     (rw (c.after_run-bare.ensures, c.as_slice.ensures) at filled) in
     let put = rw (c.is_marked-marked.ensures, c.as_slice-then-branch.ensures, c.as_slice-then-branch-2.ensures.value) at c.put_text.ensures in
     says_expanded _ at line c.fill.new.out.items (command_in c.args.command.now.items) c.put_text.result c.args.messages.now.items

@@ -1,5 +1,5 @@
 use Rattle.std.proofs.Common.{sym, ◌∙◌}
-use Rattle.kt_recipe.proofs.Common.{err_from_is_err_and, pieces_of, put_pieces, command_in, setting_at}
+use Rattle.kt_recipe.proofs.Common.{err_from_is_err_and, pieces_of_line, put_pieces, command_in, setting_at}
 use Rattle.kt_recipe.proofs.PieceLemmas.{says_one}
 use Rattle.kt_recipe.proofs.ShellLemmas.{out_of_memory, put_pieces_front}
 use Rattle.kt_recipe.proofs.shell.Shell.put_text.Goals as goal
@@ -16,5 +16,5 @@ returns-in_err-pieces c =
     let at = setting_at c.args.self.now c.args.place.now in
     let command = command_in c.args.command.now.items in
     rw (p.1, p.2)
-    (out_of_memory _ (put_pieces at c.args.marked (pieces_of c.args.text.now) command) c.args.messages.now.items
-    (put_pieces_front at c.args.marked (pieces_of c.args.text.now) command))
+    (out_of_memory _ (put_pieces at c.args.marked (pieces_of_line c.args.text.now) command) c.args.messages.now.items
+    (put_pieces_front at c.args.marked (pieces_of_line c.args.text.now) command))

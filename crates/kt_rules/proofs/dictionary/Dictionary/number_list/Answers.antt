@@ -1,5 +1,5 @@
 use Rattle.std.proofs.Common.{◌∙◌, List, ℕ, ap, subst}
-use Rattle.kt_rules.proofs.Common.{Text, with_name, place_of, Grows}
+use Rattle.kt_rules.proofs.Common.{Text, with_name, place_of, GrowsDictionary}
 use Rattle.kt_rules.proofs.DictionaryLemmas.{list_added, list_below, more_name}
 use Rattle.kt_rules.proofs.dictionary.Dictionary.number_list.Goals as goal
 
@@ -20,5 +20,5 @@ returns-clause-numbered c =
 
 pub returns-clause-grown : goal.returns-clause-grown
 returns-clause-grown c =
-    subst (λ (old : List Text × List (List ℕ)). Grows old (c.number_names.new.names, c.add.new.self)) c.self.view_is
+    subst (λ (old : List Text × List (List ℕ)). GrowsDictionary old (c.number_names.new.names, c.add.new.self)) c.self.view_is
     (c.in_ok-number_names.ensures.grown, more_name c.self.inside.lists c.add.new.self c.as_slice.result.now c.in_ok-number.ensures.added)

@@ -1,5 +1,5 @@
 use Rattle.std.proofs.Common.{sym}
-use Rattle.kt_syntax.specs.declared.step.Step.TheVariants as step
+use Rattle.kt_syntax.specs.declared.step.BlockStep.TheVariants as step
 use Rattle.kt_syntax.proofs.flat.Blocks.is_ordinary.Goals as goal
 
 pub returns-then-is_unput-clause-reads : goal.returns-then-is_unput-clause-reads

@@ -1,5 +1,5 @@
 use Rattle.std.proofs.Common.{◌≡◌, Some, ap, arith, sym, ◌∙◌}
-use Rattle.kt_syntax.specs.declared.step.Step.TheVariants as step
+use Rattle.kt_syntax.specs.declared.step.BlockStep.TheVariants as step
 use Rattle.kt_eval.proofs.lemmas.reading.CommentLemmas.{comment_passed, one_step}
 use Rattle.kt_eval.proofs.reading.page.Page.past_comments.Goals as goal
 

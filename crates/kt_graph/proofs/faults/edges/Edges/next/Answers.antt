@@ -1,5 +1,5 @@
 use Rattle.std.proofs.Common.{◌<◌, ◌∙◌, arith, length, sym}
-use Rattle.kt_graph.proofs.Common.{get_or_default, row_of, rows_held, stored_at}
+use Rattle.kt_graph.proofs.Common.{edge_row, get_or_default, rows_held, stored_at}
 use Rattle.kt_graph.proofs.lemmas.faults.EdgeLemmas.{row_after, row_in_front}
 use Rattle.kt_graph.proofs.faults.edges.Edges.next.Goals as goal
 
@@ -8,7 +8,7 @@ returns-then-vertex-len c =
     let nodes = c.args.self.now.nodes.now in
     let within : c.args.vertex < length nodes = omega arith in
     c.next_by.ensures
-    ∙ sym (row_in_front (row_of c.args.self.now.makings.items) nodes (rows_held c.args.self.now.rows.items) c.args.vertex (stored_at nodes c.args.vertex) within
+    ∙ sym (row_in_front (edge_row c.args.self.now.makings.items) nodes (rows_held c.args.self.now.rows.items) c.args.vertex (stored_at nodes c.args.vertex) within
     (get_or_default nodes c.args.vertex _ (stored_at nodes c.args.vertex) within))
 
 pub returns : goal.returns

@@ -1,5 +1,5 @@
 use Rattle.std.proofs.Common.{◌≡◌, ◌∙◌, List, Bor, ap, fold, subst}
-use Rattle.kt_graph.proofs.Common.{IfOk-weaker, Text, Rule, with_name, GraphBuilder, IsGraph, IsBegun, IsDone}
+use Rattle.kt_graph.proofs.Common.{IfOk-weaker, Text, Entry, with_name, GraphBuilder, IsGraph, IsBegun, IsDone}
 use Rattle.kt_graph.proofs.lemmas.nodes.BuilderLemmas.{done_numbers}
 use Rattle.kt_graph.proofs.nodes.graph.Graph.reached.Goals as goal
 
@@ -27,7 +27,7 @@ returns c =
     let self = c.build_all.new.self in
     let keys = self.numbers in
     let by_book : c.reach.new.self.book.now ≡ c.args.book.now
-    = ap (λ (s : GraphBuilder). s.book.now) reach ∙ ap (λ (b : Bor (List Rule)). b.now) start.0 in
+    = ap (λ (s : GraphBuilder). s.book.now) reach ∙ ap (λ (b : Bor (List Entry)). b.now) start.0 in
     let by_known : c.reach.new.self.known.now ≡ c.args.known.now
     = ap (λ (s : GraphBuilder). s.known.now) reach ∙ ap (λ (b : Bor (List Text)). b.now) start.1 in
     let done : IsDone c.args.book.now c.args.known.now goals keys self.instances.keys self.nodes
@@ -35,5 +35,5 @@ returns c =
     (subst (λ k. IsDone c.reach.new.self.book.now k goals keys self.instances.keys self.nodes) by_known
     (c.in_ok-build_all.ensures goals begun)) in
     IfOk-weaker c.whole.result
-    (λ graph. (rules : List Rule) (known others : List Text) → IsDone rules known others keys self.instances.keys self.nodes → IsGraph rules known others graph)
+    (λ graph. (rules : List Entry) (known others : List Text) → IsDone rules known others keys self.instances.keys self.nodes → IsGraph rules known others graph)
     (IsGraph c.args.book.now c.args.known.now goals) (λ graph h. h c.args.book.now c.args.known.now goals done) (rw c.new-table.ensures at c.whole.ensures)

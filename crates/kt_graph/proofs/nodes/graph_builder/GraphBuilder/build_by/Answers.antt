@@ -1,5 +1,5 @@
 use Rattle.std.proofs.Common.{arith, ◌∙◌, List, Some, map, subst, sym}
-use Rattle.kt_graph.proofs.Common.{on_ok_weaker, Text, Target, Rule, rule_view, suffixes_of, explicit_node, reached_text, BuildsNode, IsCut}
+use Rattle.kt_graph.proofs.Common.{on_ok_weaker, Text, Target, Entry, rule_view, suffixes_of, explicit_node, reached_text, BuildsNode, IsCut}
 use Rattle.kt_graph.proofs.lemmas.nodes.OfLemmas.{used_of}
 use Rattle.kt_graph.proofs.lemmas.nodes.StepLemmas.{double_with, single_with}
 use Rattle.kt_graph.proofs.nodes.graph_builder.GraphBuilder.build_by.Goals as goal
@@ -16,7 +16,7 @@ returns-in-Some c =
     let new = c.explicit_node.new.self in
     let same = single_with book c.args.self.now.known.now name made (Some (rule_view used.rule)) (sym c.has_double.ensures ∙ c.if-has_double.false) c.in-Some.ensures.0 in
     on_ok_weaker c.explicit_node.result
-    (λ (h : (rules : List (Rule × Target)) → IsCut rules used
+    (λ (h : (rules : List (Entry × Target)) → IsCut rules used
     → BuildsNode c.args.self.now (explicit_node (suffixes_of book) (rule_view used.rule).1.name rules (rule_view used.rule)) new).
     subst (λ n. BuildsNode c.args.self.now n new) same
     (subst (λ (n : Text). BuildsNode c.args.self.now (explicit_node (suffixes_of book) n made (rule_view used.rule)) new)

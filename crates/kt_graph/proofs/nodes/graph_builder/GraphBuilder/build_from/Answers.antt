@@ -1,5 +1,5 @@
 use Rattle.std.proofs.Common.{arith, ◌≡◌, ◌∷◌, ◌∙◌, [], ap, map, subst, sym}
-use Rattle.kt_graph.proofs.Common.{All-head, AreOf, Rule, Target, on_ok_weaker, Text, rule_view, suffixes_of, BuildsNode, sole_node, reached_text, node_with}
+use Rattle.kt_graph.proofs.Common.{All-head, AreOf, Entry, Target, on_ok_weaker, Text, rule_view, suffixes_of, BuildsNode, sole_node, reached_text, node_with}
 use Rattle.kt_graph.proofs.lemmas.nodes.InputLemmas.{one_alone}
 use Rattle.kt_graph.proofs.lemmas.nodes.LikeLemmas.{last_needs, sole_is}
 use Rattle.kt_graph.proofs.lemmas.nodes.OfLemmas.{explicit_of}
@@ -25,7 +25,7 @@ returns-then-is_like_last c =
     (λ (h : BuildsNode builder (sole_node (suffixes_of book) rule.1.name rule) new).
     subst (λ n. BuildsNode builder n new) (sym (ap (node_with book known name) only ∙ sole_is book known name rule like.recipe like.single))
     (subst (λ (n : Text). BuildsNode builder (sole_node (suffixes_of book) n rule) new)
-    (All-head (λ (made : Rule × Target). made.1.name ≡ name) rule [] (subst (AreOf name) only (explicit_of book name (map rule_view c.args.rules.now) c.requires.rules)))
+    (All-head (λ (made : Entry × Target). made.1.name ≡ name) rule [] (subst (AreOf name) only (explicit_of book name (map rule_view c.args.rules.now) c.requires.rules)))
     h)) c.node_like_last.ensures
 
 pub build_by-requires-clause-rules : goal.build_by-requires-clause-rules

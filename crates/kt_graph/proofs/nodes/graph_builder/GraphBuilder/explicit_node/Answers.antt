@@ -1,5 +1,5 @@
 use Rattle.std.proofs.Common.{◌∙◌, List, map, subst}
-use Rattle.kt_graph.proofs.Common.{on_ok_weaker, option_map, Text, Target, Rule, rule_view, suffixes_of, needs_view, Explicit, needing_view, single_node, group_of, other_rules, joined_needs, needs_after, part_of, needs_for, BuildsNode, instance_view}
+use Rattle.kt_graph.proofs.Common.{on_ok_weaker, option_map, Text, Target, Entry, rule_view, suffixes_of, needs_view, Explicit, needing_view, single_node, group_of, other_rules, joined_needs, needs_after, part_of, needs_for, BuildsNode, instance_view}
 use Rattle.kt_graph.proofs.lemmas.nodes.BuildingLemmas.{used_needs}
 use Rattle.kt_graph.proofs.lemmas.nodes.StepLemmas.{single_told}
 use Rattle.kt_graph.proofs.nodes.graph_builder.GraphBuilder.explicit_node.Goals as goal
@@ -11,7 +11,7 @@ returns c =
     let part = c.in_ok-part.part in
     let needing = c.after-needing.result in
     let making = option_map instance_view c.in_ok-making.making in
-    let given = λ (rules : List (Rule × Target)). needs_after (needs_for rule.0 rule.1) (joined_needs (other_rules rules)) in
+    let given = λ (rules : List (Entry × Target)). needs_after (needs_for rule.0 rule.1) (joined_needs (other_rules rules)) in
     on_ok_weaker c.hold.result
     (λ (h : (name : Text) → BuildsNode c.args.self.now (single_node name Explicit part (needing_view needing) making) c.hold.new.self) rules cut.
     subst (λ n. BuildsNode c.args.self.now n c.hold.new.self)

@@ -1,5 +1,5 @@
 use Rattle.std.proofs.Common.{◌∙◌, ap, map, subst, sym, take}
-use Rattle.kt_graph.proofs.Common.{Target, Rule, needs_for, rule_view, needed_as, rules_needs, AddsNumbers}
+use Rattle.kt_graph.proofs.Common.{Target, Entry, needs_for, rule_view, needed_as, rules_needs, AddsNumbers}
 use Rattle.kt_graph.proofs.lemmas.nodes.NumberLemmas.{adds_after, adds_none, taken_more}
 use Rattle.kt_graph.proofs.nodes.numbering.NameNumbers.add_rules.Goals as goal
 
@@ -20,5 +20,5 @@ loop-rule-preserved c =
     let told = c.needed_as.ensures ∙ ap (needed_as sort) c.needs.ensures in
     let step = subst (λ l. AddsNumbers c.loop-rule.self c.loop-rule.numbers.items l new more) told c.in_ok-add_names.ensures in
     subst (λ l. AddsNumbers old numbers l new more)
-    (sym (taken_more (λ (made : Rule × Target). needed_as sort (needs_for made.0 made.1)) rule_view rules i rule c.loop-rule-test.true c.rule-item.is))
+    (sym (taken_more (λ (made : Entry × Target). needed_as sort (needs_for made.0 made.1)) rule_view rules i rule c.loop-rule-test.true c.rule-item.is))
     (adds_after old c.loop-rule.self new (rules_needs sort (map rule_view (take i rules))) needed numbers c.loop-rule.numbers.items more c.loop-rule.invariant step)

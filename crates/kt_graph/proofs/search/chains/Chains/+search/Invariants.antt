@@ -1,7 +1,7 @@
 -- How deep in the chain a step is: a question is above the questions that it asks, each of which has one rule more. The
 -- loops: what remains to be asked and found from here is what was to be asked and found from the start.
 use Rattle.std.proofs.Common.{◌≡◌, ◌+◌, ◌-◌, ◌*◌, length, drop, is_some}
-use Rattle.kt_graph.proofs.Common.{find, list_all, asked_among, asked_for, asking, fitting, is_inferred, candidates_view}
+use Rattle.kt_graph.proofs.Common.{find, list_all, questions_among, questions_for, asking, fitting, is_inferred, candidates_view}
 use Rattle.kt_graph.proofs.lemmas.search.TurnLemmas.{IsAsking}
 use Rattle.kt_graph.proofs.search.chains.Chains.+search.Given as goal
 
@@ -29,7 +29,7 @@ invariant-all_found-loop-at l =
     let known = l.self.known.now in
     let deeper = fitting rules known l.left in
     record {
-      asks : IsAsking rules known l.fn.tried l.tried (length l.used) (asked_for deeper (asking rules known l.left) l.used l.names) (asked_for deeper (asking rules known l.left) l.used (drop l.at l.names));
+      asks : IsAsking rules known l.fn.tried l.tried (length l.used) (questions_for deeper (asking rules known l.left) l.used l.names) (questions_for deeper (asking rules known l.left) l.used (drop l.at l.names));
       finds : list_all (λ name. is_some (deeper l.used name)) (drop l.at l.names) ≡ list_all (λ name. is_some (deeper l.used name)) l.names;
     }
 
@@ -42,7 +42,7 @@ invariant-first_inferred-loop-at l =
     let known = l.self.known.now in
     let deeper = fitting rules known l.left in
     record {
-      asks : IsAsking rules known l.fn.tried l.tried (length l.used + 1) (asked_among known deeper (asking rules known l.left) l.used (candidates_view rules l.name l.candidates)) (asked_among known deeper (asking rules known l.left) l.used (candidates_view rules l.name (drop l.at l.candidates)));
+      asks : IsAsking rules known l.fn.tried l.tried (length l.used + 1) (questions_among known deeper (asking rules known l.left) l.used (candidates_view rules l.name l.candidates)) (questions_among known deeper (asking rules known l.left) l.used (candidates_view rules l.name (drop l.at l.candidates)));
       finds : find (is_inferred known deeper l.used) (candidates_view rules l.name (drop l.at l.candidates)) ≡ find (is_inferred known deeper l.used) (candidates_view rules l.name l.candidates);
     }
 

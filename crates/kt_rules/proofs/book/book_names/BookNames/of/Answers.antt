@@ -1,5 +1,5 @@
 use Rattle.std.proofs.Common.{arith, ◌≡◌, ◌∙◌, ◌∷◌, ◌+◌, ◌||◌, List, drop, ap, subst}
-use Rattle.kt_rules.proofs.Common.{flat_map, drop_all, Text, Rule, is_among, entry_view}
+use Rattle.kt_rules.proofs.Common.{flat_map, drop_all, Text, Entry, is_among, entry_view}
 use Rattle.kt_rules.specs.Known.{named_by}
 use Rattle.kt_rules.specs.inner.Marks.{is_marked}
 use Rattle.kt_rules.proofs.MarkLemmas.{IsMarkedFrom, marked_end, marked_start, marked_step}
@@ -34,7 +34,7 @@ loop-place-preserved c =
       | in-None w ↦
           rw w.marks-is (record {
             marked = subst (λ (left : List Text). IsMarkedFrom names (named rules) left old now)
-                (ap (λ (rules : List Rule). named rules) (rules_past rules place w.in-None.ensures.told)) c.loop-place.invariant.marked;
+                (ap (λ (rules : List Entry). named rules) (rules_past rules place w.in-None.ensures.told)) c.loop-place.invariant.marked;
             many = c.loop-place.invariant.many;
           })
     ]

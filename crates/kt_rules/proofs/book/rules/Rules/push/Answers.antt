@@ -1,5 +1,5 @@
 use Rattle.std.proofs.Common.{◌∙◌, ◌++◌, ◌∷◌, [], List, option_map, refl, unwrap_or, subst, sym, ap}
-use Rattle.kt_rules.proofs.Common.{is_some-map, Text, on_err, RecipeLine, Rule, AreHeld, AreRuleNumbers, rules_held}
+use Rattle.kt_rules.proofs.Common.{is_some-map, Text, on_err, RecipeLine, Entry, AreHeld, AreRuleNumbers, rules_held}
 use Rattle.kt_rules.proofs.HeldLemmas.{grown_held, grown_rules, pushed_held, pushed_rule}
 use Rattle.kt_rules.specs.declared.book.row.Row.{Row}
 use Rattle.kt_rules.proofs.book.rules.Rules.push.Goals as goal
@@ -18,7 +18,7 @@ returns-in_err-numbers-clause-refused c =
     on_err c.from_residual-in_err-numbers.result
     ((λ j. rules_held new held.lines (c.in_ok-reserve.ensures.items j))
     ∙ grown_rules held.dictionary new held.lines held.rows.items held.kinds held.last c.in_err-numbers.ensures.grown c.self.invariant
-    ∙ ap (λ (both : List Text × List Rule). both.1) c.self.view_is)
+    ∙ ap (λ (both : List Text × List Entry). both.1) c.self.view_is)
 
 pub invariant_of-self-in_err-add_lines : goal.invariant_of-self-in_err-add_lines
 invariant_of-self-in_err-add_lines c =
@@ -35,7 +35,7 @@ returns-in_err-add_lines-clause-refused c =
     on_err c.from_residual-in_err-add_lines.result
     ((λ j. rules_held new (c.in_err-add_lines.ensures.refused j) (c.in_ok-reserve.ensures.items j))
     ∙ grown_rules held.dictionary new held.lines held.rows.items held.kinds held.last c.in_ok-numbers.ensures.grown c.self.invariant
-    ∙ ap (λ (both : List Text × List Rule). both.1) c.self.view_is)
+    ∙ ap (λ (both : List Text × List Entry). both.1) c.self.view_is)
 
 pub invariant_of-self-2 : goal.invariant_of-self-2
 invariant_of-self-2 c =
@@ -64,4 +64,4 @@ returns-clause-pushed c =
     (subst (λ (targets : List Text). AreRuleNumbers new targets entry.pattern entry.needs numbers) c.as_slice.ensures (c.in_ok-numbers.ensures.numbered c.self.invariant.remembered))
     c.in_ok-add_lines.ensures.added (c.push_reserved.ensures.items ∙ (λ j. c.in_ok-reserve.ensures.items j ++ row ∷ []))
     recipe (c.is_some-has_recipe.ensures ∙ sym (is_some-map (λ own. own.items) entry.recipe)) refl
-    ∙ (λ j. ap (λ (both : List Text × List Rule). both.1) c.self.view_is j ++ c.entry.view_is j ∷ [])
+    ∙ (λ j. ap (λ (both : List Text × List Entry). both.1) c.self.view_is j ++ c.entry.view_is j ∷ [])

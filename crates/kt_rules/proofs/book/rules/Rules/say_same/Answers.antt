@@ -1,5 +1,5 @@
 use Rattle.std.proofs.Common.{slice_get}
-use Rattle.kt_rules.proofs.Common.{Option, Some, [], get_or, rules, subst, Rule, rule_held}
+use Rattle.kt_rules.proofs.Common.{Option, Some, [], get_or, rules, subst, Entry, rule_held}
 use Rattle.kt_rules.specs.inner.Alike.{SaySame}
 use Rattle.kt_rules.proofs.AlikeLemmas.{same_listed}
 use Rattle.kt_rules.proofs.HeldLemmas.{rule_told}
@@ -14,6 +14,6 @@ returns-in-Some-held_at c = λ same.
     let lines = get_or held.lines c.args.other [] in
     let first = rule_told c.args.self.now held.dictionary held.lines held.rows.items c.args.place (Some one) c.self.view_is c.self.invariant.many (search rules) in
     let second = rule_told c.args.self.now held.dictionary held.lines held.rows.items c.args.other (Some two) c.self.view_is c.self.invariant.many (search rules) in
-    subst (λ (rule : Option Rule). SaySame (slice_get c.args.self.now.1 c.args.place) rule) second
-    (subst (λ (rule : Option Rule). SaySame rule (Some (rule_held held.dictionary lines two))) first
+    subst (λ (rule : Option Entry). SaySame (slice_get c.args.self.now.1 c.args.place) rule) second
+    (subst (λ (rule : Option Entry). SaySame rule (Some (rule_held held.dictionary lines two))) first
     (same_listed held.dictionary own lines one two (c.have_same_needs.ensures same)))

@@ -1,5 +1,0 @@
-use Rattle.kt_graph.proofs.Common.{All, take, LeadsBack}
-use Rattle.kt_graph.proofs.faults.cycles.Left.first_back.Given as goal
-
-abbrev pub invariant-loop-vertex : goal.invariant-loop-vertex
-invariant-loop-vertex l = All (λ vertex. ¬ LeadsBack l.edges vertex) (take l.vertex-index l.order)

@@ -1,5 +1,0 @@
-use Rattle.kt_graph.proofs.Common.{take, HasAll}
-use Rattle.kt_graph.proofs.search.ends.Ends.found.Given as goal
-
-abbrev pub invariant-loop-length : goal.invariant-loop-length
-invariant-loop-length l = HasAll l.self l.name (take l.length-index l.length-items) l.found.items
