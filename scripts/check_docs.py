@@ -12,6 +12,7 @@ What is checked:
   specs      each definition that a document names as specs/.. is there, in one of the crates; in docs/PROOFS.md in
              the crate of its section
   walk       the functions, types, definitions and modules that docs/DESIGN.md names stand where it says
+  names      no name of the definitions or the types of code has two meanings
   crates     crates.txt and the table of crates in docs/DESIGN.md say of each crate that it stands on the same ones
   lines      no line of a document has more than 120 columns, but in tables and output
   examples   each block of README.md, example/README.md and docs/USING.md that begins with ```console is run, in a copy
@@ -48,6 +49,7 @@ from pathlib import Path
 sys.dont_write_bytecode = True
 import crates_stated
 import definitions_stated
+import names_stated
 import options_stated
 import tested_calls
 import tricks_stated
@@ -271,6 +273,11 @@ def check_walk(place, report):
     report.check(not missing, "docs/DESIGN.md names what isn't there:", *missing)
 
 
+def check_names(place, report):
+    twice = list(names_stated.doubled(place.root))
+    report.check(not twice, "names with two meanings, and where they stand:", *twice)
+
+
 def check_crates(place, report):
     differ = list(crates_stated.differing(place.root))
     report.check(not differ, "crates.txt and docs/DESIGN.md say otherwise what a crate stands on:", *differ)
@@ -408,9 +415,9 @@ def check_tricks(place, report):
 
 
 CHECKS = {"options": check_options, "faults": check_faults, "cases": check_cases, "calls": check_calls,
-          "files": check_files, "specs": check_specs, "walk": check_walk, "crates": check_crates, "lines": check_lines,
-          "examples": check_examples, "scripts": check_scripts, "gate": check_gate, "picture": check_picture,
-          "tricks": check_tricks}
+          "files": check_files, "specs": check_specs, "walk": check_walk, "names": check_names, "crates": check_crates,
+          "lines": check_lines, "examples": check_examples, "scripts": check_scripts, "gate": check_gate,
+          "picture": check_picture, "tricks": check_tricks}
 
 
 class Parser(argparse.ArgumentParser):

@@ -21,7 +21,7 @@ class Spoiling(unittest.TestCase):
     def setUpClass(cls):
         cls.whole = Path(tempfile.mkdtemp(prefix="kati-test-"))
         cls.addClassCleanup(shutil.rmtree, cls.whole)
-        left_out = shutil.ignore_patterns("out", ".git", "__pycache__", "proofs", "*.edit")
+        left_out = shutil.ignore_patterns("out", ".git", "__pycache__", "*.edit")
         shutil.copytree(ROOT, cls.whole / "as_it_is", symlinks=True, ignore=left_out)
 
     def setUp(self):
@@ -49,8 +49,8 @@ class Spoiling(unittest.TestCase):
         return done.stdout
 
     def test_as_it_is(self):
-        self.check("options", "cases", "calls", "files", "specs", "walk", "crates", "lines", "gate", "picture",
-                   "tricks", failed=0)
+        self.check("options", "cases", "calls", "files", "specs", "walk", "names", "crates", "lines", "gate",
+                   "picture", "tricks", failed=0)
 
     def test_an_option_that_only_the_code_has(self):
         self.spoil("crates/kati_args/src/command.rt", '.long("depth")', '.long("deep")')
@@ -127,6 +127,15 @@ class Spoiling(unittest.TestCase):
                                ("- **kt_text**: `Words`;", "- **kt_text**: `Wordz`;", "Wordz of kt_text")):
             self.spoil("docs/DESIGN.md", old, new)
             self.assertIn(f"    {said}\n", self.check("walk", failed=1))
+
+    def test_names_with_two_meanings(self):
+        for name, old, new, said in (
+                ("crates/kt_syntax/specs/Terms.antt", "pub byte_count :", "pub place_of :", "place_of: kt_list"),
+                ("crates/kati_args/src/args.rt", "struct MacroWord", "struct LineText", "LineText: kati_args src/args"),
+                ("crates/kt_eval/specs/expanding/Calls.antt", "pub data Request :", "pub data Joint :",
+                 "Joint: kt_eval specs/expanding/Calls.antt, kt_syntax src/recipe.rt")):
+            self.spoil(name, old, new)
+            self.assertIn(f"    {said}", self.check("names", failed=1))
 
     def test_a_crate_that_stands_on_another_one(self):
         self.spoil("crates.txt", "kati_args: kt_list kt_text clap", "kati_args: kt_text kt_list kt_rules clap")
