@@ -59,4 +59,4 @@ pub use Rattle.std.specs.Ordering.{is_eq, is_lt, nat_cmp, ordering_reverse}
 pub use Rattle.std.specs.Str.{bytes_eq}
 pub use Rattle.std.specs.declared.cmp.Ordering.{Ordering}
 pub use Rattle.std.specs.declared.cmp.Ordering.TheVariants.{Equal, Greater, Less}
-pub use Rattle.kati.specs.Prelude.{AllPairs, Args, ComesFirst, Contains, Devices, Entry, Fault, FilesSeen, Gave, GrowsByFront, IsMade, IsSoundGraph, IsWritable, Macros, Makefile, Node, Obstacle, Plan, Reaches, Rises, RunFault, ShareInputs, SinkSeen, Statement, Status, StepEnd, StepOver, Store, Takes, Text, Trace, Trouble, always_name, bad_command, bad_name, fault_at, fault_number, fault_words, groups_of, is_reserved, known_names, leaving, left_of, list_any, look, obstacle_of_statements, outputs, predefined, read_of, slice_range, traced}
+pub use Rattle.kati.specs.Prelude.{AllPairs, Args, ComesFirst, Contains, Devices, Entry, Fault, FilesSeen, Gave, GrowsByFront, IsMade, IsSoundGraph, IsWritable, Macros, Makefile, Node, Obstacle, Plan, Reaches, Rises, RunFault, ShareInputs, SinkSeen, Statement, Status, StepEnd, StepOver, Store, Takes, Text, Trace, Trouble, always_name, bad_command, bad_name, fault_at, trouble_number, trouble_words, groups_of, is_reserved, known_names, leaving, left_of, list_any, look, obstacle_of_statements, outputs, predefined, read_of, slice_range, traced}

@@ -1,6 +1,6 @@
 -- Each run has a meaning: the result of its goals can be decided, since the names that they may need are in a list.
 use Rattle.std.proofs.Common.{arith, ◌≡◌, ◌⊎◌, ℕ, Bool, true, false, List, [], ◌∷◌, ◌++◌, map, filter, find, flat_map, Option, Some, None, refl, sym, ap, subst, ⊎_elim, inl, inr}
-use Rattle.kati.proofs.Common.{Contains, list_any, IsStrictlySortedBy, nat_cmp, slice_cmp, Text, word_set, Entry, IsSoundGraph, fault_number, fault_words, is_one_making, Instance, Node, all_inputs, node_of, is_reserved, AreOneMaking, ComesFirst, HasEdge, HasInput, IsCyclic, IsFirst, IsGraph, IsInGroup, IsReached, Leads, Reaches, Trouble, beside, itself, circular, no_rule, one_file, reserved_name, unmade_goal, first_or_rest, from_flat_map, in_first, in_flat_map, in_rest, reached_on, node_name, comes_first, file_trouble, in_filter, kept_by_filter, is_reserved_there, none_below, group_cases, Trace, traced, Gave, StepEnd, Stopped, fault_at, Meaning, MeansAfter, MeansGoals, WantedGoals, meaning_of, prepared, planned}
+use Rattle.kati.proofs.Common.{Contains, list_any, IsStrictlySortedBy, nat_cmp, slice_cmp, Text, word_set, Entry, IsSoundGraph, trouble_number, trouble_words, is_one_making, Instance, Node, all_inputs, node_of, is_reserved, AreOneMaking, ComesFirst, HasEdge, HasInput, IsCyclic, IsFirst, IsGraph, IsInGroup, IsReached, Leads, Reaches, Trouble, beside, itself, circular, no_rule, one_file, reserved_name, unmade_goal, first_or_rest, from_flat_map, in_first, in_flat_map, in_rest, reached_on, node_name, comes_first, file_trouble, in_filter, kept_by_filter, is_reserved_there, none_below, group_cases, Trace, traced, Gave, StepEnd, Stopped, fault_at, Meaning, MeansAfter, MeansGoals, WantedGoals, meaning_of, prepared, planned}
 use Rattle.kt_text.proofs.SortLemmas.{word_set-sorts}
 use Rattle.kt_graph.specs.inner.faults.Files.{is_repeated, made_names}
 use Rattle.kt_graph.proofs.lemmas.nodes.GroupLemmas.{one_itself}
@@ -173,7 +173,7 @@ goals_come_to rules known goals = comes_to_in rules known goals _ (closed_names 
 
 goals_mean : (limit : ℕ) (want : WantedGoals) (trace : Trace) → ComesTo want.read.book want.known want.goals → (m : Meaning) × MeansGoals limit want trace m
 goals_mean limit want trace (inl found) = (
-  meaning_of (Stopped trace (fault_at None (fault_number found.0) (fault_words found.0))),
+  meaning_of (Stopped trace (fault_at None (trouble_number found.0) (trouble_words found.0))),
   inr (record { trouble = found.0; first = found.1; means = refl }),
 )
 goals_mean limit want trace (inr found) = (

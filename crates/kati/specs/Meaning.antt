@@ -1,7 +1,7 @@
 -- What a run means: its messages, its plan or its first fault, and the names that it asks for (kati's own).
 use Rattle.std.specs.Prelude.{◌≡◌, ℕ, List, [], Some, None, ◌⊎◌, Result, Ok, Err}
 use Rattle.kati.specs.Prelude.{Text, Fault, Store, Makefile, Trace, traced, fault_at, known_names, Node, Trouble}
-use Rattle.kati.specs.Prelude.{ComesFirst, IsSoundGraph, fault_number, fault_words, Plan, Args}
+use Rattle.kati.specs.Prelude.{ComesFirst, IsSoundGraph, trouble_number, trouble_words, Plan, Args}
 use Rattle.kt_eval.specs.Outcome.{StepEnd, Gave, Stopped, StepOver, ◌>>=◌, done, left_of}
 use Rattle.kati.specs.Steps.{telling}
 use Rattle.kati.specs.Listing.{listed}
@@ -48,7 +48,7 @@ pub record MeansPlan (limit : ℕ) (want : WantedGoals) (trace : Trace) (m : Mea
 pub record MeansTrouble (want : WantedGoals) (trace : Trace) (m : Meaning) : Type 0 where
   pub trouble : Trouble
   pub first : ComesFirst want.read.book want.known want.goals (Some trouble)
-  pub means : m ≡ meaning_of (Stopped trace (fault_at None (fault_number trouble) (fault_words trouble)))
+  pub means : m ≡ meaning_of (Stopped trace (fault_at None (trouble_number trouble) (trouble_words trouble)))
 
 abbrev pub MeansGoals : ℕ → WantedGoals → Trace → Meaning → Type 0
 MeansGoals limit want trace m = MeansPlan limit want trace m ⊎ MeansTrouble want trace m

@@ -14,7 +14,7 @@ pub use Rattle.kt_eval.specs.macros.Macros.{Macros, put}
 pub use Rattle.kt_eval.specs.reading.Machine.{Makefile, Trace, predefined, read_of, reading, traced}
 pub use Rattle.kt_graph.specs.Known.{known_names}
 pub use Rattle.kt_graph.specs.Reach.{ComesFirst, IsMade, Reaches, Trouble}
-pub use Rattle.kt_graph.specs.faults.Faults.{IsSoundGraph, fault_number, fault_words}
+pub use Rattle.kt_graph.specs.faults.Faults.{IsSoundGraph, trouble_number, trouble_words}
 pub use Rattle.kt_graph.specs.faults.Paths.{always_name, canon_of, is_reserved}
 pub use Rattle.kt_graph.specs.nodes.Groups.{ShareInputs, groups_of}
 pub use Rattle.kt_graph.specs.nodes.Node.{Node, inputs_of, order_only_of}

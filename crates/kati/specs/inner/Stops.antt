@@ -1,6 +1,6 @@
 -- What a step returns that stops (kati's own).
 use Rattle.std.specs.Prelude.{◌≡◌, List, None, Some}
-use Rattle.kati.specs.Prelude.{Text, Entry, fault_number, fault_words, ComesFirst, Trouble, Fault, fault_at}
+use Rattle.kati.specs.Prelude.{Text, Entry, trouble_number, trouble_words, ComesFirst, Trouble, Fault, fault_at}
 use Rattle.kt_graph.specs.declared.faults.fault.GraphFault.{GraphFault}
 use Rattle.kt_graph.specs.declared.faults.fault.GraphFault.TheVariants as graphs
 use Rattle.kt_eval.specs.declared.stop.Stop.{Stop}
@@ -21,6 +21,6 @@ IsStopOf (graphs.Refused number words) stop = stop ≡ stops.Fault (fault_at Non
 abbrev pub IsFirstStop : List Entry → List Text → List Text → Stop → Type 0
 IsFirstStop rules known goals (stops.Fault fault) =
     (trouble : Trouble) × ComesFirst rules known goals (Some trouble)
-    × (fault ≡ fault_at None (fault_number trouble) (fault_words trouble))
+    × (fault ≡ fault_at None (trouble_number trouble) (trouble_words trouble))
 IsFirstStop rules known goals (stops.Device name) = ⊥
 IsFirstStop rules known goals stops.Memory = Unit {0}

@@ -12,23 +12,23 @@ use Rattle.kt_graph.specs.Reach.{Trouble, no_rule, circular, reserved_name, one_
 use Rattle.kt_graph.specs.Reach.{IsGraph, IsReserved}
 
 -- the kind of the fault, and the name in its message, which is empty if the message has none
-abbrev pub kind_and_name : Trouble → FaultKind × Text
-kind_and_name (no_rule goal) = (kind.NoRule, goal)
-kind_and_name (circular name) = (kind.Circular, name)
-kind_and_name reserved_name = (kind.ReservedName, [])
-kind_and_name (one_file name) = (kind.TwoTargetsOfOneFile, name)
+abbrev pub trouble_kind_and_name : Trouble → FaultKind × Text
+trouble_kind_and_name (no_rule goal) = (kind.NoRule, goal)
+trouble_kind_and_name (circular name) = (kind.Circular, name)
+trouble_kind_and_name reserved_name = (kind.ReservedName, [])
+trouble_kind_and_name (one_file name) = (kind.TwoTargetsOfOneFile, name)
 
 -- the number and message of the fault
-abbrev pub fault_number : Trouble → ℕ
-fault_number trouble = fault_kind_number (kind_and_name trouble).0
+abbrev pub trouble_number : Trouble → ℕ
+trouble_number trouble = fault_kind_number (trouble_kind_and_name trouble).0
 
-abbrev pub fault_words : Trouble → Text
-fault_words trouble = let told = kind_and_name trouble in words_with told.0 told.1
+abbrev pub trouble_words : Trouble → Text
+trouble_words trouble = let told = trouble_kind_and_name trouble in words_with told.0 told.1
 
 -- the call returns exactly this fault, or runs out of memory, which is always allowed
 abbrev pub ReportsTrouble : GraphFault → Trouble → Type 0
 ReportsTrouble Memory trouble = Unit {0}
-ReportsTrouble (Refused number words) trouble = (number ≡ fault_number trouble) × (words ≡ fault_words trouble)
+ReportsTrouble (Refused number words) trouble = (number ≡ trouble_number trouble) × (words ≡ trouble_words trouble)
 
 -- the first trouble is reported
 abbrev pub ReportsFirst : List Entry → List Text → List Text → GraphFault → Type 0

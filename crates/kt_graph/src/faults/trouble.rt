@@ -1,6 +1,6 @@
 //! What is wrong with the names that goals need; a trouble needs no memory.
 ghost use Rattle.std.specs.Prelude.{◌≡◌};
-ghost use Rattle.kt_graph.specs.faults.Faults.{ReportsTrouble, kind_and_name, trouble_view};
+ghost use Rattle.kt_graph.specs.faults.Faults.{ReportsTrouble, trouble_kind_and_name, trouble_view};
 
 use crate::faults::fault::GraphFault;
 use kt_list::Sequence;
@@ -37,7 +37,7 @@ impl<'g> Trouble<'g> {
 
     // The kind of the fault, and the name in its message, which is empty if the message has none.
     fn kind_and_name(self) -> (FaultKind, &'g [u8])
-        ensures { (result.0, result.1.now) ≡ kind_and_name (trouble_view self.entry) }
+        ensures { (result.0, result.1.now) ≡ trouble_kind_and_name (trouble_view self.entry) }
     {
         match self {
             Trouble::NoRule(goal) => (FaultKind::NoRule, goal),

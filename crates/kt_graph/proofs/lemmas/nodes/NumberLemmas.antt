@@ -55,7 +55,8 @@ parts_push names name (first ∷ expected) (other ∷ parts) one part h last = (
 -- one more part after others
 pub parts_more : (names new needed : List Text) (name : Text) (expected : List Part) (parts : List StoredPart) (one : Part) (part : StoredPart) → new ≡ fold with_name names needed
     → SayParts names name expected parts → SaysPart new name one part → SayParts new name (expected ++ one ∷ []) (parts ++ part ∷ [])
-parts_more names new needed name expected parts one part grown h last = grind (arith, parts_push, parts_kept)
+parts_more names new needed name expected parts one part grown h last =
+    parts_push new name expected parts one part (subst (λ l. SayParts l name expected parts) (sym grown) (parts_kept names needed name expected parts h)) last
 
 -- ---- steps
 
