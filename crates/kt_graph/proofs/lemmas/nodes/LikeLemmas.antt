@@ -27,7 +27,11 @@ stand_reached names (name ∷ expected) (number ∷ numbers) h =
 
 needs_reached : (names : List Text) (needs : Needs) (first second : List ℕ) → SaysNeeds names needs first second
     → fold with_name names (all_needs needs ++ []) ≡ names
-needs_reached names needs first second h = grind (arith, append-nil, fold-append, stand_reached)
+needs_reached names needs first second h =
+    ap (fold with_name names) (append-nil (all_needs needs))
+    ∙ fold-append with_name names needs.prerequisites needs.order_only
+    ∙ ap (λ (l : List Text). fold with_name l needs.order_only) (stand_reached names needs.prerequisites first h.prerequisites)
+    ∙ stand_reached names needs.order_only second h.order_only
 
 -- ---- one rule with a recipe
 

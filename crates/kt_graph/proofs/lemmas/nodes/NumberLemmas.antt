@@ -26,7 +26,10 @@ stand_more names new earlier name numbers number grown at h =
 
 needs_kept : (names needed : List Text) (expected : Needs) (first second : List ℕ) → SaysNeeds names expected first second
     → SaysNeeds (fold with_name names needed) expected first second
-needs_kept names needed expected first second h = grind (arith, stand_kept)
+needs_kept names needed expected first second h = record {
+  prerequisites = stand_kept names needed expected.prerequisites first h.prerequisites;
+  order_only = stand_kept names needed expected.order_only second h.order_only;
+}
 
 part_kept : (names needed : List Text) (name : Text) (expected : Part) (part : StoredPart) → SaysPart names name expected part
     → SaysPart (fold with_name names needed) name expected part
