@@ -13,7 +13,7 @@ use Rattle.kt_eval.proofs.evaluation.Evaluation.+evaluate.Goals as goal
 pub read_conditional-returns-then-branch-clause-goes_on :
     goal.read_conditional-returns-then-branch-clause-goes_on
 read_conditional-returns-then-branch-clause-goes_on g t c = λ store agrees.
-    let e = evaluator g.M.Scope.writable store c.args.below in
+    let e = evaluator g.M.MacroScope.writable store c.args.below in
     rw c.past.ensures
     (first_taken e c.args.page.now c.args.page.now.blocks.steps c.args.place c.args.next c.args.after c.args.self.now.world c.branch_holds.new.self.world
     c.requires.reads (c.in_ok-branch_holds.ensures.gives store agrees ∙ ap (λ b. Gave c.branch_holds.new.self.world b) c.if-branch.true))
@@ -21,7 +21,7 @@ read_conditional-returns-then-branch-clause-goes_on g t c = λ store agrees.
 pub put_term-returns-in-Nothing : goal.put_term-returns-in-Nothing
 put_term-returns-in-Nothing g t c = record {
   gives = λ store agrees.
-      put_gives g.M.Scope.writable store c.args.below c.args.out.now.items c.put_plain.new.out.items (token_of c.args.term) c.args.self.now.world
+      put_gives g.M.MacroScope.writable store c.args.below c.args.out.now.items c.put_plain.new.out.items (token_of c.args.term) c.args.self.now.world
       (sym c.in-Nothing.is ∙ c.in_ok-put_plain.ensures.left) c.in_ok-put_plain.ensures.put;
   cut = λ store agrees. tt;
   kept = search rules;
@@ -34,7 +34,7 @@ put_term-returns-in_err-x-in-Value g t c =
     let h = rw c.as_slice.ensures at c.in_err-x-in-Value.ensures.gives in
     let k = rw c.as_slice.ensures at c.in_err-x-in-Value.ensures.cut in
     let early = λ (store : Store) (agrees : AgreeWith store c.expand.new.self.answers).
-    (value_fails g.M.Scope.writable store c.args.below c.in_err-x-in-Value.field-0.0 c.args.out.now.items c.in-Value.value (token_of c.args.term) c.args.self.now.world c.expand.new.self.world
+    (value_fails g.M.MacroScope.writable store c.args.below c.in_err-x-in-Value.field-0.0 c.args.out.now.items c.in-Value.value (token_of c.args.term) c.args.self.now.world c.expand.new.self.world
     (sym c.in-Value.is ∙ c.in_ok-put_plain.ensures.left) (h store agrees, k store agrees)) in
     record {
       gives = λ store agrees. rw (p.1, p.2) (early store agrees).0;
@@ -50,7 +50,7 @@ put_term-returns-in_err-extend_from_slice-in-Value g t c =
     record {
       gives = λ store agrees. rw (p.1, p.2) tt;
       cut = λ store agrees. rw (p.1, p.2)
-          (value_front g.M.Scope.writable store c.args.below c.args.out.now.items c.in_ok-x-in-Value.x.items c.in-Value.value (token_of c.args.term) c.args.self.now.world c.expand.new.self.world
+          (value_front g.M.MacroScope.writable store c.args.below c.args.out.now.items c.in_ok-x-in-Value.x.items c.in-Value.value (token_of c.args.term) c.args.self.now.world c.expand.new.self.world
           (sym c.in-Value.is ∙ c.in_ok-put_plain.ensures.left) (h store agrees));
       kept = search rules;
       blames = search rules;
@@ -61,7 +61,7 @@ put_term-returns-in_ok-extend_from_slice-in-Value g t c =
     let h = rw c.as_slice.ensures at c.in_ok-x-in-Value.ensures.gives in
     record {
       gives = λ store agrees.
-          value_gives g.M.Scope.writable store c.args.below c.args.out.now.items c.put_plain.new.out.items c.extend_from_slice.new.self.items c.in_ok-x-in-Value.x.items c.in-Value.value (token_of c.args.term) c.args.self.now.world c.expand.new.self.world
+          value_gives g.M.MacroScope.writable store c.args.below c.args.out.now.items c.put_plain.new.out.items c.extend_from_slice.new.self.items c.in_ok-x-in-Value.x.items c.in-Value.value (token_of c.args.term) c.args.self.now.world c.expand.new.self.world
           (sym c.in-Value.is ∙ c.in_ok-put_plain.ensures.left) c.in_ok-put_plain.ensures.put (h store agrees)
           (rw c.deref.ensures.value at c.in_ok-extend_from_slice-in-Value.ensures.items);
       cut = λ store agrees. tt;
@@ -72,7 +72,7 @@ put_term-returns-in_ok-extend_from_slice-in-Value g t c =
 pub put_term-returns-in_ok-extend_from_slice-in-Whole : goal.put_term-returns-in_ok-extend_from_slice-in-Whole
 put_term-returns-in_ok-extend_from_slice-in-Whole g t c = record {
   gives = λ store agrees.
-      whole_gives g.M.Scope.writable store c.args.below c.args.out.now.items c.put_plain.new.out.items c.extend_from_slice-in-Whole.new.self.items c.in_ok-x-in-Whole.x.items (token_of c.args.term) c.args.self.now.world c.expand_term.new.self.world
+      whole_gives g.M.MacroScope.writable store c.args.below c.args.out.now.items c.put_plain.new.out.items c.extend_from_slice-in-Whole.new.self.items c.in_ok-x-in-Whole.x.items (token_of c.args.term) c.args.self.now.world c.expand_term.new.self.world
       (sym c.in-Whole.is ∙ c.in_ok-put_plain.ensures.left) c.in_ok-put_plain.ensures.put (c.in_ok-x-in-Whole.ensures.gives store agrees)
       (rw c.deref-in-Whole.ensures.value at c.in_ok-extend_from_slice-in-Whole.ensures.items);
   cut = λ store agrees. tt;
@@ -88,7 +88,7 @@ expand_here-returns-in_err-put_term g t c =
     let k = c.in_err-put_term.ensures.cut in
     let early = λ (store : Store) (agrees : AgreeWith store c.put_term.new.self.answers).
     (subst (λ (o : StepEnd World Text). Early c.in_err-put_term.field-0.0 c.put_term.new.self.world o) (c.terms.invariant.rest store (omega (arith, c.in_err-put_term.ensures.kept.0 store)))
-    (term_fails g.M.Scope.writable store c.args.below c.in_err-put_term.field-0.0 c.terms.out.items (token_of c.in-Some.term) c.terms.rest c.next.new.self c.terms.self.world c.put_term.new.self.world c.in-Some.ensures.steps (h store agrees, k store agrees))) in
+    (term_fails g.M.MacroScope.writable store c.args.below c.in_err-put_term.field-0.0 c.terms.out.items (token_of c.in-Some.term) c.terms.rest c.next.new.self c.terms.self.world c.put_term.new.self.world c.in-Some.ensures.steps (h store agrees, k store agrees))) in
     record {
       gives = λ store agrees. rw (p.1, p.2) (early store agrees).0;
       cut = λ store agrees. rw (p.1, p.2) (early store agrees).1;
@@ -103,7 +103,7 @@ expand_here-terms-preserved g t c =
       kept = search rules;
       unfailed = search rules;
       rest = λ store agrees.
-          sym (term_gives g.M.Scope.writable store c.args.below c.terms.out.items c.put_term.new.out.items (token_of c.in-Some.term) c.terms.rest c.next.new.self c.terms.self.world c.put_term.new.self.world c.in-Some.ensures.steps (h store agrees))
+          sym (term_gives g.M.MacroScope.writable store c.args.below c.terms.out.items c.put_term.new.out.items (token_of c.in-Some.term) c.terms.rest c.next.new.self c.terms.self.world c.put_term.new.self.world c.in-Some.ensures.steps (h store agrees))
           ∙ c.terms.invariant.rest store (omega (arith, c.in_ok-put_term.ensures.kept.0 store));
     }
 
@@ -113,7 +113,7 @@ value_of-returns-in-None g t c =
     let text : c.put_value.new.out.items ≡ put_of c.args.below found = search rules in
     record {
       gives = λ store agrees.
-          value_put g.M.Scope.writable store c.args.below found c.args.self.now.world (sym c.in-None.is ∙ c.in_ok-put_value.ensures.left)
+          value_put g.M.MacroScope.writable store c.args.below found c.args.self.now.world (sym c.in-None.is ∙ c.in_ok-put_value.ensures.left)
           ∙ ap (λ t. Gave c.args.self.now.world t) (sym text);
       cut = λ store agrees. tt;
       kept = search rules;
@@ -125,7 +125,7 @@ value_of-returns-in-Some g t c =
     let h = rw c.as_slice.ensures at c.expand.ensures.gives in
     let k = rw c.as_slice.ensures at c.expand.ensures.cut in
     let is = λ (store : Store) (agrees : AgreeWith store c.expand.new.self.answers).
-    (value_expanded g.M.Scope.writable store c.args.below (lookup c.args.name.now c.args.self.now.world) c.in-Some.value c.args.self.now.world (sym c.in-Some.is ∙ c.in_ok-put_value.ensures.left)) in
+    (value_expanded g.M.MacroScope.writable store c.args.below (lookup c.args.name.now c.args.self.now.world) c.in-Some.value c.args.self.now.world (sym c.in-Some.is ∙ c.in_ok-put_value.ensures.left)) in
     record {
       gives = λ store agrees. rw (is store agrees).0 (h store agrees);
       cut = λ store agrees. rw (is store agrees).0 (k store agrees);
@@ -137,7 +137,7 @@ pub apply_foreach-returns-in_err-expanded : goal.apply_foreach-returns-in_err-ex
 apply_foreach-returns-in_err-expanded g t c =
     let p = err_from_is_err_and c.from_residual.result c.from_residual.ensures.1 in
     let early = λ (store : Store) (agrees : AgreeWith store c.expand.new.self.answers).
-    (foreach_fails g.M.Scope.writable store c.args.below c.in_err-expanded.field-0.0 c.args.self.now.world c.expand.new.self.world c.args.variable.now c.args.list.now c.args.body.now (c.in_err-expanded.ensures.gives store agrees, c.in_err-expanded.ensures.cut store agrees)) in
+    (foreach_fails g.M.MacroScope.writable store c.args.below c.in_err-expanded.field-0.0 c.args.self.now.world c.expand.new.self.world c.args.variable.now c.args.list.now c.args.body.now (c.in_err-expanded.ensures.gives store agrees, c.in_err-expanded.ensures.cut store agrees)) in
     record {
       gives = λ store agrees. rw (p.1, p.2) (early store agrees).0;
       cut = λ store agrees. rw (p.1, p.2) (early store agrees).1;
@@ -149,7 +149,7 @@ pub apply_eval-returns-in_err-x : goal.apply_eval-returns-in_err-x
 apply_eval-returns-in_err-x g t c =
     let p = err_from_is_err_and c.from_residual-in_err-x.result c.from_residual-in_err-x.ensures.1 in
     let early = λ (store : Store) (agrees : AgreeWith store c.expand.new.self.answers).
-    (eval_fails g.M.Scope.writable store c.args.below c.in_err-x.field-0.0 c.args.self.now.world c.expand.new.self.world c.args.text.now (search rules) (c.in_err-x.ensures.gives store agrees, c.in_err-x.ensures.cut store agrees)) in
+    (eval_fails g.M.MacroScope.writable store c.args.below c.in_err-x.field-0.0 c.args.self.now.world c.expand.new.self.world c.args.text.now (search rules) (c.in_err-x.ensures.gives store agrees, c.in_err-x.ensures.cut store agrees)) in
     record {
       gives = λ store agrees. rw (p.1, p.2) (early store agrees).0;
       cut = λ store agrees. rw (p.1, p.2) (early store agrees).1;
@@ -163,7 +163,7 @@ call_by_name-returns-in_err-copied g t c =
     record {
       gives = λ store agrees. rw (p.1, p.2) tt;
       cut = λ store agrees. rw (p.1, p.2)
-          (call_by_name_front g.M.Scope.writable store c.args.below c.args.name.now (map (λ a. a.now) c.args.texts.now) c.args.self.now.world);
+          (call_by_name_front g.M.MacroScope.writable store c.args.below c.args.name.now (map (λ a. a.now) c.args.texts.now) c.args.self.now.world);
       kept = search rules;
       blames = search rules;
     }
@@ -174,7 +174,7 @@ call_by_name-returns-in_err-push g t c =
     record {
       gives = λ store agrees. rw (p.1, p.2) tt;
       cut = λ store agrees. rw (p.1, p.2)
-          (call_by_name_front g.M.Scope.writable store c.args.below c.args.name.now (map (λ a. a.now) c.args.texts.now) c.args.self.now.world);
+          (call_by_name_front g.M.MacroScope.writable store c.args.below c.args.name.now (map (λ a. a.now) c.args.texts.now) c.args.self.now.world);
       kept = search rules;
       blames = search rules;
     }
@@ -183,7 +183,7 @@ pub call_by_name-returns-in_err-arguments : goal.call_by_name-returns-in_err-arg
 call_by_name-returns-in_err-arguments g t c =
     let p = err_from_is_err_and c.from_residual-in_err-arguments.result c.from_residual-in_err-arguments.ensures.1 in
     let early = λ (store : Store) (agrees : AgreeWith store c.each_argument.new.self.answers).
-    (call_fails g.M.Scope.writable store c.args.below c.in_err-arguments.field-0.0 c.args.self.now.world c.each_argument.new.self.world c.args.name.now c.push.new.self.items (map (λ a. a.now) c.args.texts.now) (search rules) (search rules) (c.in_err-arguments.ensures.gives store agrees, c.in_err-arguments.ensures.cut store agrees)) in
+    (call_fails g.M.MacroScope.writable store c.args.below c.in_err-arguments.field-0.0 c.args.self.now.world c.each_argument.new.self.world c.args.name.now c.push.new.self.items (map (λ a. a.now) c.args.texts.now) (search rules) (search rules) (c.in_err-arguments.ensures.gives store agrees, c.in_err-arguments.ensures.cut store agrees)) in
     record {
       gives = λ store agrees. rw (p.1, p.2) (early store agrees).0;
       cut = λ store agrees. rw (p.1, p.2) (early store agrees).1;
@@ -197,7 +197,7 @@ read_rule-returns-in_err-head g t c =
     record {
       gives = λ store agrees. rw (p.1, p.2) tt;
       cut = λ store agrees. rw (p.1, p.2)
-          (rule_of_parts_front g.M.Scope.writable store c.args.below (Some (record { head = c.args.head.now; recipe = option_map (λ text. text.now) c.args.recipe })) c.args.self.now.world);
+          (rule_of_parts_front g.M.MacroScope.writable store c.args.below (Some (record { head = c.args.head.now; recipe = option_map (λ text. text.now) c.args.recipe })) c.args.self.now.world);
       kept = search rules;
       blames = search rules;
     }
@@ -206,7 +206,7 @@ pub expanded_equal-returns-in_err-x : goal.expanded_equal-returns-in_err-x
 expanded_equal-returns-in_err-x g t c =
     let p = err_from_is_err_and c.from_residual.result c.from_residual.ensures.1 in
     let early = λ (store : Store) (agrees : AgreeWith store c.expand_text.new.self.answers).
-    (equal_fails g.M.Scope.writable store c.args.below c.in_err-x.field-0.0 c.args.self.now.world c.expand_text.new.self.world (compared_view c.in-Some.compared) (c.in_err-x.ensures.gives store agrees, c.in_err-x.ensures.cut store agrees)) in
+    (equal_fails g.M.MacroScope.writable store c.args.below c.in_err-x.field-0.0 c.args.self.now.world c.expand_text.new.self.world (compared_view c.in-Some.compared) (c.in_err-x.ensures.gives store agrees, c.in_err-x.ensures.cut store agrees)) in
     record {
       gives = λ store agrees. rw (p.1, p.2, c.in-Some.is) (early store agrees).0;
       cut = λ store agrees. rw (p.1, p.2, c.in-Some.is) (early store agrees).1;
@@ -221,7 +221,7 @@ each_argument-returns-in_err-x g t c =
     let k = c.in_err-x.ensures.cut in
     let early = λ (store : Store) (agrees : AgreeWith store c.expand.new.self.answers).
     (subst (λ (o : StepEnd World (List Text)). Early c.in_err-x.field-0.0 c.expand.new.self.world o) (c.arguments.invariant.rest store (omega (arith, c.in_err-x.ensures.kept.0 store)))
-    (argument_at_fails g.M.Scope.writable store c.args.below c.in_err-x.field-0.0 c.arguments.self.world c.expand.new.self.world c.arguments.out.items c.args.texts.now c.arguments.place _ c.arguments-test.true (h store agrees, k store agrees))) in
+    (argument_at_fails g.M.MacroScope.writable store c.args.below c.in_err-x.field-0.0 c.arguments.self.world c.expand.new.self.world c.arguments.out.items c.args.texts.now c.arguments.place _ c.arguments-test.true (h store agrees, k store agrees))) in
     record {
       gives = λ store agrees. rw (p.1, p.2) (early store agrees).0;
       cut = λ store agrees. rw (p.1, p.2) (early store agrees).1;
@@ -237,7 +237,7 @@ each_argument-returns-in_err-from_vec g t c =
       gives = λ store agrees. rw (p.1, p.2) tt;
       cut = λ store agrees. rw (p.1, p.2)
           (subst (λ (o : StepEnd World (List Text)). GoesOn c.expand.new.self.world (left_of o)) (c.arguments.invariant.rest store (omega (arith, c.in_ok-x.ensures.kept.0 store)))
-          (argument_at_front g.M.Scope.writable store c.args.below c.arguments.self.world c.expand.new.self.world c.arguments.out.items c.args.texts.now c.arguments.place _ _ c.arguments-test.true (h store agrees)));
+          (argument_at_front g.M.MacroScope.writable store c.args.below c.arguments.self.world c.expand.new.self.world c.arguments.out.items c.args.texts.now c.arguments.place _ _ c.arguments-test.true (h store agrees)));
       kept = search rules;
       blames = search rules;
     }
@@ -250,7 +250,7 @@ each_argument-returns-in_err-push g t c =
       gives = λ store agrees. rw (p.1, p.2) tt;
       cut = λ store agrees. rw (p.1, p.2)
           (subst (λ (o : StepEnd World (List Text)). GoesOn c.expand.new.self.world (left_of o)) (c.arguments.invariant.rest store (omega (arith, c.in_ok-x.ensures.kept.0 store)))
-          (argument_at_front g.M.Scope.writable store c.args.below c.arguments.self.world c.expand.new.self.world c.arguments.out.items c.args.texts.now c.arguments.place _ _ c.arguments-test.true (h store agrees)));
+          (argument_at_front g.M.MacroScope.writable store c.args.below c.arguments.self.world c.expand.new.self.world c.arguments.out.items c.args.texts.now c.arguments.place _ _ c.arguments-test.true (h store agrees)));
       kept = search rules;
       blames = search rules;
     }
@@ -262,7 +262,7 @@ each_word-returns-in_err-x g t c =
     let k = rw c.in_ok-bind.ensures.done at c.in_err-x.ensures.cut in
     let early = λ (store : Store) (agrees : AgreeWith store c.expand.new.self.answers).
     (subst (λ (o : StepEnd World Text). Early c.in_err-x.field-0.0 c.expand.new.self.world o) (c.words.invariant.rest store (omega (arith, rw c.in_ok-bind.ensures.done at (c.in_err-x.ensures.kept.0 store))))
-    (word_fails g.M.Scope.writable store c.args.below c.in_err-x.field-0.0 c.words.self.world c.expand.new.self.world c.args.name.now c.args.body.now c.words.out.items c.words.separator.now _ _ c.in-Some.word.now c.words.rest c.next.new.self c.in-Some.ensures.steps (search rules) (search rules) (h store agrees, k store agrees))) in
+    (word_fails g.M.MacroScope.writable store c.args.below c.in_err-x.field-0.0 c.words.self.world c.expand.new.self.world c.args.name.now c.args.body.now c.words.out.items c.words.separator.now _ _ c.in-Some.word.now c.words.rest c.next.new.self c.in-Some.ensures.steps (search rules) (search rules) (h store agrees, k store agrees))) in
     record {
       gives = λ store agrees. rw (p.1, p.2) (early store agrees).0;
       cut = λ store agrees. rw (p.1, p.2) (early store agrees).1;
@@ -274,7 +274,7 @@ pub read_page-returns-in_err-read_items : goal.read_page-returns-in_err-read_ite
 read_page-returns-in_err-read_items g t c =
     let p = err_from_is_err_and c.from_residual.result c.from_residual.ensures.1 in
     let early = λ (store : Store) (agrees : AgreeWith store c.read_items.new.self.answers).
-    (sheet_fails g.M.Scope.writable store c.args.below c.args.page.now c.in_err-read_items.field-0.0 c.args.self.now.world c.read_items.new.self.world (c.in_err-read_items.ensures.gives store agrees, c.in_err-read_items.ensures.cut store agrees)) in
+    (sheet_fails g.M.MacroScope.writable store c.args.below c.args.page.now c.in_err-read_items.field-0.0 c.args.self.now.world c.read_items.new.self.world (c.in_err-read_items.ensures.gives store agrees, c.in_err-read_items.ensures.cut store agrees)) in
     record {
       gives = λ store agrees. rw (p.1, p.2) (early store agrees).0;
       cut = λ store agrees. rw (p.1, p.2) (early store agrees).1;
@@ -286,7 +286,7 @@ pub read_page-returns-in_err-close_rule : goal.read_page-returns-in_err-close_ru
 read_page-returns-in_err-close_rule g t c =
     let p = err_from_is_err_and c.from_residual-in_err-close_rule.result c.from_residual-in_err-close_rule.ensures.1 in
     let early = λ (store : Store) (agrees : AgreeWith store c.close_rule.new.self.answers).
-    (close_fails g.M.Scope.writable store c.args.below c.args.page.now c.in_err-close_rule.field-0.0 c.args.self.now.world c.read_items.new.self.world c.close_rule.new.self.world _ (c.in_ok-read_items.ensures.gives store (omega (arith, c.in_err-close_rule.ensures.kept.0 store))) (c.in_err-close_rule.ensures.gives, c.in_err-close_rule.ensures.cut)) in
+    (close_fails g.M.MacroScope.writable store c.args.below c.args.page.now c.in_err-close_rule.field-0.0 c.args.self.now.world c.read_items.new.self.world c.close_rule.new.self.world _ (c.in_ok-read_items.ensures.gives store (omega (arith, c.in_err-close_rule.ensures.kept.0 store))) (c.in_err-close_rule.ensures.gives, c.in_err-close_rule.ensures.cut)) in
     record {
       gives = λ store agrees. rw (p.1, p.2) (early store agrees).0;
       cut = λ store agrees. rw (p.1, p.2) (early store agrees).1;
@@ -301,7 +301,7 @@ apply_or-returns-in_err-x g t c =
     let k = rw c.stripped.ensures at c.in_err-x.ensures.cut in
     let early = λ (store : Store) (agrees : AgreeWith store c.expand.new.self.answers).
     (subst (λ (o : StepEnd World Text). Early c.in_err-x.field-0.0 c.expand.new.self.world o) (c.arguments.invariant.rest store (omega (arith, c.in_err-x.ensures.kept.0 store)))
-    (or_at_fails g.M.Scope.writable store c.args.below c.in_err-x.field-0.0 c.arguments.self.world c.expand.new.self.world c.args.texts.now c.arguments.place _ c.arguments-test.true (h store agrees, k store agrees))) in
+    (or_at_fails g.M.MacroScope.writable store c.args.below c.in_err-x.field-0.0 c.arguments.self.world c.expand.new.self.world c.args.texts.now c.arguments.place _ c.arguments-test.true (h store agrees, k store agrees))) in
     record {
       gives = λ store agrees. rw (p.1, p.2) (early store agrees).0;
       cut = λ store agrees. rw (p.1, p.2) (early store agrees).1;
@@ -316,7 +316,7 @@ apply_and-returns-in_err-x g t c =
     let k = rw c.stripped.ensures at c.in_err-x.ensures.cut in
     let early = λ (store : Store) (agrees : AgreeWith store c.expand.new.self.answers).
     (subst (λ (o : StepEnd World Text). Early c.in_err-x.field-0.0 c.expand.new.self.world o) (c.arguments.invariant.rest store (omega (arith, c.in_err-x.ensures.kept.0 store)))
-    (and_at_fails g.M.Scope.writable store c.args.below c.in_err-x.field-0.0 c.arguments.self.world c.expand.new.self.world c.args.texts.now c.arguments.place _ c.arguments-test.true (h store agrees, k store agrees))) in
+    (and_at_fails g.M.MacroScope.writable store c.args.below c.in_err-x.field-0.0 c.arguments.self.world c.expand.new.self.world c.args.texts.now c.arguments.place _ c.arguments-test.true (h store agrees, k store agrees))) in
     record {
       gives = λ store agrees. rw (p.1, p.2) (early store agrees).0;
       cut = λ store agrees. rw (p.1, p.2) (early store agrees).1;
@@ -329,14 +329,14 @@ read_conditional-returns-in_err-branch_holds-clause-fails g t c = λ store agree
     let p = err_from_is_err_and c.from_residual.result c.from_residual.ensures.1 in
     let r = c.requires.reads in
     rw (p.1, p.2)
-    (first_fails g.M.Scope.writable store c.args.below c.args.page.now c.in_err-branch_holds.field-0.0 c.args.self.now.world c.branch_holds.new.self.world (left_at c.args.page.now.blocks.steps c.args.place) c.args.place r.first r.others r.rest r.left (c.in_err-branch_holds.ensures.gives store agrees, c.in_err-branch_holds.ensures.cut store agrees)).0
+    (first_fails g.M.MacroScope.writable store c.args.below c.args.page.now c.in_err-branch_holds.field-0.0 c.args.self.now.world c.branch_holds.new.self.world (left_at c.args.page.now.blocks.steps c.args.place) c.args.place r.first r.others r.rest r.left (c.in_err-branch_holds.ensures.gives store agrees, c.in_err-branch_holds.ensures.cut store agrees)).0
 
 pub read_conditional-returns-in_err-branch_holds-clause-cut : goal.read_conditional-returns-in_err-branch_holds-clause-cut
 read_conditional-returns-in_err-branch_holds-clause-cut g t c = λ store agrees.
     let p = err_from_is_err_and c.from_residual.result c.from_residual.ensures.1 in
     let r = c.requires.reads in
     rw (p.1, p.2)
-    (first_fails g.M.Scope.writable store c.args.below c.args.page.now c.in_err-branch_holds.field-0.0 c.args.self.now.world c.branch_holds.new.self.world (left_at c.args.page.now.blocks.steps c.args.place) c.args.place r.first r.others r.rest r.left (c.in_err-branch_holds.ensures.gives store agrees, c.in_err-branch_holds.ensures.cut store agrees)).1
+    (first_fails g.M.MacroScope.writable store c.args.below c.args.page.now c.in_err-branch_holds.field-0.0 c.args.self.now.world c.branch_holds.new.self.world (left_at c.args.page.now.blocks.steps c.args.place) c.args.place r.first r.others r.rest r.left (c.in_err-branch_holds.ensures.gives store agrees, c.in_err-branch_holds.ensures.cut store agrees)).1
 
 pub read_step-returns-in_err-read_define-in-Define-clause-fails : goal.read_step-returns-in_err-read_define-in-Define-clause-fails
 read_step-returns-in_err-read_define-in-Define-clause-fails g t c = λ store agrees.
@@ -345,7 +345,7 @@ read_step-returns-in_err-read_define-in-Define-clause-fails g t c = λ store agr
     let k = rw c.in_ok-line-in-Define.ensures.done at c.in_err-read_define-in-Define.ensures.cut in
     let is = rw c.in-Define.is at c.requires.reads in
     rw (p.1, p.2)
-    (definition_fails g.M.Scope.writable store c.args.below c.args.page.now c.in_err-read_define-in-Define.field-0.0 c.args.self.now.world c.read_define.new.self.world (left_at c.args.page.now.blocks.steps c.args.place) (left_at c.args.page.now.blocks.steps c.in-Define.end) c.args.place c.in-Define.end _ _ is (search rules) (search rules) (h store agrees, k store agrees)).0
+    (definition_fails g.M.MacroScope.writable store c.args.below c.args.page.now c.in_err-read_define-in-Define.field-0.0 c.args.self.now.world c.read_define.new.self.world (left_at c.args.page.now.blocks.steps c.args.place) (left_at c.args.page.now.blocks.steps c.in-Define.end) c.args.place c.in-Define.end _ _ is (search rules) (search rules) (h store agrees, k store agrees)).0
 
 pub read_step-returns-in_err-read_define-in-Define-clause-cut : goal.read_step-returns-in_err-read_define-in-Define-clause-cut
 read_step-returns-in_err-read_define-in-Define-clause-cut g t c = λ store agrees.
@@ -354,13 +354,13 @@ read_step-returns-in_err-read_define-in-Define-clause-cut g t c = λ store agree
     let k = rw c.in_ok-line-in-Define.ensures.done at c.in_err-read_define-in-Define.ensures.cut in
     let is = rw c.in-Define.is at c.requires.reads in
     rw (p.1, p.2)
-    (definition_fails g.M.Scope.writable store c.args.below c.args.page.now c.in_err-read_define-in-Define.field-0.0 c.args.self.now.world c.read_define.new.self.world (left_at c.args.page.now.blocks.steps c.args.place) (left_at c.args.page.now.blocks.steps c.in-Define.end) c.args.place c.in-Define.end _ _ is (search rules) (search rules) (h store agrees, k store agrees)).1
+    (definition_fails g.M.MacroScope.writable store c.args.below c.args.page.now c.in_err-read_define-in-Define.field-0.0 c.args.self.now.world c.read_define.new.self.world (left_at c.args.page.now.blocks.steps c.args.place) (left_at c.args.page.now.blocks.steps c.in-Define.end) c.args.place c.in-Define.end _ _ is (search rules) (search rules) (h store agrees, k store agrees)).1
 
 pub read_step-returns-in_ok-read_define-in-Define-clause-goes_on : goal.read_step-returns-in_ok-read_define-in-Define-clause-goes_on
 read_step-returns-in_ok-read_define-in-Define-clause-goes_on g t c = λ store agrees.
     let h = rw c.in_ok-line-in-Define.ensures.done at c.in_ok-read_define-in-Define.ensures.gives in
     let is = rw c.in-Define.is at c.requires.reads in
-    definition_taken g.M.Scope.writable store c.args.below c.args.page.now c.args.self.now.world c.read_define.new.self.world (left_at c.args.page.now.blocks.steps c.args.place) (left_at c.args.page.now.blocks.steps c.in-Define.end) c.args.place c.in-Define.end _ _ is (search rules) (search rules) (h store agrees)
+    definition_taken g.M.MacroScope.writable store c.args.below c.args.page.now c.args.self.now.world c.read_define.new.self.world (left_at c.args.page.now.blocks.steps c.args.place) (left_at c.args.page.now.blocks.steps c.in-Define.end) c.args.place c.in-Define.end _ _ is (search rules) (search rules) (h store agrees)
 
 pub read_conditional-returns-in_err-branch_holds-2-clause-fails : goal.read_conditional-returns-in_err-branch_holds-2-clause-fails
 read_conditional-returns-in_err-branch_holds-2-clause-fails g t c = λ store agrees.
@@ -368,7 +368,7 @@ read_conditional-returns-in_err-branch_holds-2-clause-fails g t c = λ store agr
     let h = c.in_err-branch_holds-2.ensures.gives in
     let k = c.in_err-branch_holds-2.ensures.cut in
     rw (p.1, p.2)
-    (branch_fails g.M.Scope.writable store c.args.below c.args.page.now c.args.page.now.blocks.steps c.branches.at c.args.after c.branches.self.world _ c.in_Some-condition.condition c.in_Some-condition.next c.in_Some-condition.ensures.some.0 c.in_err-branch_holds-2.field-0.0 c.branch_holds-in_Some-condition.new.self.world
+    (branch_fails g.M.MacroScope.writable store c.args.below c.args.page.now c.args.page.now.blocks.steps c.branches.at c.args.after c.branches.self.world _ c.in_Some-condition.condition c.in_Some-condition.next c.in_Some-condition.ensures.some.0 c.in_err-branch_holds-2.field-0.0 c.branch_holds-in_Some-condition.new.self.world
     (c.branches.invariant.rest store (omega (arith, c.in_err-branch_holds-2.ensures.kept.0 store))) c.in_Some-condition.ensures.before c.in_Some-condition.ensures.some.1 (h store agrees, k store agrees)).0
 
 pub read_conditional-returns-in_err-branch_holds-2-clause-cut : goal.read_conditional-returns-in_err-branch_holds-2-clause-cut
@@ -377,12 +377,12 @@ read_conditional-returns-in_err-branch_holds-2-clause-cut g t c = λ store agree
     let h = c.in_err-branch_holds-2.ensures.gives in
     let k = c.in_err-branch_holds-2.ensures.cut in
     rw (p.1, p.2)
-    (branch_fails g.M.Scope.writable store c.args.below c.args.page.now c.args.page.now.blocks.steps c.branches.at c.args.after c.branches.self.world _ c.in_Some-condition.condition c.in_Some-condition.next c.in_Some-condition.ensures.some.0 c.in_err-branch_holds-2.field-0.0 c.branch_holds-in_Some-condition.new.self.world
+    (branch_fails g.M.MacroScope.writable store c.args.below c.args.page.now c.args.page.now.blocks.steps c.branches.at c.args.after c.branches.self.world _ c.in_Some-condition.condition c.in_Some-condition.next c.in_Some-condition.ensures.some.0 c.in_err-branch_holds-2.field-0.0 c.branch_holds-in_Some-condition.new.self.world
     (c.branches.invariant.rest store (omega (arith, c.in_err-branch_holds-2.ensures.kept.0 store))) c.in_Some-condition.ensures.before c.in_Some-condition.ensures.some.1 (h store agrees, k store agrees)).1
 
 pub read_items-lines-init : goal.read_items-lines-init
 read_items-lines-init g t c =
-    let e = λ (store : Store). evaluator g.M.Scope.writable store c.args.below in
+    let e = λ (store : Store). evaluator g.M.MacroScope.writable store c.args.below in
     record {
       kept = search rules;
       unfailed = search rules;
@@ -392,7 +392,7 @@ read_items-lines-init g t c =
 
 pub are_equal-returns-in-Some : goal.are_equal-returns-in-Some
 are_equal-returns-in-Some g t c = record {
-  gives = λ store agrees. c.in-Some.ensures g.M.Scope.writable store;
+  gives = λ store agrees. c.in-Some.ensures g.M.MacroScope.writable store;
   cut = λ store agrees. tt;
   kept = search rules;
   blames = search rules;
@@ -403,7 +403,7 @@ read_next-returns-clause-ahead g t c = ahead_from c.args.place c.past_comments-a
 
 pub read_next-returns-clause-goes_on : goal.read_next-returns-clause-goes_on
 read_next-returns-clause-goes_on g t c = λ store agrees.
-    let e = evaluator g.M.Scope.writable store c.args.below in
+    let e = evaluator g.M.MacroScope.writable store c.args.below in
     subst
     (λ (o : StepEnd World (Unit {0})).
     IfOk c.read_step.result (λ at. o ≡ read_items e c.args.page.now (left_at c.args.page.now.blocks.steps at) c.read_step.new.self.world))
@@ -411,12 +411,12 @@ read_next-returns-clause-goes_on g t c = λ store agrees.
 
 pub read_next-returns-clause-fails : goal.read_next-returns-clause-fails
 read_next-returns-clause-fails g t c = λ store agrees.
-    let e = evaluator g.M.Scope.writable store c.args.below in
+    let e = evaluator g.M.MacroScope.writable store c.args.below in
     subst (λ (o : StepEnd World (Unit {0})). IfErr c.read_step.result (λ stop. Fails stop c.read_step.new.self.world o))
     (sym (c.past_comments-at.ensures.same e c.args.self.now.world)) (c.read_step.ensures.fails store agrees)
 
 pub read_next-returns-clause-cut : goal.read_next-returns-clause-cut
 read_next-returns-clause-cut g t c = λ store agrees.
-    let e = evaluator g.M.Scope.writable store c.args.below in
+    let e = evaluator g.M.MacroScope.writable store c.args.below in
     subst (λ (o : StepEnd World (Unit {0})). IfCut c.read_step.result (GoesOn c.read_step.new.self.world (left_of o)))
     (sym (c.past_comments-at.ensures.same e c.args.self.now.world)) (c.read_step.ensures.cut store agrees)

@@ -197,7 +197,7 @@ decreases-included g l = 64 * l.below + 27
 
 abbrev pub invariant-expand_here-terms : goal.invariant-expand_here-terms
 invariant-expand_here-terms g l =
-    let e = λ (store : Store). evaluator g.M.Scope.writable store l.below in
+    let e = λ (store : Store). evaluator g.M.MacroScope.writable store l.below in
     record {
       kept : Keeps l.fn.self l.self;
       unfailed : l.self.failed ≡ l.fn.self.failed;
@@ -209,7 +209,7 @@ decreases-expand_here-terms g l = length l.rest
 
 abbrev pub invariant-each_argument-arguments : goal.invariant-each_argument-arguments
 invariant-each_argument-arguments g l =
-    let e = λ (store : Store). evaluator g.M.Scope.writable store l.below in
+    let e = λ (store : Store). evaluator g.M.MacroScope.writable store l.below in
     record {
       kept : Keeps l.fn.self l.self;
       unfailed : l.self.failed ≡ l.fn.self.failed;
@@ -221,7 +221,7 @@ decreases-each_argument-arguments g l = length l.texts - l.place
 
 abbrev pub invariant-apply_or-arguments : goal.invariant-apply_or-arguments
 invariant-apply_or-arguments g l =
-    let e = λ (store : Store). evaluator g.M.Scope.writable store l.below in
+    let e = λ (store : Store). evaluator g.M.MacroScope.writable store l.below in
     record {
       kept : Keeps l.fn.self l.self;
       unfailed : l.self.failed ≡ l.fn.self.failed;
@@ -233,7 +233,7 @@ decreases-apply_or-arguments g l = length l.texts - l.place
 
 abbrev pub invariant-apply_and-arguments : goal.invariant-apply_and-arguments
 invariant-apply_and-arguments g l =
-    let e = λ (store : Store). evaluator g.M.Scope.writable store l.below in
+    let e = λ (store : Store). evaluator g.M.MacroScope.writable store l.below in
     record {
       kept : Keeps l.fn.self l.self;
       unfailed : l.self.failed ≡ l.fn.self.failed;
@@ -245,7 +245,7 @@ decreases-apply_and-arguments g l = length l.texts - l.place
 
 abbrev pub invariant-each_word-words : goal.invariant-each_word-words
 invariant-each_word-words g l =
-    let e = λ (store : Store). evaluator g.M.Scope.writable store l.below in
+    let e = λ (store : Store). evaluator g.M.MacroScope.writable store l.below in
     record {
       kept : Keeps l.fn.self l.self;
       unfailed : l.self.failed ≡ l.fn.self.failed;
@@ -257,7 +257,7 @@ decreases-each_word-words g l = length l.rest
 
 abbrev pub invariant-each_include-names : goal.invariant-each_include-names
 invariant-each_include-names g l =
-    let e = λ (store : Store). evaluator g.M.Scope.writable store l.below in
+    let e = λ (store : Store). evaluator g.M.MacroScope.writable store l.below in
     record {
       kept : Keeps l.fn.self l.self;
       unfailed : l.self.failed ≡ l.fn.self.failed;
@@ -269,7 +269,7 @@ decreases-each_include-names g l = length l.rest
 
 abbrev pub invariant-read_items-lines : goal.invariant-read_items-lines
 invariant-read_items-lines g l =
-    let e = λ (store : Store). evaluator g.M.Scope.writable store l.below in
+    let e = λ (store : Store). evaluator g.M.MacroScope.writable store l.below in
     record {
       kept : Keeps l.fn.self l.self;
       unfailed : l.self.failed ≡ l.fn.self.failed;
@@ -282,7 +282,7 @@ decreases-read_items-lines g l = length l.page.blocks.steps - l.place
 
 abbrev pub invariant-read_conditional-branches : goal.invariant-read_conditional-branches
 invariant-read_conditional-branches g l =
-    let e = λ (store : Store). evaluator g.M.Scope.writable store l.below in
+    let e = λ (store : Store). evaluator g.M.MacroScope.writable store l.below in
     record {
       kept : Keeps l.fn.self l.self;
       unfailed : l.self.failed ≡ l.fn.self.failed;

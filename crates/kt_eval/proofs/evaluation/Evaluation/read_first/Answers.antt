@@ -9,7 +9,7 @@ returns-in_err-text-clause-gives g c = λ store agrees.
     let k = c.in_err-text.ensures.cut in
     rw (p.1, p.2)
     (subst (λ (o : StepEnd World (Unit {0})). Early c.in_err-text.field-0.0 c.read_bytes.new.self.world o) (c.loop-name.invariant.rest store (omega (arith, c.in_err-text.ensures.kept.0 store)))
-    (file_at_fails g.M.Scope.writable store c.args.limit c.in_err-text.field-0.0 c.loop-name.self.world c.read_bytes.new.self.world c.args.names.now c.loop-name.name-index _ c.loop-name-test.true (h store agrees, k store agrees))).0
+    (file_at_fails g.M.MacroScope.writable store c.args.limit c.in_err-text.field-0.0 c.loop-name.self.world c.read_bytes.new.self.world c.args.names.now c.loop-name.name-index _ c.loop-name-test.true (h store agrees, k store agrees))).0
 
 pub returns-in_err-text-clause-cut : goal.returns-in_err-text-clause-cut
 returns-in_err-text-clause-cut g c = λ store agrees.
@@ -18,4 +18,4 @@ returns-in_err-text-clause-cut g c = λ store agrees.
     let k = c.in_err-text.ensures.cut in
     rw (p.1, p.2)
     (subst (λ (o : StepEnd World (Unit {0})). Early c.in_err-text.field-0.0 c.read_bytes.new.self.world o) (c.loop-name.invariant.rest store (omega (arith, c.in_err-text.ensures.kept.0 store)))
-    (file_at_fails g.M.Scope.writable store c.args.limit c.in_err-text.field-0.0 c.loop-name.self.world c.read_bytes.new.self.world c.args.names.now c.loop-name.name-index _ c.loop-name-test.true (h store agrees, k store agrees))).1
+    (file_at_fails g.M.MacroScope.writable store c.args.limit c.in_err-text.field-0.0 c.loop-name.self.world c.read_bytes.new.self.world c.args.names.now c.loop-name.name-index _ c.loop-name-test.true (h store agrees, k store agrees))).1

@@ -4,7 +4,7 @@ use Rattle.kt_eval.proofs.evaluation.Evaluation.read_first.Given as goal
 
 abbrev pub invariant-loop-name : goal.invariant-loop-name
 invariant-loop-name g l =
-    let e = λ (store : Store). evaluator g.M.Scope.writable store l.limit in
+    let e = λ (store : Store). evaluator g.M.MacroScope.writable store l.limit in
     record {
       kept : Keeps l.fn.self l.self;
       unfailed : l.self.failed ≡ l.fn.self.failed;
