@@ -119,8 +119,9 @@ class Compared:
     """A scenario in two equal folders below another one, of which each step is tried: by make in one, in the other by
     kati-build with these words and then by ninja."""
 
-    # What make makes while it is asked for values tells of itself, too.
-    INCLUDES = re.compile(r".*\.(d|mk|depend|in)|\.depend|Makefile|dep|gen|config\.status")
+    # What make makes while it is asked for values tells of itself, too: includes, and what they are made from, as `make
+    # -n` makes them.
+    INCLUDES = re.compile(r".*\.(d|mk|depend|in)|\.depend|Makefile|dep|gen(\.h)?|config\.status")
 
     def __init__(self, test, scenario, place, words=(), jobs="-j1"):
         self.test, self.scenario, self.words, self.jobs = test, scenario, words, jobs

@@ -111,6 +111,15 @@ class NamedFiles(Built):
                 self.ninja()
                 self.assertEqual(self.ninja(), "ninja: no work to do.\n")
 
+    def test_one_that_kati_reads_stays_for_make(self):
+        self.write(Makefile="main: main.o ; cc -o $@ $^\nmain.o: main.c ; cc -MMD -c -o $@ $<\n-include main.d\n",
+                   main_c='#include "h.h"\nint main(void) { return A; }\n', h_h="#define A 0\n")
+        self.build("--deps")
+        for number, tool in enumerate(("ninja", "make", "ninja", "make"), 1):
+            self.put("h.h", f"#define A {number}\n")
+            self.assertEqual(self.run_in(tool).status, 0)
+            self.assertEqual((self.run_in("./main").status, self.read("main.d")), (number, "main.o: main.c h.h\n"))
+
     def test_other_files_go_to_ninja_s_log(self):
         self.write(Makefile="main.o: main.c ; cc -MMD -c -o $@ $<\n", main_c="")
         self.build("--deps")

@@ -100,15 +100,18 @@ def targets_of(command):
 class Dependencies:
     """Where statements write their header dependencies: `files` has the file of each statement's first output, `kept`
     those of these outputs whose file has to stay: one that a rule names, or that fits the patterns of what make
-    includes, which are `included`, and isn't among the names that kati has `read`.
+    includes, which are `included`. One among the names that kati `read` is an include as any other: what it says is in
+    the statements, and Ninja, which would take it away, isn't told of it.
 
     `doubts` tells of those for which that is no help. Of two statements that write one file, which both may run at
     a time, one would lose what the other has read and removed; so none of them gets it."""
 
     def __init__(self, found, included=(), read=()):
-        self.statements, named, unknown = found, {}, []
+        self.statements, named, unknown, read = found, {}, [], set(map(os.path.normpath, read))
         for statement in found:
             name = None if statement.command is None else depfile_of(statement.command)
+            if name and os.path.normpath(name) in read:
+                continue
             if name:
                 named.setdefault(name, []).append(statement.outputs[0])
             elif name is not None:
@@ -119,7 +122,7 @@ class Dependencies:
         self.doubts += [f"{', '.join(outputs)}: header dependencies are written to one file, {name}, and so aren't "
                         "used; -MF '$@.d' gives each its own" for name, outputs in named.items() if len(outputs) > 1]
         self.kept = set()
-        self.find_kept(self.fitting(included).difference(map(os.path.normpath, read)))
+        self.find_kept(self.fitting(included))
 
     def fitting(self, patterns):
         """The files that fit these patterns."""
