@@ -16,7 +16,7 @@ examples:
 
 exit status:
   0   the same commands
-  1   others, and kati-build --port says that they differ
+  1   others, and kati-build --port says that they differ, or names calls that the recipe's own shell runs
   2   others, and kati-build --port doesn't say so
   3   not compared: a build failed, or a program isn't there
   64  wrong usage
@@ -37,6 +37,7 @@ TOP = Path(__file__).resolve().parent.parent
 sys.path.insert(0, str(TOP / "share/kati"))
 
 from kati_tools.base import programs, words  # noqa: E402
+from kati_tools.build import calls_of_recipes  # noqa: E402
 
 SAME, TOLD, UNTOLD, NOT_COMPARED, DIFFERS = 0, 1, 2, 3, 5
 MARK = "KATI_RECORDED"
@@ -156,7 +157,8 @@ class Recording:
         return recorder.commands()
 
     def by_ninja(self):
-        """The commands of ninja's build of the port, and whether kati-build says that they are make's."""
+        """The commands of ninja's build of the port, and whether kati-build says that they are make's, without calls
+        that the recipe's own shell runs."""
         recorder = Recorder(self.room / "ninja", self.asked.shell, False)
         self.anew()
         kati = ["--kati", self.asked.kati] if self.asked.kati else []
@@ -164,12 +166,13 @@ class Recording:
                      self.log)
         if status not in (0, DIFFERS):
             raise self.failed("kati-build --port")
+        is_said = status == 0 and calls_of_recipes.RUNS not in self.log.read_text(errors="surrogateescape")
         text = (self.tree / "build.kati/translated.ninja").read_text(errors="surrogateescape")
         text = re.sub(rf"(?<![\w/]){re.escape(self.asked.shell)}(?= -)", str(recorder.path), text)
         (self.tree / "build.kati/recorded.ninja").write_text(text, errors="surrogateescape")
         if run([programs.need("ninja"), "-f", "build.kati/recorded.ninja"], self.tree, self.log):
             raise self.failed("ninja")
-        return recorder.commands(), status == 0
+        return recorder.commands(), is_said
 
 
 def told(mark, command, others):

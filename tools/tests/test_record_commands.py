@@ -28,6 +28,11 @@ class Recording(Tree):
         self.assertIn("\n+ \"echo 1 '' > out\"\ndiffer: 1 of make's alone, 1 of ninja's alone, of 1; "
                       "kati-build says so\n", said)
 
+    def test_calls_that_the_recipe_s_shell_runs(self):
+        self.put_all({"Makefile": "all: a b\na b:\n\techo $(shell echo made $@) > $@\n"})
+        said = self.record(".", status=1)
+        self.assertIn("differ: 2 of make's alone, 2 of ninja's alone, of 2; kati-build says so\n", said)
+
     def test_another_environment_and_other_flags(self):
         tools = self.top.parent / "tools"
         tools.mkdir()

@@ -4,7 +4,7 @@ from collections import Counter
 
 from ..base import files, interrupting, scratch, words
 from ..make import make_commands, shell_reading, shell_text
-from . import compared_environment, scratch_builds, translating
+from . import calls_of_recipes, compared_environment, scratch_builds, translating
 from ..make.command_lists import Compared, alone
 from ..base.programs import Stop, ending, need, run, say, write_text
 
@@ -26,7 +26,9 @@ what is said:
   same: N commands      both have the same commands, each as often. Blanks between words don't count;
                         where they alone differ, this is said, also of values that commands have in
                         their environment for their targets. Macros of the command line are make's
-                        too, so `same` doesn't say that make has these values: --words-for-kati does
+                        too, so `same` doesn't say that make has these values: --words-for-kati does.
+                        Calls that the recipe's own shell runs for kati after a port are named, and
+                        make has kati's text for them
   nothing to compare    neither has a command
   not compared          make would first make an include that isn't there or is out of date, and the
                         commands that do so: what it then reads, kati doesn't. `make -n` makes them
@@ -132,10 +134,13 @@ def counted(number, noun):
     return f"{number} {noun}{'' if number == 1 else 's'}"
 
 
-def verdict(found, are_words_shared, environment):
-    """The line that says how the commands of both compare, and their environment."""
+def verdict(found, are_words_shared, environment, calls):
+    """The line that says how the commands of both compare, their environment, and the calls that the recipe's shell
+    runs."""
     if found.is_same and environment.lines:
         return f"differ: the environment of commands; {counted(found.count, 'command')} the same"
+    if found.is_same and calls.differences:
+        return f"differ: what calls give that the recipe's shell runs; {counted(found.count, 'command')} the same"
     if not found.is_same:
         return f"differ: {counted(len(found.makes), 'command')} of make's alone, {len(found.katis)} of kati's alone, " \
                f"{found.count - len(found.katis)} the same"
@@ -143,28 +148,40 @@ def verdict(found, are_words_shared, environment):
         return "nothing to compare: neither make nor kati has a command for these goals"
     blanks = f", {found.in_blanks} of them but for blanks" if found.in_blanks else ""
     blanks += "; their environment but for blanks" if environment.has_other_blanks else ""
+    blanks += "; calls that the recipe's shell runs aside" if calls.told else ""
     return f"same: {counted(found.count, 'command')}{blanks}{SHARED if are_words_shared else ''}"
 
 
-def compare_commands(asking, asked, by_kati, said, environment):
+def calls_in(by_make, asking, words, recipes):
+    """The calls that the recipe's shell runs for kati, which a port wrote: make is asked once more, with kati's text in
+    the place of them."""
+    written = calls_of_recipes.Written()
+    marked = asking.ask([*words, *written.words()]) if written.katis else None
+    return calls_of_recipes.CallsOfRecipes(by_make, marked, recipes, written.meant)
+
+
+def compare_commands(asking, asked, recipes, said, environment):
     """Tells whether make and kati have the same commands; answers whether they do."""
     goals, macros = words.goals_of(asked.words), words.macros_of(asked.words)
     makes_macros = [] if asked.words_for_kati else macros
+    by_kati = [text.strip() for recipe in recipes for text in recipe]
     by_make, before = asking.commands(goals, makes_macros)
     first = alone(asking.first(makes_macros), [line.strip() for line in said.split("\n")])
     if first:
         shown = first[:MOST_SHOWN] + ([f"and {len(first) - MOST_SHOWN} more"] if len(first) > MOST_SHOWN else [])
         write_text("".join([UNMADE, *(f"  {line}\n" for line in shown)]))
         return False
+    calls = calls_in(by_make, asking, [*goals, *makes_macros], recipes)
+    by_make = calls.commands
     found = Compared(by_make, besides(before, said), by_kati)
     if found.katis:
         silent = asking.before_with_silent(makes_macros)
         by_make += alone(found.katis, alone(found.katis, silent))
         found = Compared(by_make, besides(before, said), by_kati)
-    write_text("".join(f"{line}\n" for line in environment.lines))
+    write_text("".join(f"{line}\n" for line in [*environment.lines, *calls.told, *calls.differences]))
     write_text("".join([*(f"- {line}\n" for line in found.makes), *(f"+ {line}\n" for line in found.katis)]))
-    write_text(verdict(found, bool(makes_macros), environment) + "\n")
-    return found.is_same and not environment.lines
+    write_text(verdict(found, bool(makes_macros), environment, calls) + "\n")
+    return found.is_same and not (environment.lines or calls.differences)
 
 
 def compare_builds(asked, translation, room):
@@ -193,12 +210,11 @@ def compare(asked):
             say(TOOL, f"kati ended with status {translation.status}:\n{translation.said.rstrip()}")
             return translation.status
         commands = ninja_commands(translation, room)
-        by_kati = [text.strip() for command in commands for text in unwrapped(command)]
         asking = make_commands.Asking(asked.makefile or translating.default_makefile(), asked.builtin,
                                       shell_of(commands), room)
         asking.refuse_other_shells(words.goals_of(asked.words) if asked.words_for_kati else asked.words)
         environment = compared_environment.ComparedEnvironment(asking, asked, translation.statements, listing)
-        is_same = compare_commands(asking, asked, by_kati, translation.said, environment)
+        is_same = compare_commands(asking, asked, list(map(unwrapped, commands)), translation.said, environment)
         if asked.build:
             is_same = compare_builds(asked, translation, room) and is_same
         return 0 if is_same else 1

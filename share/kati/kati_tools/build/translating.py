@@ -14,6 +14,8 @@ MACROS, RULES, WITH_BUILTIN = "builtin-macros.mk", "builtin-rules.mk", "with-bui
 # kati has no list of makefiles.
 VALUES, GOALS = "kati-values.mk", "MAKECMDGOALS"
 INCLUDE_VALUES = f"include $(dir $(lastword $(MAKEFILE_LIST))){VALUES}"
+# What stands there above a call of `shell` that the recipe's own shell runs for kati.
+FOR_SHELL = "for the recipe's shell"
 # What kati writes of another makefile than the user's.
 ASIDE = "aside.ninja.new"
 # What a folder has in which another tool makes the makefile, or a Ninja file, and how.

@@ -8,6 +8,7 @@ import re
 from ..base.programs import run, which
 from ..make import shell_text
 from ..make.exported_names import of_the_shell
+from ..make.plain_commands import PlainCommand
 from . import watched
 
 # A word of a command that names a file, though none is there.
@@ -21,27 +22,17 @@ NAMING = {"ls", "dir", "echo", "printf", "find", "basename", "dirname", "test", 
 LISTING = {"ls", "dir", "find", "tree", "du"}
 READING = {"cat", "ls", "head", "tail", "find", "sed", "awk", "grep", "sort", "wc", "cut", ".", "source", "readlink",
            "realpath", "sh", "bash", "test", "["}
-KEYWORDS = {"if", "then", "elif", "else", "while", "until", "do", "!", "{", "("}
-# How `test` asks of a file.
-ASKS_OF_FILE = re.compile(r"-[bcdefghknprstuwxLOGNS]")
 # What git's commands hang on beside the commit: each file's changes, or the list of files.
 OF_CHANGES = re.compile(r"--dirty|\b(?:diff|status|diff-index|diff-files|update-index)\b")
 OF_FILES = re.compile(r"\bls-files\b")
 
 
-class Simple:
-    """A simple command: the folder that it runs in, its program and its other words."""
+class Simple(PlainCommand):
+    """A simple command, and the folder that it runs in."""
 
     def __init__(self, words, folder):
-        words = words[next((at for at, word in enumerate(words) if word not in KEYWORDS), len(words)):]
-        self.folder, self.program = folder, os.path.basename(words[0]) if words else ""
-        self.words = words[1:]
-
-    def operands(self):
-        """The words that aren't options; of `test` those that it asks of as of files."""
-        if self.program in ("test", "["):
-            return [word for before, word in zip(self.words, self.words[1:]) if ASKS_OF_FILE.fullmatch(before)]
-        return [word for word in self.words if not word.startswith("-")]
+        super().__init__(words)
+        self.folder = folder
 
     def listed(self):
         """The folders that it lists, this one too, as words to watch."""

@@ -21,7 +21,7 @@ from . import watched
 NAME = translating.VALUES
 TITLE = "# Written by kati-port, anew by kati-port --values: what make asks the machine for, and what it was told.\n"
 RUN, ENVIRONMENT, NAMES = "tells of the run", "of the environment", "names: "
-FOR_SHELL = "for the recipe's shell"
+FOR_SHELL = translating.FOR_SHELL
 # kati's shell itself, where SHELL gives commands exported variables too.
 KATIS_SHELL = "$(or $(KATI_SHELL),$(SHELL))"
 HIDING = f"MAKEFILE_LIST := $(filter-out %{NAME},$(MAKEFILE_LIST))"

@@ -122,7 +122,7 @@ class Comparison:
             # A call may read the makefile, which is another one now.
             port.run.forget_calls()
         self.before, self.after, self.count_varying = port.first.commands[1], after or port.run.commands(), 0
-        self.calls = by_recipes_shell.ByRecipesShell(port, self.after[1], translation.statements)
+        self.calls = by_recipes_shell.of_port(port, self.after[1], translation.statements)
         makes = [line.replace(port.run.noop, port.first.shell) for line in self.calls.commands]
         katis = commands_of(translation.statements)
         # What makes makefiles make does before, and may say nothing of.

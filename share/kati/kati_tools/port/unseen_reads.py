@@ -3,7 +3,7 @@ again where something changes, and the port names them."""
 import os
 import shlex
 
-from ..make import shell_text
+from ..make import plain_commands, shell_text
 from . import command_reads, frozen_values
 
 # Programs that read nothing but what their words name, git, which is watched itself, and words of the shell.
@@ -35,7 +35,7 @@ def programs(text):
     """The names of the programs of a shell's text without other commands in it; None where its quotes don't close."""
     if not shell_text.SPECIAL.search(text):
         # As most are; shlex takes a hundred times as long.
-        words = [word for word in text.split() if word not in command_reads.KEYWORDS and "=" not in word]
+        words = [word for word in text.split() if word not in plain_commands.KEYWORDS and "=" not in word]
         return [os.path.basename(word) for word in words[:1]]
     reader = shlex.shlex(text, posix=True, punctuation_chars=True)
     reader.whitespace_split, reader.commenters = True, ""
@@ -47,7 +47,7 @@ def programs(text):
                 begins = begins if is_target else True
             elif is_target:
                 is_target = False
-            elif begins and word not in command_reads.KEYWORDS and "=" not in word:
+            elif begins and word not in plain_commands.KEYWORDS and "=" not in word:
                 found.append(os.path.basename(word))
                 begins = False
     except ValueError:
