@@ -255,6 +255,16 @@ class Told(Meant):
         self.assertEqual(self.port(status=DIFFERS).count(told), 1)
         self.assertEqual(self.tool("kati-build", "--port", "--no-ninja").said.count(told), 1)
 
+    def test_a_double_colon_for_which_make_finds_a_rule_without_commands(self):
+        tree = {"Makefile": "all: a x\na:: b\na:: c\nb c: ; touch $@\n%: %.in ;\nx: F = 1\nx: ; echo $(F) > x\n",
+                "a.in": ""}
+        self.put_all(tree)
+        said = self.port()
+        self.assertIn("kati's commands are make's\n", said)
+        self.assertNotIn("implicit rule", said)
+        self.put_all(tree)
+        self.assertNotIn("implicit rule", self.tool("kati-build", "--port", "--no-ninja").said)
+
     def test_what_make_finds_in_a_folder_that_is_searched(self):
         self.put_all({"Makefile": "VPATH = obj\nall: x.o y.o\n%.o: %.c\n\tcp $< $@\n", "x.c": "", "y.c": "",
                       "obj/x.o": ""})

@@ -21,8 +21,7 @@ def with_one_colon(text):
 
 
 class DoubleColons(Mender):
-    """Those of a makefile, where make has commands that kati hasn't; `told` has what to say of those for which kati
-    looks for no rule."""
+    """Those of a makefile, where make has commands that kati hasn't."""
 
     def __init__(self, port):
         super().__init__(port)
@@ -54,15 +53,19 @@ class DoubleColons(Mender):
                     found.append((line, rule, bool(folder_search.recipe_of(file.lines, at, rule))))
         return found if not all(has_recipe for _, _, has_recipe in found) else []
 
+    def differences(self, comparison):
+        """What to say of those for which kati looks for no rule: nothing where it has all of make's commands, so that
+        the rules which make finds have none."""
+        return self.told if comparison.makes else []
+
     def mend(self, line, names, counts):
-        """Gives kati a single colon, or tells why it can't be; answers whether it did."""
+        """Gives kati a single colon, or says why it can't be; answers whether it did."""
         several = [name for name in names if counts[name] > 1]
         if several or line.is_wrapped:
             more = " and stands there more than once" if several else ""
             told = f"{(several or names)[0]}:: has no recipe{more}: {ADVICE}"
             if told not in self.told:
                 self.told.append(told)
-                self.port.note(told)
             return False
         line.wrap(with_one_colon)
         self.port.tell("double colon")

@@ -148,5 +148,6 @@ def told(made, comparison):
     written = list(made.mender(shell_writes.ShellWrites).told("wrote", "read", ""))
     others = comparison.notes if comparison.is_same() else list(comparison.told())[1:]
     written += written_outside.told(made)
-    doubtful = [one for kind in (made_values.MadeValues, double_colons.DoubleColons) for one in made.mender(kind).told]
+    doubtful = [*made.mender(made_values.MadeValues).told,
+                *made.mender(double_colons.DoubleColons).differences(comparison)]
     return [*made.copy.told(), *written, *unseen_reads.told(made), *doubtful, *others]

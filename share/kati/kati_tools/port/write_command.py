@@ -10,7 +10,8 @@ from ..base import at_work, files, programs, scratch, words
 from ..makefile import above
 from ..make import in_place, make_run
 from ..build import translating
-from . import frozen_values, known, other_goals, port_report, renewing, rewriting, saved_meanwhile, saving, writing
+from . import double_colons, frozen_values, known, other_goals, port_report, renewing, rewriting, saved_meanwhile, \
+    saving, writing
 from .stuck import Stuck
 from ..base.programs import DIFFERS, TOLD_AT_INTERRUPT, Stop, need, write_text
 
@@ -56,7 +57,7 @@ def differences(texts):
 def told(ported, comparison):
     """The lines that say what was done."""
     name = ported.makefile
-    found = list(port_report.did(ported))
+    found = [*port_report.did(ported), *ported.mender(double_colons.DoubleColons).differences(comparison)]
     yield from (f"{name}: {line}" for line in found)
     yield from (f"{name}: {line}" for line in comparison.told())
     given = [] if name in ("makefile", "Makefile") else ["-f", name]
