@@ -127,6 +127,11 @@ class Looks(Tree):
         self.settled("--port", makefile="V := $(realpath link/x)\n" + VERSION)
         self.assertTrue(self.starts_python())
 
+    def test_one_that_a_tree_brings_along_is_taken_away(self):
+        self.put_all({"Makefile": VERSION, "build.kati/.look": "echo same\n"})
+        self.assertEqual(self.tool("kati-build", "--no-ninja").status, 0)
+        self.assertFalse((self.top / "build.kati/.look").exists())
+
     def test_names_that_mean_something_to_a_shell(self):
         self.put_all({"-x.c": "", "sub dir/$(y) 'z'.c": "", "(/!.c": "", "*": ""})
         self.settled("--port")
