@@ -2,6 +2,7 @@
 import os
 import shutil
 import unittest
+from unittest import mock
 
 from support import TOP, Tree, needs
 from test_nothing_new import VERSION
@@ -53,6 +54,7 @@ class Looks(Tree):
                 self.assertFalse(self.starts_python())
                 self.assertEqual(self.read("out"), "1\na\n")
 
+    @mock.patch.dict(os.environ, HOME="/one")
     def test_values_that_were_written(self):
         self.put("Makefile", CALLS + VERSION)
         self.assertEqual(self.tool("kati-port", "--write", "Makefile").status, 0)
