@@ -7,6 +7,7 @@ IMPL = re.compile(r"^(\s*)impl(?:<.*?>)? (?:(?P<trait>[\w:]+)(?:<(?P<of>[^>]*)>)
 BEFORE = re.compile(r"\s*(#\[|///|//)")
 CYCLE = re.compile(r"\s*#\[cycle\(")
 # What answers by hand are named after: branches, ways out and calls.
+TEXT = re.compile(r"""b?"(?:[^"\\]|\\.)*"|b?'(?:[^'\\]|\\.)'""")
 SHAPE = re.compile(r"\b(?:if|else|match|loop|while|for|return|break|continue)\b|=>|\?|&&|\|\||\w+(?=!?\()")
 
 
@@ -33,11 +34,16 @@ class Edit:
 
     def keeps_shape(self):
         """Whether it leaves the shape of the code. Then the code itself is what a control would be."""
-        return all(SHAPE.findall(old) == SHAPE.findall(new) for old, new in self.pairs)
+        return all(shape_of(old) == shape_of(new) for old, new in self.pairs)
 
     def ends(self, outcome, why):
         """Notes what came of it."""
         self.outcome, self.why = outcome, why
+
+
+def shape_of(code):
+    """The branches, ways out and calls of code, without what stands in its texts."""
+    return SHAPE.findall(TEXT.sub("", code))
 
 
 def read(path):

@@ -23,7 +23,7 @@ OTHERS = {
     "build/ninja_text.py": "Ninja's text", "make/exported_names.py": "a shell's text",
     "make/make_commands.py": "a shell's text", "make/recipe_shell.py": "make's database",
     "make/shell_reading.py": "a shell's text", "makefile/forms.py": "a shell's text",
-    "port/by_recipes_shell.py": "a shell's text", "port/mending_shell.py": "a shell's text",
+    "build/calls_of_recipes.py": "a shell's text", "port/mending_shell.py": "a shell's text",
 }
 # What a form has that is one of makefile text: a reference, an operator, a word of a statement, a continued line.
 MAKEFILE_TEXT = re.compile("|".join((

@@ -117,6 +117,9 @@ class WrongBodies(Tree):
         self.edit("wrong", "    by_hand_is", "    other")
         # It has the shape of the code, which is proved.
         self.assertEqual(self.tried(status=0)[0], f"demo wrong: refused ({why})")
+        # What stands in a text is no branch.
+        self.edit("wrong", "    by_hand_is", '    other b" || if (" b\'|\'')
+        self.assertEqual(self.tried(status=0)[0], f"demo wrong: refused ({why})")
         self.edit("wrong", "    by_hand_is", "    if other { x }")
         self.assertEqual(self.tried(status=1)[0],
                          f"demo wrong: no evidence (proved by hand, and no control is beside it; {why})")
