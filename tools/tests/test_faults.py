@@ -34,7 +34,7 @@ def rows_of_code(code):
 
 def rows_of_definition(definition):
     """The rows of the definition: name, number, words."""
-    rows = re.findall(r'^row_of kind\.(\w+) = \((\d+), codes "([^"]*)"\)$', definition, re.MULTILINE)
+    rows = re.findall(r'^fault_kind_row kind\.(\w+) = \((\d+), codes "([^"]*)"\)$', definition, re.MULTILINE)
     return [(name, int(number), words) for name, number, words in rows]
 
 

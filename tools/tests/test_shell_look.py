@@ -4,7 +4,7 @@ import shutil
 import unittest
 from unittest import mock
 
-from support import TOP, Tree, needs
+from support import TOP, Tree, kati, kati_asked, needs
 from test_nothing_new import VERSION
 
 # By this no Python can start.
@@ -114,6 +114,8 @@ class Looks(Tree):
         place = self.top.parent / "installed"
         for name in ("share/kati", "tools"):
             shutil.copytree(TOP / name, place / name, ignore=shutil.ignore_patterns("tests", "__pycache__"))
+        for name, program in (("kati", kati()), ("kati-asked", kati_asked())):
+            os.symlink(program, place / "tools" / name)
         self.put("Makefile", CALLS + VERSION)
         self.settle(place / "tools/kati-build", "--port")
         self.assertFalse(self.starts_python())

@@ -34,7 +34,7 @@ def rows_of_code(code):
 
 def rows_of_definition(definition):
     """The rows of the definition: variant, name, number of arguments."""
-    rows = re.findall(r'^row_of (\w+) = \(codes "([^"]*)", (\d+)\)$', definition, re.MULTILINE)
+    rows = re.findall(r'^function_row (\w+) = \(codes "([^"]*)", (\d+)\)$', definition, re.MULTILINE)
     return [(variant, name, int(arguments)) for variant, name, arguments in rows]
 
 
