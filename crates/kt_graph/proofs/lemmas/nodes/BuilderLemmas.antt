@@ -1,6 +1,6 @@
 -- One more name gets its node, from the goals on to the last of all.
-use Rattle.std.proofs.Common.{rules, ◌≡◌, ℕ, suc, zero, Bool, ◌-◌, ◌<◌, ◌≤◌, if◌then◌else◌, List, [], ◌∷◌, ◌++◌, length, map, fold, take, drop, get_or, Option, Some, None, slice_get, unwrap_or, Contains, All, refl, sym, ap, subst, ◌∙◌, arith, ◌⊎◌, inl, inr, ⊎_elim}
-use Rattle.kt_graph.proofs.Common.{option_map, length-append, length_push, take-append-drop, All-nil, All-cons, All-weaker, All-contains_itself, none-some, slice_get_within, slice_get-get_or, get_or_from_slice_get, Text, Target, explicit_rules, Entry, with_name, GraphBuilder, Instance as Held, NodeKind, StoredPart, StoredNode, Candidate, needed_by, Node, Part, all_inputs, node_by, node_of, HasNumbers, IsMaking, IsNumbered, IsStoredAs, SaysNode, SaysPart, SayParts, AreNumbersOf, named_at, names_read, numbers_below, AreBelow, IsReached, AllSay, AreTold, BuildsNode, IsBegun, IsDone, IsOver, reached_text, instance_at, instance_view, name_at, names_at, part_view}
+use Rattle.std.proofs.Common.{rules, ◌≡◌, ℕ, suc, zero, Bool, ◌-◌, ◌<◌, ◌≤◌, if◌then◌else◌, List, [], ◌∷◌, ◌++◌, length, map, fold, take, drop, get_or, Option, Some, None, slice_get, Contains, All, refl, sym, ap, subst, ◌∙◌, arith, ◌⊎◌, inl, inr, ⊎_elim}
+use Rattle.kt_graph.proofs.Common.{option_map, length-append, length_push, take-append-drop, All-nil, All-cons, All-weaker, All-contains_itself, none-some, slice_get_within, slice_get-get_or, get_or_from_slice_get, Text, Target, explicit_rules, Entry, with_name, GraphBuilder, Instance as Held, NodeKind, StoredPart, StoredNode, Candidate, needed_by, Node, Part, all_inputs, node_by, node_of, HasNumbers, IsMaking, IsNumbered, IsStoredAs, SaysNode, SaysPart, SayParts, named_at, names_read, numbers_below, IsReached, AllSay, AreTold, BuildsNode, IsBegun, IsDone, IsOver, reached_text, instance_at, instance_view, name_at, part_view}
 use Rattle.kt_rules.specs.declared.entry.RecipeLine.{RecipeLine}
 use Rattle.kt_graph.specs.declared.nodes.reached_name.ReachedName.{ReachedName}
 use Rattle.kt_graph.specs.nodes.Node.{Instance}

@@ -1,5 +1,5 @@
 -- Names and nodes by numbers, as the code holds them (kati's own).
-use Rattle.std.specs.Prelude.{◌≡◌, ℕ, ◌<◌, List, ◌++◌, length, map, fold, All, Option, Some, IfSome, slice_get}
+use Rattle.std.specs.Prelude.{◌≡◌, ℕ, ◌<◌, List, ◌++◌, length, fold, All, Option, IfSome}
 use Rattle.kt_graph.specs.Prelude.{AllZip, AreBelow, Text, Needs, with_name, Instance, Node, Part}
 use Rattle.kt_graph.specs.declared.nodes.node.Instance.{Instance as Held}
 use Rattle.kt_graph.specs.inner.nodes.Stems.{stem_in}
