@@ -15,8 +15,6 @@ ASIDE = "aside"
 # The file whose time is that of a run's start; and the one that says of which form the other files are: each change of
 # a form has a number of its own.
 BEGUN, VERSION, FORM = ".begun", "version", "2\n"
-# What a shell does to see whether anything is new.
-LOOK = ".look"
 FIRST_LINE = "# Written by kati-build, which writes it anew when the makefile changes.\n"
 
 

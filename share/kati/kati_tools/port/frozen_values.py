@@ -209,11 +209,6 @@ def other_environment(text):
             yield name
 
 
-def variables(text):
-    """The words to watch for the values of the environment."""
-    return [watched.ENVIRONMENT + name for source, name, _, _ in ENTRY.findall(text) if source == ENVIRONMENT]
-
-
 def stale(text):
     """What to say of the first thing that isn't as it was when make was asked; None where all is."""
     changed = watched.first_changed(dict(read_with_sums(text)))

@@ -122,10 +122,6 @@ class Build:
     def translate_settled(self):
         """Translates until nothing has changed that was read meanwhile; answers the status."""
         if nothing_new.is_so(self):
-            if self.asked.no_ninja:
-                # Loaded where ninja asked for nothing alone: the next time a shell sees that.
-                from . import shell_look
-                shell_look.keep(self)
             return 0
         inputs, names = begun.Inputs(self.room), self.names_before() or self.makefiles()
         for _ in range(begun.TIMES):
