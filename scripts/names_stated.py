@@ -14,9 +14,6 @@ MEMBERS = re.compile(r"^(?:pub(?:\([a-z]+\))? )?struct (\w+)[^{;(]*\{\n((?:    .
 SHORT = re.compile(r"^(\w+) = ([^=\n]+)$", re.MULTILINE)
 DECLARED = re.compile(r"^(?:pub )?use Rattle\.(\w+)\.specs\.declared\.[\w.]*?(\w+)\.\{\2 as \w+\}", re.MULTILINE)
 HELD = re.compile(r"\b([A-Z]\w*) as Held\1\b")
-# One thing of which two crates speak: a fault of a makefile has a place, a number and words, in kt_rules always that of
-# a rule line, in kt_eval of any line or none.
-SPOKEN_OF_TWICE = {"Fault", "fault_at"}
 
 
 def names_of(text):
@@ -73,7 +70,7 @@ def doubled(root):
     for crate, file, text in files_of(root, "src", ".rt"):
         for name in TYPE.findall(text):
             types[name].append((crate, file))
-    for name in sorted((set(definitions) | set(types)) - SPOKEN_OF_TWICE):
+    for name in sorted(set(definitions) | set(types)):
         said = [f"{crate} {file}" for crate, file in definitions[name] + types[name]]
         is_one = definitions[name] and types[name] and (types[name][0][0], name) in one_thing
         if len(definitions[name]) > 1 or len(types[name]) > 1 or (len(said) > 1 and not is_one):

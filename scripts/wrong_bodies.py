@@ -7,7 +7,7 @@ repository with what earlier checks kept, runs one check, and reads whom it blam
 
     refused      its function is blamed for a goal of its own
     no evidence  it is, but it has answers by hand, to which another shape of its body (its branches, ways out and
-                 calls) may be enough, and the edit changes that: NAME.control beside the edit, which has the new shape
+                 calls) may be enough, and the edit changes that: NAME.control of wrong-bodies, which has the new shape
                  and means the same, isn't let through or isn't there
     let through  its function is proved although it was edited, or nothing but its callees kept it from being proved
     no refusal   the edited code doesn't compile, only a name of a proof file went away, or the check gives no verdict:

@@ -47,8 +47,9 @@ def shape_of(code):
 
 
 def read(path):
-    """The edit of a file, with the control of NAME.control beside NAME.edit."""
-    beside = path.with_suffix(".control")
+    """The edit of a file, with its control, wrong-bodies/NAME.control. An edit of must-fail/ has it there as well: the
+    gate takes each file of must-fail/ for an edit that must be refused."""
+    beside = path.parent.with_name("wrong-bodies") / f"{path.stem}.control"
     control = None
     if path.suffix == ".edit" and beside.is_file():
         control = read(beside)

@@ -64,10 +64,6 @@ always_first groups drawn same = ap (λ (b : Bool). always_drawn b (statements_d
 
 -- ---- group by group
 
-abbrev drawn_left : StepEnd (List Text) (List GroupSketch) → List GroupSketch
-drawn_left (Gave left drawn) = drawn
-drawn_left (Stopped left fault) = []
-
 module _ (rules : List Entry) (table : Macros) (limit : ℕ) (groups : List (List Node)) (sketch : List GroupSketch) (group : List Node) (said : List Text) where
   -- the outcome after the next group is stored
   abbrev pub next_drawn : StepEnd (List Text) (List GroupSketch)

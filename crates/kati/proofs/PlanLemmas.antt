@@ -19,9 +19,6 @@ name_in node = node.name
 abbrev pub outs_in : Statement → List Text
 outs_in statement = statement.outs
 
-Differ : List Text → Type 0
-Differ names = AllPairs (λ (a b : Text). a ≢ b) names
-
 -- ---- names that differ
 
 all_if : {A : Type 0} (P : A → Type 0) (xs : List A) → ((x : A) → Contains xs x → P x) → All P xs

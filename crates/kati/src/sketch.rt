@@ -9,7 +9,7 @@ ghost use Rattle.kt_recipe.specs.Views.{command_in};
 ghost use Rattle.kt_ninja.specs.View.{made_by};
 ghost use Rattle.kati.specs.inner.Drawn.{first_joined, joined_view, no_drawn};
 
-use kt_list::{Names, Rows};
+use kt_list::Rows;
 use kt_ninja::command_can_hold;
 use kt_rules::Name;
 use std::alloc::{AllocError, Global};
@@ -19,7 +19,7 @@ use std::marker::Model;
 /// The joined prerequisites of the members of a group.
 #[derive(Drop)]
 pub(crate) struct JoinedNeeds {
-    pub inputs: Names,
+    pub inputs: Vec<Name>,
     pub order_only: Vec<Name>,
 }
 

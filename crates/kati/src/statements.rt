@@ -62,6 +62,7 @@ fn joined(alloc: Global, group: &[Node]) -> Result<Box<JoinedNeeds>, AllocError>
 {
     let inputs = joined_inputs(alloc, group)?;
     let order_only = joined_order_only(alloc, group, &inputs)?;
+    let inputs = inputs.texts(alloc)?;
     Ok(Box::new(alloc, JoinedNeeds { inputs, order_only })?)
 }
 
@@ -90,7 +91,7 @@ fn joined_order_only(alloc: Global, group: &[Node], inputs: &Names) -> Result<Ve
         → IfOk result (λ names. names.items ≡ joined_order_only group.now) }
 {
     let names = all_order_only(alloc, group)?;
-    others(alloc, names.as_slice(), inputs)
+    others(alloc, &names, inputs)
 }
 
 #[tactic(auto, unfolding(kt_rules::specs::Names::without_repeats))]
@@ -115,12 +116,12 @@ fn add_all(set: &mut Names, names: Inputs) -> Result<(), AllocError>
 }
 
 // The names that aren't inputs.
-fn others(alloc: Global, names: &[Name], inputs: &Names) -> Result<Vec<Name>, AllocError>
+fn others(alloc: Global, names: &Names, inputs: &Names) -> Result<Vec<Name>, AllocError>
     ensures { IfOk result (λ list. list.items ≡ filter (λ name. not (is_among inputs.now name)) names.now) }
 {
     let mut list = Vec::new(alloc);
-    for name in names {
-        add_other(alloc, &mut list, name.as_slice(), inputs)?;
+    for number in 0..names.len() {
+        add_other(alloc, &mut list, names.name_at(number), inputs)?;
     }
     Ok(list)
 }

@@ -22,7 +22,7 @@ pub use Rattle.kt_graph.specs.inner.faults.Edges.{AreEdgesOf, AreMadeBelow, AreN
 pub use Rattle.kt_graph.specs.inner.faults.Files.{AreDistinct, HasFiles, IsByteOrder, held_for, is_repeated, made_names, several_in}
 pub use Rattle.kt_graph.specs.inner.nodes.GraphBuilder.{AllSay, AreOf, AreTold, BuildsNode, HasLastNeeds, IsBegun, IsCut, IsDone, IsLeafOf, IsLikeLast, IsOver, ReachesMore, leaf_stored, sole_node}
 pub use Rattle.kt_graph.specs.inner.nodes.Inputs.{HasOwnInputs, inputs_held, numbers_without, others_held, with_input_number}
-unfoldable pub use Rattle.kt_graph.specs.inner.nodes.Inputs.{differ, rise, rise_after}
+unfoldable pub use Rattle.kt_graph.specs.inner.nodes.Inputs.{differ, rise, rise_after, rise_but_first}
 pub use Rattle.kt_graph.specs.inner.nodes.Needed.{first_needs, joined_after, needed_as, needed_by, needed_by_parts, needing_as, needing_view, part_with, rules_needs, single_node}
 pub use Rattle.kt_graph.specs.inner.nodes.Numbering.{AddsNumbers, HasNumbers, IsMaking, IsNumbered, IsStoredAs, SayParts, SaysNeeds, SaysNode, SaysPart}
 pub use Rattle.kt_graph.specs.inner.nodes.Reached.{HasSame, IsPlaced, IsPushed, IsReachedAt, ReachesNumber, StaysPlaced, listed_in, place_held, place_marked, reached_text}

@@ -17,17 +17,7 @@ pub fn named_goals(alloc: Global, words: &[Name]) -> Result<Vec<Name>, AllocErro
     for word in words {
         goals.add(without_dots(word.as_slice()))?;
     }
-    copied(alloc, goals.as_slice())
-}
-
-fn copied(alloc: Global, names: &[Name]) -> Result<Vec<Name>, AllocError>
-    ensures { IfOk result (λ list. list.items ≡ names.now) }
-{
-    let mut list = Vec::with_capacity(alloc, names.len())?;
-    for name in names {
-        list.push(Name::copied(alloc, name.as_slice())?)?;
-    }
-    Ok(list)
+    goals.texts(alloc)
 }
 
 /// The goal if the command line names none: the expanded text of `.DEFAULT_GOAL`, or else the first target (GNU make

@@ -1,6 +1,6 @@
 -- The hash of a list, two numbers at a time.
 use Rattle.std.proofs.Common.{◌≡◌, ℕ, ◌+◌, ◌-◌, ◌*◌, ◌≤◌, List, [], ◌∷◌, length, get_or, take, drop, arith, take_all}
-use Rattle.kt_list.specs.inner.Lists.{hash_from, hash_with}
+use Rattle.kt_list.specs.inner.Hashes.{hash_from, hash_with}
 
 pub two_hashed : (hash next all : ℕ) (left : List ℕ) → 2 ≤ length left → hash_from hash left ≡ all
     → next ≡ hash_with hash (get_or left 0 0 + get_or left 1 0 * 4294967296)

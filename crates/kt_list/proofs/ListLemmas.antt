@@ -1,16 +1,19 @@
--- Lists of numbers by their numbers.
-use Rattle.std.proofs.Common.{rules, ◌≡◌, ◌⊎◌, inl, inr, ⊎_elim, ℕ, zero, suc, ◌<◌, Bool, true, false, cond, nat_lt, List, [], ◌∷◌, ◌++◌, length, get_or, Option, Some, None, is_some, slice_get, sym, ap, ◌∙◌, refl, arith, subst, IfSome, IfNone, if◌then◌else◌}
-use Rattle.std.specs.List.{Contains, IsDistinct, position_or_len}
+-- Rows by their numbers.
+use Rattle.std.proofs.Common.{rules, ◌≡◌, ◌⊎◌, inl, inr, ⊎_elim, ℕ, zero, suc, ◌<◌, Bool, true, false, cond, nat_lt, List, [], ◌∷◌, ◌++◌, length, take, get_or, Option, Some, None, is_some, slice_get, sym, ap, ◌∙◌, refl, arith, IfSome, IfNone, if◌then◌else◌}
+use Rattle.std.proofs.lemmas.List.{map-append, take-map}
+use Rattle.indexmap.proofs.MapLemmas.{distinct-take}
+use Rattle.std.specs.List.{IsDistinct, position_or_len}
 use Rattle.std.specs.Str.{bytes_eq}
 use Rattle.std.proofs.lemmas.Bool.{false≢true, false_from_ne_true, lt-ltb}
-use Rattle.std.proofs.lemmas.Option.{slice_get-get_or, slice_get_within, get_or_from_slice_get}
+use Rattle.std.proofs.lemmas.Option.{slice_get-get_or, slice_get-map, slice_get_within, get_or_from_slice_get}
 use Rattle.std.proofs.lemmas.Slice.Eq.{bytes_eq-Decides}
 use Rattle.std.proofs.lemmas.List.Folds.{Any-from_list_any}
 use Rattle.std.proofs.lemmas.List.Sums.{position_or_len_is}
 use Rattle.std.proofs.lemmas.Map.Keys.{apart_from_distinct, any_passes_from_place, IsDistinct-from_apart, IsDistinct-push}
 use Rattle.kt_list.proofs.NameLemmas.{number_found}
 use Rattle.kt_list.specs.Names.{is_among, place_of, with_name}
-use Rattle.kt_list.specs.inner.Lists.{kept_for, AreFound, IsListNumber, KeepsFound}
+use Rattle.kt_list.specs.inner.HashChains.{AreRowsOnce}
+use Rattle.kt_list.specs.inner.Hashes.{is_at}
 
 -- ---- an element at the end
 
@@ -66,53 +69,39 @@ module _ (lists : List (List ℕ)) (list : List ℕ) where
 
 -- ---- a look-up
 
-module _ (lists : List (List ℕ)) (list : List ℕ) (ones : List ℕ) (firsts : List (ℕ × ℕ)) (others items : List ℕ) (first : Option ℕ)
-    (are : AreFound lists ones firsts others × IsDistinct bytes_eq lists) (is_first : first ≡ kept_for ones firsts list)
-    (are_items : items ≡ others) where
-  pub nowhere : ((place : ℕ) → slice_get lists place ≡ Some list → ((first ≡ Some place) ⊎ Contains items place) → ⊥)
-      → (place : ℕ) → slice_get lists place ≡ Some list → ⊥
-  nowhere lacks place at = lacks place at (⊎_elim (λ h. inl (is_first ∙ h)) (λ h. inr (subst (λ xs. Contains xs place) (sym are_items) h)) (are.0 place list at))
+module _ (hash_of : List ℕ → ℕ) (rows : List (List ℕ)) (hashes : List ℕ) (row : List ℕ) (are : AreRowsOnce hash_of rows hashes) where
+  hash_at : (place : ℕ) (hash : ℕ) → slice_get rows place ≡ Some row → hash ≡ hash_of row → slice_get hashes place ≡ Some hash
+  hash_at place hash at is = grind (arith, slice_get-map)
 
-  pub lacking : ((place : ℕ) → slice_get lists place ≡ Some list → ((first ≡ Some place) ⊎ Contains items place) → ⊥)
-      → is_among lists list ≡ false
-  lacking lacks = not_among lists list (nowhere lacks)
+  pub nowhere : (hash : ℕ) → hash ≡ hash_of row
+      → ((place : ℕ) → slice_get hashes place ≡ Some hash → is_at rows row place ≡ false)
+      → (place : ℕ) → slice_get rows place ≡ Some row → ⊥
+  nowhere hash is lacks place at = grind (arith, false≢true, hash_at, bytes_eq-Decides)
 
-  pub number_is : (result : Option ℕ) → IfSome result (λ n. slice_get lists n ≡ Some list)
-      → IfNone result ((place : ℕ) → slice_get lists place ≡ Some list → ((first ≡ Some place) ⊎ Contains items place) → ⊥)
-      → result ≡ place_of lists list
-  number_is result found lacks = grind (arith, not_placed, nowhere, placed)
+  pub lacking : (hash : ℕ) → hash ≡ hash_of row
+      → ((place : ℕ) → slice_get hashes place ≡ Some hash → is_at rows row place ≡ false) → is_among rows row ≡ false
+  lacking hash is lacks = not_among rows row (nowhere hash is lacks)
 
-  pub number_if : (result : Option ℕ) → IfSome result (λ n. slice_get lists n ≡ Some list)
-      → IfNone result ((place : ℕ) → slice_get lists place ≡ Some list → ((first ≡ Some place) ⊎ Contains items place) → ⊥)
-      → is_some result ≡ is_among lists list
-  number_if result found lacks = grind (arith, lacking, among)
+  pub number_is : (hash : ℕ) → hash ≡ hash_of row → (result : Option ℕ) → IfSome result (λ n. slice_get rows n ≡ Some row)
+      → IfNone result ((place : ℕ) → slice_get hashes place ≡ Some hash → is_at rows row place ≡ false)
+      → result ≡ place_of rows row
+  number_is hash is result found lacks = grind (arith, not_placed, nowhere, placed)
 
--- ---- what is found stays so
+  pub number_if : (hash : ℕ) → hash ≡ hash_of row → (result : Option ℕ) → IfSome result (λ n. slice_get rows n ≡ Some row)
+      → IfNone result ((place : ℕ) → slice_get hashes place ≡ Some hash → is_at rows row place ≡ false)
+      → is_some result ≡ is_among rows row
+  number_if hash is result found lacks = grind (arith, lacking, among)
 
-pub none_are : (lists : List (List ℕ)) (ones : List ℕ) (firsts : List (ℕ × ℕ)) (others : List ℕ) → lists ≡ []
-    → AreFound lists ones firsts others × IsDistinct bytes_eq lists
-none_are lists ones firsts others none = grind (arith, IsDistinct-from_apart)
+-- ---- one more row
 
-module _ (lists lists' : List (List ℕ)) (ones ones' : List ℕ) (firsts firsts' : List (ℕ × ℕ)) (others others' : List ℕ)
-    (are : AreFound lists ones firsts others × IsDistinct bytes_eq lists)
-    (kept : KeepsFound ones firsts others ones' firsts' others') where
-  pub keeps : lists' ≡ lists → AreFound lists' ones' firsts' others' × IsDistinct bytes_eq lists'
-  keeps same =
-      subst (λ rows. AreFound rows ones' firsts' others' × IsDistinct bytes_eq rows) (sym same)
-      ((λ place list at. kept list place (are.0 place list at)), are.1)
+pub none_once : (hash_of : List ℕ → ℕ) (rows : List (List ℕ)) (hashes : List ℕ) → rows ≡ [] → hashes ≡ [] → AreRowsOnce hash_of rows hashes
+none_once hash_of rows hashes none no_hash = grind (arith, IsDistinct-from_apart)
 
-  module _ (list : List ℕ) (number : ℕ) (noted : IsListNumber ones' firsts' others' list number) (next : number ≡ length lists)
-      (grew : lists' ≡ lists ++ list ∷ []) (new : is_among lists list ≡ false) where
-    found_more : (place : ℕ) (other : List ℕ)
-        → (slice_get lists place ≡ Some other) ⊎ ((place ≡ length lists) × (list ≡ other)) → IsListNumber ones' firsts' others' other place
-    found_more place other (inl at) = kept other place (are.0 place other at)
-    found_more place other (inr last) = grind arith
+pub one_more : (hash_of : List ℕ → ℕ) (rows rows' : List (List ℕ)) (hashes hashes' : List ℕ) (row : List ℕ) (hash : ℕ)
+    → AreRowsOnce hash_of rows hashes → is_among rows row ≡ false → hash ≡ hash_of row → rows' ≡ rows ++ row ∷ []
+    → hashes' ≡ hashes ++ hash ∷ [] → AreRowsOnce hash_of rows' hashes'
+one_more hash_of rows rows' hashes hashes' row hash are new is grew more = search (rules, map-append, IsDistinct-push)
 
-    pub are_more : AreFound lists' ones' firsts' others' × IsDistinct bytes_eq lists'
-    are_more = search (rules, found_more, at_pushed, IsDistinct-push)
-
-    pub number_next : Some number ≡ place_of lists' list
-    number_next =
-        sym (placed lists' list number are_more.1
-        (ap (λ (rows : List (List ℕ)). slice_get rows number) grew
-        ∙ ap (λ (n : ℕ). slice_get (lists ++ list ∷ []) n) next ∙ last_pushed lists list))
+pub fewer : (hash_of : List ℕ → ℕ) (rows rows' : List (List ℕ)) (hashes hashes' : List ℕ) (len : ℕ) → AreRowsOnce hash_of rows hashes
+    → rows' ≡ take len rows → hashes' ≡ take len hashes → AreRowsOnce hash_of rows' hashes'
+fewer hash_of rows rows' hashes hashes' len are less hashed = search (rules, take, take-map, distinct-take)

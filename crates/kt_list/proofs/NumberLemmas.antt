@@ -5,7 +5,7 @@ use Rattle.std.proofs.lemmas.List.Elements.{All-cons, All-nil}
 use Rattle.std.proofs.lemmas.Option.{slice_get_within}
 use Rattle.kt_list.specs.Names.{AreBelow, AreNumbersOf, name_at, names_at}
 use Rattle.kt_list.specs.Prefixes.{HasMore}
-use Rattle.kt_list.proofs.OverLemmas.{slice_get-left}
+use Rattle.kt_list.proofs.PrefixLemmas.{slice_get-left}
 
 -- a longer table says the same of a number
 pub number_stays : (names new : List (List ℕ)) (number : ℕ) (name : List ℕ) → HasMore names new → slice_get names number ≡ Some name

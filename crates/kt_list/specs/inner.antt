@@ -1,2 +1,3 @@
 -- What only contracts of private functions and proofs cite: none of this is needed to read the public contracts.
-pub mod Lists
+pub mod HashChains
+pub mod Hashes

@@ -1,12 +1,12 @@
 //! The list types of kati's public data: contracts see each as a plain list.
 #![tactic(auto)]
 
+mod hash_chains;
 mod key;
 mod lists;
-mod lists_over;
 mod names;
-mod names_over;
 mod narrowing;
+mod numbered;
 mod rows;
 mod sequence;
 mod shared;
@@ -15,9 +15,7 @@ mod text;
 
 pub use key::Key;
 pub use lists::Lists;
-pub use lists_over::ListsOver;
 pub use names::Names;
-pub use names_over::NamesOver;
 pub use narrowing::{narrow, narrow_sum};
 pub use rows::Rows;
 pub use sequence::Sequence;

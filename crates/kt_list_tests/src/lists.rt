@@ -1,6 +1,6 @@
 //! Each list of numbers has a number, and what fits in four bytes.
-use kt_list::{Lists, ListsOver, narrow, narrow_sum};
-use std::alloc::{AllocError, Global};
+use kt_list::{Lists, narrow, narrow_sum};
+use std::alloc::AllocError;
 
 #[test]
 fn narrows_numbers(rt: HostRuntime) -> Result<(), AllocError> {
@@ -31,19 +31,4 @@ fn numbers_lists_of_one_hash(rt: HostRuntime) -> Result<(), AllocError> {
     ];
     assert_eq!(rt; numbers, [0, 1]);
     Ok(())
-}
-
-#[test]
-fn numbers_lists_after_those_of_a_table(rt: HostRuntime) -> Result<(), AllocError> {
-    let base = lists_of(rt.alloc(), &[2, 1])?;
-    let mut lists = ListsOver::new(rt.alloc(), &base);
-    assert_eq!(rt; lists.add(&[2])?, 1);
-    assert_eq!(rt; lists.get(1), Some([2u32].as_slice()));
-    Ok(())
-}
-
-fn lists_of(alloc: Global, list: &[u32]) -> Result<Lists, AllocError> {
-    let mut lists = Lists::new(alloc);
-    let _number = lists.add(list)?;
-    Ok(lists)
 }

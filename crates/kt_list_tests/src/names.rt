@@ -1,6 +1,6 @@
 //! Each name has a number.
 use crate::sameness::same;
-use kt_list::{Names, NamesOver};
+use kt_list::Names;
 use std::alloc::{AllocError, Global};
 
 const LONG: &[u8] = b"a name that is longer than what lies in its value";
@@ -29,29 +29,43 @@ fn gives_a_name_its_number_again(rt: HostRuntime) -> Result<(), AllocError> {
 }
 
 #[test]
-fn forgets_names(rt: HostRuntime) -> Result<(), AllocError> {
-    let mut names = three_names(rt.alloc())?;
-    names.truncate(1);
-    assert!(rt; !names.contains(LONG));
-    assert_eq!(rt; names.as_slice().len(), 1);
-    names.clear();
-    assert_eq!(rt; names.len(), 0);
+fn copies_its_names(rt: HostRuntime) -> Result<(), AllocError> {
+    let names = three_names(rt.alloc())?;
+    let texts = names.texts(rt.alloc())?;
+    assert_eq!(rt; texts.len(), 3);
+    assert_eq!(rt; texts[1].as_slice(), LONG);
+    Ok(())
+}
+
+// Names of one chain stand in it in turn: there are fewer chains than names.
+#[test]
+fn numbers_many_names(rt: HostRuntime) -> Result<(), AllocError> {
+    let mut names = Names::new(rt.alloc());
+    for number in 0..=255u8 {
+        names.add(&[number])?;
+    }
+    names.truncate(100);
+    for number in 0..=255u8 {
+        let place = if number < 100 {
+            Some(number as usize)
+        } else {
+            None
+        };
+        assert_eq!(rt; names.number_of(&[number]), place);
+    }
+    assert_eq!(rt; names.number(&[200])?, 100);
     Ok(())
 }
 
 #[test]
-fn numbers_names_after_those_of_a_table(rt: HostRuntime) -> Result<(), AllocError> {
-    let base = names_of(rt.alloc(), b"a")?;
-    let mut names = NamesOver::new(rt.alloc(), &base);
-    assert_eq!(rt; names.number(b"b")?, 1);
-    assert_eq!(rt; names.get(1), Some(b"b".as_slice()));
+fn forgets_names(rt: HostRuntime) -> Result<(), AllocError> {
+    let mut names = three_names(rt.alloc())?;
+    names.truncate(1);
+    assert!(rt; !names.contains(LONG));
+    assert_eq!(rt; names.len(), 1);
+    names.clear();
+    assert_eq!(rt; names.len(), 0);
     Ok(())
-}
-
-fn names_of(alloc: Global, name: &[u8]) -> Result<Names, AllocError> {
-    let mut names = Names::new(alloc);
-    names.add(name)?;
-    Ok(names)
 }
 
 fn three_names(alloc: Global) -> Result<Names, AllocError> {

@@ -1,5 +1,5 @@
 -- The lines of a printed plan, each read as what it was printed for.
-use Rattle.std.proofs.Common.{arith, rules, ◌≡◌, ◌∙◌, ℕ, ◌+◌, List, [], ◌∷◌, ◌++◌, refl, ap, map, true, false, not, Option, Some, None, option_map, is_none, codes, if◌then◌else◌}
+use Rattle.std.proofs.Common.{arith, rules, ◌≡◌, ◌∙◌, ℕ, ◌+◌, List, [], ◌∷◌, ◌++◌, refl, ap, map, true, false, not, Some, None, option_map, is_none, codes, if◌then◌else◌}
 use Rattle.kt_ninja_reader.proofs.Common.{list_all, option_and_then, and_from, and_parts, Made, Command, Statement, JoinedLine, Bytes, is_comment, Plain, pieces, Binding, Build, MarginForm, Spelling, build_form, build_of, default_form, defaults_of, margin_form, rule_form, rule_name_in, ScopeTable, find_in, put_in, value_in, value_within, Making, State, PendingStatement, add_defaults, add_statement, are_new, block_from, block_of, block_scope, is_file_byte, is_sound, making_of, pending_outs, paths_in, read_build, read_default, read_form, read_head, read_part, read_rule, rule_command, pending_with, is_special_in_name, rule_name_text, is_among, is_command, is_command_byte, is_empty, is_name}
 use Rattle.kt_ninja_reader.proofs.PrintedPieces.{all_implies, command_bytes, expanded_by, is_printed, neither, pieces_from_written, written}
 use Rattle.kt_ninja_reader.proofs.PrintedNames.{command_alone, command_pieces, is_word, name_bytes_plain, name_pieces, names_are_words, plain_pieces, rule_name_bytes}
@@ -136,15 +136,6 @@ paths_read value_of (n ∷ ns) e =
 -- a statement as it is read, made so
 abbrev pub pending_as : Making → Statement → PendingStatement
 pending_as making s = record { outs = s.outs; making = making; inputs = s.inputs; implicit = s.implicit; order_only = s.order_only }
-
--- a statement by its lists of paths
-abbrev pending_of : Making → Option (List Bytes) → Option (List Bytes) → Option (List Bytes) → Option (List Bytes) → Option PendingStatement
-pending_of making a b c d =
-    option_and_then (λ outs.
-    option_and_then (λ inputs.
-    option_and_then (λ implicit.
-    option_map (λ order_only. record { outs = outs; making = making; inputs = inputs; implicit = implicit; order_only = order_only })
-    d) c) b) a
 
 -- and so is the statement
 pending_is : (value_of : Bytes → Bytes) (making : Making) (rule : Bytes) (s : Statement) → Named s

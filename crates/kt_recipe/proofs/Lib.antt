@@ -2,6 +2,7 @@ pub mod Common
 pub mod QuotingLemmas
 pub mod SetLemmas
 pub mod AskingLemmas
+pub mod OnlyPartLemmas
 pub mod CallLemmas
 pub mod ShellLemmas
 pub mod PieceLemmas

@@ -1,14 +1,8 @@
 -- Names that are added to a set and looked up there, as they are borrowed.
-use Rattle.std.proofs.Common.{arith, ◌≡◌, Bool, ◌||◌, if◌then◌else◌, List, [], ◌∷◌, ◌++◌, map, Bor, refl, ap, ◌∙◌, nat_eq}
+use Rattle.std.proofs.Common.{arith, ◌≡◌, Bool, ◌||◌, if◌then◌else◌, List, [], ◌∷◌, ◌++◌, map, refl, ap, ◌∙◌, nat_eq}
 use Rattle.kt_recipe.proofs.Common.{list_any, pointwise, map-append, Text, is_among, with_name}
 use Rattle.indexmap.specs.IndexSet.{insert_key}
 use Rattle.kt_list.specs.declared.key.Key.{Key}
-
--- whether a name is one of those that are borrowed
-pub among_names : (names : List (Bor Text)) (name : Text)
-    → list_any (λ (other : Bor Text). pointwise nat_eq name other.now) names ≡ is_among (map (λ (other : Bor Text). other.now) names) name
-among_names [] name = refl
-among_names (other ∷ names) name = ap (λ rest. pointwise nat_eq name other.now || rest) (among_names names name)
 
 -- whether a name is a key
 pub among_keys : (keys : List Key) (name : Text)

@@ -1,13 +1,13 @@
 //! The automatic macros of recipes.
-//! Fast: up to 8 names are compared with one another, where each is to stand once. Spares a set for each `$^`.
-ghost use Rattle.std.specs.Prelude.{◌≡◌, [], ◌∷◌, ◌++◌, IfOk, IfSome, OnOk, filter, map, not, option_map, bytes_eq};
+//! Fast: the graph has the prerequisites of a node each once, which serves in all nodes but those of double-colon
+//! rules. Spares a set for each `$^`.
+ghost use Rattle.std.specs.Prelude.{◌≡◌, [], ◌∷◌, ◌++◌, IfOk, IfSome, OnOk, filter, map, not, option_map};
 ghost use Rattle.std.specs.Prelude.{slice_get, take};
 ghost use Rattle.std.specs.Cow.{cow_slice_items};
-ghost use Rattle.std.specs.List.{list_any};
 ghost use Rattle.kt_text.specs.Words.{is_nonempty};
-ghost use Rattle.kt_rules.specs.Names.{is_among, with_name, without_repeats};
+ghost use Rattle.kt_rules.specs.Names.{is_among, without_repeats};
 ghost use Rattle.kt_graph.specs.nodes.Views.{part_needed, part_order_only, part_stem};
-ghost use Rattle.kt_recipe.specs.inner.Asking.{macro_in};
+ghost use Rattle.kt_recipe.specs.inner.Asking.{is_only_part, macro_in};
 ghost use Rattle.kt_recipe.specs.Automatic.{subject_names_in};
 ghost use Rattle.kt_recipe.specs.Forms.{names_text_in};
 
@@ -20,9 +20,6 @@ use kt_list::Key;
 use std::alloc::{AllocError, Global};
 use std::borrow::CowSlice;
 use std::marker::Model;
-
-// Up to this many names are compared with one another.
-const FEW: usize = 8;
 
 /// The automatic macros in the recipe of a node's part, each computed when it is looked up (GNU make manual, "Automatic
 /// Variables").
@@ -134,7 +131,7 @@ fn names_in<'g>(
     match subject {
         Subject::Target => one(alloc, node.name()),
         Subject::First => first(alloc, node.prerequisites(part)),
-        Subject::Each => each_name(alloc, node.prerequisites(part)),
+        Subject::Each => each_name(alloc, node, part),
         Subject::Every => node.prerequisites(part).collect(alloc),
         Subject::OrderOnly => order_only(alloc, node, part),
         Subject::Stem => some(alloc, node.stem(part)),
@@ -176,54 +173,39 @@ fn order_only<'g>(alloc: Global, node: &Node<'g>, part: usize) -> Result<Vec<&'g
         ≡ filter (λ name. not (is_among (without_repeats (part_needed (slice_get node.now.parts part))) name))
         (without_repeats (part_order_only (slice_get node.now.parts part)))) }
 {
+    if is_only_part(node, part) {
+        return collected(alloc, node.order_only());
+    }
     let names = each(alloc, node.order_only_prerequisites(part))?;
     let others = each(alloc, node.prerequisites(part))?;
     without(alloc, names.as_slice(), &others)
 }
 
-// Each of the names once, as a list.
-fn each_name<'g>(alloc: Global, names: Inputs<'g>) -> Result<Vec<&'g [u8]>, AllocError>
-    ensures { IfOk result (λ each. map (λ name. name.now) each.items ≡ without_repeats names.entry) }
+// The prerequisites of a part, each once.
+fn each_name<'g>(alloc: Global, node: &Node<'g>, part: usize) -> Result<Vec<&'g [u8]>, AllocError>
+    ensures { IfOk result (λ each. map (λ name. name.now) each.items
+        ≡ without_repeats (part_needed (slice_get node.now.parts part))) }
 {
-    if names.len() <= FEW {
-        return each_of_few(alloc, names);
+    if is_only_part(node, part) {
+        return collected(alloc, node.inputs());
     }
-    let set = each(alloc, names)?;
+    let set = each(alloc, node.prerequisites(part))?;
     listed(alloc, set.as_slice())
 }
 
-// A few names, each once: they are compared with one another, which is cheaper than a set of them.
-#[tactic(auto, unfolding(kt_rules::specs::Names::without_repeats))]
-fn each_of_few<'g>(alloc: Global, names: Inputs<'g>) -> Result<Vec<&'g [u8]>, AllocError>
-    ensures { IfOk result (λ each. map (λ name. name.now) each.items ≡ without_repeats names.entry) }
+fn collected<'g>(alloc: Global, names: Inputs<'g>) -> Result<Vec<&'g [u8]>, AllocError>
+    ensures { IfOk result (λ all. map (λ name. name.now) all.items ≡ names.entry) }
 {
-    let mut each = Vec::with_capacity(alloc, names.len())?;
-    for name in names {
-        add_if_new(&mut each, name)?;
-    }
-    Ok(each)
+    names.collect(alloc)
 }
 
-fn add_if_new<'g>(names: &mut Vec<&'g [u8]>, name: &'g [u8]) -> Result<(), AllocError>
-    ensures { OnOk result (map (λ name. name.now) names.new.items
-        ≡ with_name (map (λ name. name.now) names.old.items) name.now) }
+// Whether a node has this part alone, as all nodes but those of double-colon rules: the graph has its prerequisites
+// each once.
+#[tactic(auto, unfolding(crate::specs::inner::Asking::is_only_part))]
+fn is_only_part(node: &Node<'_>, part: usize) -> bool
+    ensures { result ≡ is_only_part node.now part }
 {
-    if !is_listed(names.as_slice(), name) {
-        names.push(name)?;
-    }
-    Ok(())
-}
-
-fn is_listed(names: &[&[u8]], name: &[u8]) -> bool
-    ensures { result ≡ is_among (map (λ other. other.now) names.now) name.now }
-{
-    is_one_of(names, name)
-}
-
-fn is_one_of(names: &[&[u8]], name: &[u8]) -> bool
-    ensures { result ≡ list_any (λ other. bytes_eq name.now other.now) names.now }
-{
-    names.iter().any(|other| name == *other)
+    part == 0 && node.parts() == 1
 }
 
 // Each of the names once.

@@ -10,7 +10,7 @@ pub use Rattle.kt_rules.specs.Entry.{rule_with, rules_with, shared_needs}
 unfoldable pub use Rattle.kt_rules.specs.Entry.{head_names, rule_of, stemmed_names, stemmed_of}
 pub use Rattle.kt_rules.specs.Names.{begins_quotable, cuts, end_place, is_quotable}
 unfoldable pub use Rattle.kt_rules.specs.Names.{after_dots, cut_pieces, cut_place, is_member, is_refused_name, is_refused_target, is_special, is_wildcard, is_without_effect, name_of, unquoted, without_dots, without_outer_separators, without_repeats, written_words}
-pub use Rattle.kt_rules.specs.Refusals.{Fault, GivesExpected, Refusal, ReportsFault, bad_group, both_colons, fault_at, faults_at, two_recipes}
+pub use Rattle.kt_rules.specs.Refusals.{RuleLineFault, GivesExpected, Refusal, ReportsFault, bad_group, both_colons, rule_line_fault, rule_line_faults, two_recipes}
 pub use Rattle.kt_rules.specs.RuleLine.{line_of}
 unfoldable pub use Rattle.kt_rules.specs.RuleLine.{after_double, colon_cut, first_refusal, group_targets, head_of, is_bad_group, is_bar, line_refusal, mixes_patterns, name_refusal, needs_of, target_refusal, tested_needs}
 pub use Rattle.kt_rules.specs.Slots.{AllAgree, AreBefore, AreIn, ForgotFrom, GotRecipes, GotSpots, GrewAt, GrewIn, IsIndexOf, IsKept, first_found, first_of, list_of, rule_view, spot_at, spot_rule, spots_at, spots_before, spots_for, target_rule, target_spots, unless}

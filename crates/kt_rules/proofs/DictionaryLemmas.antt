@@ -1,6 +1,6 @@
 -- Names and lists of names by numbers.
-use Rattle.std.proofs.Common.{rules, ◌≡◌, ℕ, ◌<◌, Bool, true, false, if◌then◌else◌, List, [], ◌∷◌, ◌++◌, length, slice_get, get_or, Option, Some, option_map, sym, ap, ◌∙◌, subst, arith, length-append}
-use Rattle.kt_rules.proofs.Common.{All, append-nil, append_assoc, get_or_append_left, All-push, All-weaker, get_or_from_slice_get, slice_get_within, number_found, IfSome, Text, is_among, with_name, place_of, AreBelow, AreNumbersOf, name_at, name_read, number_stays, numbers_below, numbers_stay, GrowsDictionary, IsListOf, IsNumberOf}
+use Rattle.std.proofs.Common.{rules, ◌≡◌, ℕ, Bool, true, false, if◌then◌else◌, List, [], ◌∷◌, ◌++◌, length, slice_get, get_or, Option, Some, option_map, sym, ap, ◌∙◌, subst, arith, length-append}
+use Rattle.kt_rules.proofs.Common.{All, append-nil, append_assoc, get_or_append_left, All-push, All-weaker, get_or_from_slice_get, slice_get_within, number_found, Text, is_among, with_name, place_of, AreBelow, AreNumbersOf, name_at, name_read, number_stays, numbers_below, numbers_stay, GrowsDictionary, IsListOf, IsNumberOf}
 use Rattle.kt_list.specs.Prefixes.{HasMore}
 
 -- ---- lists that others begin with
@@ -24,9 +24,6 @@ number_stays_if names new number name more is = grind (arith, number_stays)
 
 pub number_named_if : (names : List Text) (number : Option ℕ) (name : Option Text) → IsNumberOf names number name → option_map (name_at names) number ≡ name
 number_named_if names number name is = grind (arith, name_read)
-
-pub number_within_if : (names : List Text) (number : Option ℕ) (name : Option Text) → IsNumberOf names number name → IfSome number (λ n. n < length names)
-number_within_if names number name is = grind (arith, slice_get_within)
 
 -- ---- numbers of lists
 

@@ -34,3 +34,6 @@ pub mod PartLemmas
 pub mod HeadWordLemmas
 pub mod QuoteLemmas
 pub mod OuterLemmas
+mod NumberedLemmas
+mod OverrideLemmas
+mod SparedLemmas

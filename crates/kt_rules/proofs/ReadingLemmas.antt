@@ -1,6 +1,6 @@
 -- The rule of a line, from the results of the steps that read it.
 use Rattle.std.proofs.Common.{arith, ◌≡◌, ℕ, true, false, List, [], ◌∷◌, filter, refl, sym, ◌∙◌, ap, ⊎_elim, Option, Result, Ok, Err}
-use Rattle.kt_rules.proofs.Common.{list_all, onto_first, slice_split, cases_Bool, Text, is_nonempty, is_separator, words_of, RuleFault, HeadNames, Refusal, Fault, GivesExpected, ReportsFault, fault_at, faults_at, Head, head_of, line_of, Entry, empty_line, is_nil, head_names, rule_of, rule_with, rules_with, tested_line}
+use Rattle.kt_rules.proofs.Common.{list_all, onto_first, slice_split, cases_Bool, Text, is_nonempty, is_separator, words_of, RuleFault, HeadNames, Refusal, RuleLineFault, GivesExpected, ReportsFault, rule_line_fault, rule_line_faults, Head, head_of, line_of, Entry, empty_line, is_nil, head_names, rule_of, rule_with, rules_with, tested_line}
 use Rattle.kt_text.proofs.WordLemmas.{words_of-nil, words_of-skip}
 use Rattle.kt_rules.specs.declared.place.Place.{Place}
 
@@ -17,7 +17,7 @@ blank_words [] = sym (ap is_nil words_of-nil)
 blank_words (byte ∷ text) = grind (arith, ⊎_elim, words_of-skip, word_begun, cases_Bool, blank_words text)
 
 -- a reported fault is the expected result
-pub told_fault : {A : Type 0} (told : RuleFault) (fault : Fault) (expected : Result A Fault)
+pub told_fault : {A : Type 0} (told : RuleFault) (fault : RuleLineFault) (expected : Result A RuleLineFault)
     → ReportsFault told fault → expected ≡ Err fault → GivesExpected (Err told) expected
 told_fault told fault expected tells is = grind arith
 
@@ -30,12 +30,12 @@ module _ (text : Text) (recipe : Option Text) (place : Place) where
 
   -- a head that is refused
   pub head_fault : (refusal : Refusal) → is_nil (words_of text) ≡ false → Err refusal ≡ head_of text
-      → rule_of text recipe place ≡ Err (fault_at place refusal)
+      → rule_of text recipe place ≡ Err (rule_line_fault place refusal)
   unfolding rule_of head_names
   head_fault refusal filled head = rw (filled, ← head) refl
 
   -- a head whose line is then tested
   pub line_tested : (head : Head) (line : HeadNames) → is_nil (words_of text) ≡ false → Ok head ≡ head_of text → line ≡ line_of head
-      → rule_of text recipe place ≡ faults_at place (rules_with (tested_line line) recipe place)
+      → rule_of text recipe place ≡ rule_line_faults place (rules_with (tested_line line) recipe place)
   unfolding rule_of head_names
   line_tested head line filled cut named = rw (filled, ← cut, ← named) refl

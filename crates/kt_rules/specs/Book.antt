@@ -7,7 +7,7 @@ use Rattle.kt_rules.specs.Prelude.{DoubleColon, Group, Pattern, TerminalPattern,
 use Rattle.std.specs.Cmp.Lexicographic.{pointwise}
 use Rattle.kt_rules.specs.Names.{is_among, is_special}
 use Rattle.kt_rules.specs.Places.{place_text}
-use Rattle.kt_rules.specs.Refusals.{Refusal, Fault, bad_group, both_colons, two_recipes, fault_at}
+use Rattle.kt_rules.specs.Refusals.{Refusal, RuleLineFault, bad_group, both_colons, two_recipes, rule_line_fault}
 use Rattle.kt_rules.specs.Suffixes.{special_needs, suffixes_of, suffix_patterns, is_single, is_bare, is_suffix_rule}
 
 abbrev pub is_double : Kind → Bool
@@ -177,9 +177,9 @@ abbrev pub override_messages : List Entry → Entry → List Text
 override_messages rules rule = map (override_message rule.place) (overridden_targets rules rule)
 
 -- what `add` returns: the warnings, or the fault
-abbrev pub added : List Entry → Entry → Option Refusal → Result (List Text) Fault
+abbrev pub added : List Entry → Entry → Option Refusal → Result (List Text) RuleLineFault
 added rules rule None = Ok (override_messages rules rule)
-added rules rule (Some refusal) = Err (fault_at rule.place refusal)
+added rules rule (Some refusal) = Err (rule_line_fault rule.place refusal)
 
 -- ---- pattern rules
 

@@ -16,7 +16,7 @@ use Rattle.kt_rules.specs.declared.head.Separator.{Separator}
 use Rattle.kt_rules.specs.declared.head.Separator.TheVariants.{Single, Double, Grouped}
 use Rattle.kt_rules.specs.declared.line.HeadNames.{HeadNames}
 use Rattle.kt_rules.specs.declared.place.Place.{Place}
-use Rattle.kt_rules.specs.Refusals.{Refusal, Fault, faults_at}
+use Rattle.kt_rules.specs.Refusals.{Refusal, RuleLineFault, rule_line_faults}
 use Rattle.kt_rules.specs.Names.{without_dots}
 use Rattle.kt_rules.specs.RuleLine.{Head, head_of, line_of, line_refusal}
 
@@ -146,5 +146,5 @@ rules_with (Ok line) recipe place = Ok (rule_with line recipe place)
 rules_with (Err refusal) recipe place = Err refusal
 
 -- the rule of an expanded head, with the recipe after its semicolon, if there is one, or its fault
-unfoldable pub rule_of : Text → Option Text → Place → Result Entry Fault
-rule_of text recipe place = faults_at place (rules_with (head_names text) recipe place)
+unfoldable pub rule_of : Text → Option Text → Place → Result Entry RuleLineFault
+rule_of text recipe place = rule_line_faults place (rules_with (head_names text) recipe place)

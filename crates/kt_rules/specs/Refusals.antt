@@ -40,30 +40,30 @@ kind_and_name bad_group = (kind.BadGroup, [])
 kind_and_name (both_colons name) = (kind.SingleAndDoubleColon, name)
 kind_and_name (two_recipes name) = (kind.TwoRecipes, name)
 
--- a fault of a makefile
-pub record Fault : Type 0 where
+-- the fault of a rule line
+pub record RuleLineFault : Type 0 where
   pub number : ℕ
   pub place : Place
   pub words : Text
 
 -- the fault for a refusal at a place
-abbrev pub fault_at : Place → Refusal → Fault
-fault_at place refusal =
+abbrev pub rule_line_fault : Place → Refusal → RuleLineFault
+rule_line_fault place refusal =
     let told = kind_and_name refusal in
     record { number = fault_kind_number told.0; place = place; words = words_with told.0 told.1 }
 
 -- the same for a result
-abbrev pub faults_at : {A : Type 0} → Place → Result A Refusal → Result A Fault
-faults_at place (Ok value) = Ok value
-faults_at place (Err refusal) = Err (fault_at place refusal)
+abbrev pub rule_line_faults : {A : Type 0} → Place → Result A Refusal → Result A RuleLineFault
+rule_line_faults place (Ok value) = Ok value
+rule_line_faults place (Err refusal) = Err (rule_line_fault place refusal)
 
 -- the call returns exactly this fault, or runs out of memory, which is always allowed
-abbrev pub ReportsFault : RuleFault → Fault → Type 0
+abbrev pub ReportsFault : RuleFault → RuleLineFault → Type 0
 ReportsFault Memory fault = Unit {0}
 ReportsFault (Refused number place words) fault = record { number = number; place = place; words = words } ≡ fault
 
 -- the call returns the expected value or fault, or runs out of memory
-abbrev pub GivesExpected : {A : Type 0} → Result A RuleFault → Result A Fault → Type 0
+abbrev pub GivesExpected : {A : Type 0} → Result A RuleFault → Result A RuleLineFault → Type 0
 GivesExpected (Ok value) expected = expected ≡ Ok value
 GivesExpected (Err Memory) expected = Unit {0}
 GivesExpected (Err (Refused number place words)) expected =

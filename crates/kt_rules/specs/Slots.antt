@@ -1,13 +1,13 @@
 -- The rules of a book, and the spots of their targets (kati's own).
-use Rattle.std.specs.Prelude.{◌≡◌, ℕ, ◌+◌, ◌<◌, nat_lt, Bool, false, ◌&&◌, List, [], ◌∷◌, ◌++◌, filter, filter_map, bytes_eq, length}
+use Rattle.std.specs.Prelude.{◌≡◌, ℕ, ◌+◌, ◌<◌, nat_lt, Bool, false, ◌&&◌, List, [], ◌∷◌, ◌++◌, filter, filter_map, map, bytes_eq, length}
 use Rattle.std.specs.Prelude.{Option, Some, None, option_map, option_and_then, slice_get, is_some, if◌then◌else◌}
 use Rattle.kt_rules.specs.Prelude.{list_any, place_of, Text, Target, Spot, Entry, is_among}
 use Rattle.kt_rules.specs.inner.Lists.{Notes, list_at}
 use Rattle.kt_rules.specs.declared.book.target_rule.TargetRule.{TargetRule}
 use Rattle.kt_rules.specs.Book.{GroupsStandAlone, is_made, is_double, is_group, is_phony, rules_of, recipes_of}
-use Rattle.kt_rules.specs.Book.{xor}
+use Rattle.kt_rules.specs.Book.{made_targets, override_message, xor}
 use Rattle.kt_rules.specs.Targets.{entry_view, target_view}
-use Rattle.kt_rules.specs.Suffixes.{suffixes_of, is_bare}
+use Rattle.kt_rules.specs.Suffixes.{suffixes_of, is_bare, is_single}
 
 -- a rule of the code as one of the definitions
 abbrev pub rule_view : TargetRule → Entry × Target
@@ -53,6 +53,16 @@ list_of (Some number) lists = list_at lists number
 -- the spots of a name
 abbrev pub spots_at : Notes → Text → List Spot
 spots_at notes name = list_of (place_of notes.0 name) notes.1
+
+-- the targets of a rule that have a spot where a rule is
+abbrev pub found_targets : List Entry → Notes → Entry → List Target
+found_targets rules notes rule =
+    filter (λ target. is_some (first_found rules (spots_at notes target.name))) (made_targets rule)
+
+-- the warnings on the targets that get a second recipe, as an index of the rules with a recipe tells them
+abbrev pub noted_messages : List Entry → Notes → Entry → List Text
+noted_messages rules recipes rule = map (override_message rule.place)
+    (if is_single rule.kind && is_some rule.recipe then found_targets rules recipes rule else [])
 
 -- ---- one more rule
 

@@ -213,10 +213,10 @@ impl Book {
     }
 
     /// The suffixes, in order (POSIX.1-2024 make, "Inference Rules"). Takes no memory.
-    pub fn suffixes(&self) -> &[Name]
+    pub fn suffixes(&self) -> &Names
         ensures { result.now ≡ suffixes_of self.now }
     {
-        self.suffixes.as_slice()
+        self.suffixes.names()
     }
 
     /// The first of the suffixes that the name ends with. Takes no memory.
@@ -261,17 +261,6 @@ impl Book {
         ensures grown { OnOk result (self.new ≡ self.old ++ entry ∷ []) }
         ensures refused { OnErr result (self.new ≡ self.old) }
     {
-        let warnings = self.warnings(&entry)?;
-        self.learn(entry)?;
-        Ok(warnings)
-    }
-
-    // Adds an entry that isn't refused.
-    fn learn(&mut self, entry: Entry) -> Result<(), AllocError>
-        requires { refusal_of self.old entry ≡ None }
-        ensures grown { OnOk result (self.new ≡ self.old ++ entry ∷ []) }
-        ensures refused { OnErr result (self.new ≡ self.old) }
-    {
         let place = self.rules.len();
         self.rules.push(entry)?;
         let learned = learn(
@@ -283,7 +272,7 @@ impl Book {
             place,
         );
         match learned {
-            Ok(()) => Ok(()),
+            Ok(warnings) => Ok(warnings),
             Err(refused) => {
                 self.spots.forget(place);
                 self.rules.truncate(place);

@@ -86,8 +86,8 @@ impl Dictionary {
     pub(crate) fn has_number(&self, name: &[u8], number: usize) -> bool
         ensures { IsTrue result → place_of self.now.0 name.now ≡ Some number }
     {
-        // The contract of `as_slice` makes known that the names differ.
-        let _names = self.names.as_slice();
+        // The contract of `len` makes known that the names differ.
+        let _count = self.names.len();
         is_name_at(&self.names, number, name)
     }
 

@@ -3,7 +3,7 @@ ghost use Rattle.std.specs.Prelude.{◌≡◌, false, option_map, IfOk};
 ghost use Rattle.std.specs.List.{list_all, list_any};
 ghost use Rattle.kt_text.specs.Match.{has_percent};
 ghost use Rattle.kt_text.specs.Words.{is_separator, words_of};
-ghost use Rattle.kt_rules.specs.Refusals.{GivesExpected, faults_at};
+ghost use Rattle.kt_rules.specs.Refusals.{GivesExpected, rule_line_faults};
 ghost use Rattle.kt_rules.specs.Entry.{is_nil, kind_of, recipe_on_line, rule_of, rule_with, rules_with};
 ghost use Rattle.kt_rules.specs.Entry.{tested_line};
 ghost use Rattle.kt_rules.specs.inner.Telling.{Tells};
@@ -62,7 +62,7 @@ pub(crate) fn accepted(
     place: Place,
 ) -> Result<Entry, RuleFault>
     requires { Tells signs line }
-    ensures { GivesExpected result (faults_at place (rules_with (tested_line line) recipe place)) }
+    ensures { GivesExpected result (rule_line_faults place (rules_with (tested_line line) recipe place)) }
 {
     if let Some(refusal) = line_refusal(&line, signs) {
         return Err(refusal.at(alloc, place));

@@ -1,6 +1,6 @@
 //! Why a rule is refused; a refusal needs no memory.
 ghost use Rattle.std.specs.Prelude.{◌≡◌};
-ghost use Rattle.kt_rules.specs.Refusals.{ReportsFault, fault_at, refusal_view, kind_and_name};
+ghost use Rattle.kt_rules.specs.Refusals.{ReportsFault, rule_line_fault, refusal_view, kind_and_name};
 
 use crate::fault::RuleFault;
 use crate::fault_kind::FaultKind;
@@ -25,7 +25,7 @@ pub(crate) enum Refusal<'a> {
 impl<'a> Refusal<'a> {
     /// The fault for a rule at a place.
     pub(crate) fn at(self, alloc: Global, place: Place) -> RuleFault
-        ensures { ReportsFault result (fault_at place (refusal_view self.entry)) }
+        ensures { ReportsFault result (rule_line_fault place (refusal_view self.entry)) }
     {
         let (kind, name) = self.kind_and_name();
         match kind.words_with(alloc, name) {

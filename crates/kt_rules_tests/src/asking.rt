@@ -118,9 +118,9 @@ fn put_targets(told: &mut Vec<u8>, book: &Book, entry: BookRule<'_>) {
     }
 }
 
-fn put_suffixes(told: &mut Vec<u8>, suffixes: &[Name]) {
-    for suffix in suffixes {
-        put(told, suffix.as_slice());
+fn put_suffixes(told: &mut Vec<u8>, suffixes: &Names) {
+    for number in 0..suffixes.len() {
+        put(told, suffixes.name_at(number));
     }
 }
 

@@ -35,7 +35,7 @@ fn numbers_names_as_the_plain_way(rt: HostRuntime) -> Result<(), Fail> {
             let expected = plain_way::number(&mut wanted, name);
             assert_eq!(rt; number, expected);
         }
-        assert!(rt; names.as_slice() == wanted.as_slice());
+        assert!(rt; names.texts(rt.alloc())?.as_slice() == wanted.as_slice());
     }
     Ok(())
 }

@@ -1,7 +1,8 @@
 //! Suffixes in names, beside a plain loop over them.
 use crate::asking::{Question, add, answers};
 use crate::sameness::same;
-use kt_rules::{Book, Name};
+use kt_list::Names;
+use kt_rules::Book;
 use kt_testing::{Random, put};
 use std::alloc::Global;
 use std::test::Fail;
@@ -86,10 +87,11 @@ fn random_name(alloc: Global, before: &[u8], random: &mut Random) -> Vec<u8> {
     name
 }
 
-fn plain_suffix<'s>(suffixes: &'s [Name], name: &[u8]) -> Option<&'s [u8]> {
-    for suffix in suffixes {
-        if name.ends_with(suffix.as_slice()) {
-            return Some(suffix.as_slice());
+fn plain_suffix<'s>(suffixes: &'s Names, name: &[u8]) -> Option<&'s [u8]> {
+    for number in 0..suffixes.len() {
+        let suffix = suffixes.name_at(number);
+        if name.ends_with(suffix) {
+            return Some(suffix);
         }
     }
     None

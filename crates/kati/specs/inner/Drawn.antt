@@ -80,7 +80,7 @@ AlwaysFirst groups drawn = always_drawn (list_any (λ one. one.always) drawn) (s
 -- ---- as the code stores it
 
 abbrev pub joined_view : HeldJoined → JoinedNeeds
-joined_view joined = record { inputs = joined.inputs; order_only = joined.order_only.items }
+joined_view joined = record { inputs = joined.inputs.items; order_only = joined.order_only.items }
 
 abbrev pub BoxedJoined : Type 0
 BoxedJoined = Box HeldJoined Global

@@ -7,7 +7,7 @@ use Rattle.kt_syntax.specs.declared.part.Missing.TheVariants as missing
 use Rattle.kt_syntax.specs.declared.part.Stray.{Stray}
 use Rattle.kt_syntax.specs.declared.part.Stray.TheVariants as stray
 use Rattle.kt_rules.specs.declared.fault_kind.FaultKind.TheVariants as kinds
-use Rattle.kt_rules.specs.Refusals.{Fault as RuleFault}
+use Rattle.kt_rules.specs.Refusals.{RuleLineFault as RuleFault}
 use Rattle.kt_rules.specs.Book.{added, refusal_of}
 use Rattle.kt_eval.specs.reading.Conditions.{ComparedTexts, compared_of}
 use Rattle.kt_eval.specs.reading.Conditionals.{is_set, is_defined, are_equal, holds, word_before_blank, text_after_word, worded_holds, text_holds, else_holds, line_holds}

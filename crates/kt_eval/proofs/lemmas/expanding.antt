@@ -10,3 +10,4 @@ pub mod SoleLemmas
 pub mod SplitLemmas
 pub mod BalancedLemmas
 pub mod DoublingLemmas
+pub mod FunctionLemmas

@@ -5,7 +5,7 @@ use Rattle.kt_eval.specs.Prelude.{Text, plain_of, Place, Entry, rule_of, with_li
 use Rattle.kt_syntax.specs.Heads.{RuleParts, line_parts}
 use Rattle.kt_syntax.specs.Recipes.{recipe_of}
 use Rattle.kt_rules.specs.declared.fault_kind.FaultKind.TheVariants as kinds
-use Rattle.kt_rules.specs.Refusals.{Fault}
+use Rattle.kt_rules.specs.Refusals.{RuleLineFault}
 use Rattle.kt_rules.specs.Book.{added, refusal_of}
 use Rattle.kt_eval.specs.Outcome.{Gave, Stopped, ◌>>=◌, ◌>>◌, done}
 use Rattle.kt_eval.specs.Step.{Step, stop, change, fault_at}
@@ -17,11 +17,11 @@ rule_place None = record { file = []; line = 0 }
 rule_place (Some place) = place
 
 -- the fault of a rule as a fault of the makefile
-abbrev pub stop_rule : {A : Type 0} → Fault → Step A
+abbrev pub stop_rule : {A : Type 0} → RuleLineFault → Step A
 stop_rule fault w = Stopped w (fault_at (Some fault.place) fault.number fault.words)
 
 -- a rule is added to the book, with its warnings, or is refused because of the rules before it
-abbrev pub entered : Entry → Result (List Text) Fault → Step (Unit {0})
+abbrev pub entered : Entry → Result (List Text) RuleLineFault → Step (Unit {0})
 entered rule (Ok messages) w = Gave (record w { book = w.book ++ rule ∷ []; said = w.said ++ messages }) tt
 entered rule (Err fault) w = stop_rule fault w
 
@@ -39,7 +39,7 @@ unfoldable pub close_rule : Step (Unit {0})
 close_rule w = close w.rule w
 
 -- a rule is open from then on
-abbrev pub opened : Result Entry Fault → Step (Unit {0})
+abbrev pub opened : Result Entry RuleLineFault → Step (Unit {0})
 opened (Ok rule) = change (set_rule (Some rule))
 opened (Err fault) = stop_rule fault
 

@@ -243,14 +243,17 @@ fn after_percent(alloc: Global, text: &[u8]) -> Result<Vec<u8>, AllocError>
     Ok(whole)
 }
 
-// The function with this name.
+// The function with this name. No name is that of two, and those that modules are made of are looked for first.
 #[tactic(auto, unfolding(crate::specs::expanding::Calls::function_of))]
 fn function_of(name: &[u8]) -> Option<Function>
     ensures { result ≡ function_of name.now }
 {
-    match TextFunction::named(name) {
-        Some(function) => Some(Function::Text(function)),
-        None => other_function(name),
+    match other_function(name) {
+        Some(function) => Some(function),
+        None => match TextFunction::named(name) {
+            Some(function) => Some(Function::Text(function)),
+            None => None,
+        },
     }
 }
 

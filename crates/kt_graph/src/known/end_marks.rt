@@ -39,8 +39,8 @@ impl EndMarks {
     pub(crate) fn mark_all(&mut self, names: &Names)
         ensures { self.new.marks.items ≡ fold with_end self.old.marks.items names.now }
     {
-        for name in names.as_slice() {
-            self.mark(name.as_slice());
+        for number in 0..names.len() {
+            self.mark(names.name_at(number));
         }
     }
 

@@ -1,10 +1,10 @@
 //! The inputs of a node, from the rows of its parts.
-//! Fast: that a node's inputs differ is told by sorting numbers, and of up to 8 by comparing them; they are then the
-//! rows of its only part. Spares a set for each node, and rows of its own.
-ghost use Rattle.std.specs.Prelude.{◌≡◌, [], fold, nat_eq, true, IfOk, OnOk};
-ghost use Rattle.std.specs.List.{IsDistinct};
+//! Fast: that a node's inputs differ is told by numbers that rise, but for the first, or by sorting them, and of up to
+//! 8 by comparing them; they are then the rows of its only part. Spares a set for each node, and rows of its own.
+ghost use Rattle.std.specs.Prelude.{◌≡◌, [], fold, nat_eq, nat_lt, true, IfOk, OnOk};
+ghost use Rattle.std.specs.List.{IsDistinct, list_all};
 ghost use Rattle.kt_graph.specs.inner.nodes.Inputs.{HasOwnInputs, differ, inputs_held, numbers_without, others_held};
-ghost use Rattle.kt_graph.specs.inner.nodes.Inputs.{rise, rise_after, with_input_number};
+ghost use Rattle.kt_graph.specs.inner.nodes.Inputs.{rise, rise_after, rise_but_first, with_input_number};
 
 use crate::nodes::stored::HeldPart;
 use indexmap::IndexSet;
@@ -88,8 +88,9 @@ fn add_others(
     Ok(())
 }
 
-// Whether no number is repeated: each is greater than the one before, or they are sorted first. Sorting is cheaper than
-// a set, and comparing a few with one another is cheaper than sorting.
+// Whether no number is repeated: each is greater than the one before, or they are sorted first. Sorting is cheaper
+// than a set, and comparing a few with one another is cheaper than sorting. A source that was just reached may come
+// before headers that other nodes need, too.
 fn are_distinct(alloc: Global, numbers: &[u32]) -> Result<bool, AllocError>
     ensures { IfOk result (λ distinct. distinct ≡ true → IsDistinct nat_eq numbers.now) }
 {
@@ -98,6 +99,9 @@ fn are_distinct(alloc: Global, numbers: &[u32]) -> Result<bool, AllocError>
     }
     if numbers.len() <= FEW {
         return Ok(differ(numbers));
+    }
+    if rise_but_first(numbers) {
+        return Ok(true);
     }
     let mut sorted = Vec::from_slice(alloc, numbers)?;
     sorted.sort_unstable();
@@ -143,4 +147,21 @@ fn rise_after(first: u32, numbers: &[u32]) -> bool
         last = *number;
     }
     true
+}
+
+// Whether the first number is greater than all others, and each of these than the one before it.
+#[tactic(auto, unfolding(crate::specs::inner::nodes::Inputs::rise_but_first))]
+fn rise_but_first(numbers: &[u32]) -> bool
+    ensures { result ≡ rise_but_first numbers.now }
+{
+    match numbers.split_first() {
+        None => true,
+        Some((first, later)) => rise(later) && are_below(*first, later),
+    }
+}
+
+fn are_below(bound: u32, numbers: &[u32]) -> bool
+    ensures { result ≡ list_all (λ number. nat_lt number bound) numbers.now }
+{
+    numbers.iter().all(|number| *number < bound)
 }

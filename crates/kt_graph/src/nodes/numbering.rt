@@ -311,8 +311,7 @@ fn note_after(tables: &Tables<'_>, others: &mut Names, name: &[u8]) -> Result<us
     ensures grown { HasMore others.old others.new }
 {
     let number = others.number(name)?;
-    // A slice of names tells that they differ.
-    let _names = others.as_slice();
+    // The contract of `len` makes known that the names differ.
     let _count = others.len();
     Ok(tables.len() + number)
 }

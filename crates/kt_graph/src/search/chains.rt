@@ -278,7 +278,7 @@ impl<'a> Chains<'a> {
         }
         let unknown = self.unknown(name, &candidate)?;
         let chain = with_rule(self.alloc, used, candidate.rule)?;
-        self.all_found(tried, left, unknown.as_slice(), chain.as_slice())
+        self.all_found(tried, left, &unknown, chain.as_slice())
     }
 
     // Whether the search finds a rule for each of the names. It stops at the first name without one.
@@ -287,7 +287,7 @@ impl<'a> Chains<'a> {
         &self,
         tried: &mut TriedQuestions,
         left: usize,
-        names: &[Name],
+        names: &Names,
         used: &[usize],
     ) -> Result<bool, AllocError>
         requires whole { left + length used.now ≡ chain_limit }
@@ -301,7 +301,7 @@ impl<'a> Chains<'a> {
     {
         let mut at = 0;
         while at < names.len() {
-            if self.ask(tried, left, names[at].as_slice(), used)?.is_none() {
+            if self.ask(tried, left, names.name_at(at), used)?.is_none() {
                 return Ok(false);
             }
             at += 1;

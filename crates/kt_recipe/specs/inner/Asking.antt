@@ -1,5 +1,5 @@
 -- How the code finds the subject and form of an automatic macro by its name (the crate's own).
-use Rattle.std.specs.Prelude.{ℕ, ◌==◌, List, [], ◌∷◌, Option, Some, None, option_map, if◌then◌else◌}
+use Rattle.std.specs.Prelude.{ℕ, Bool, ◌&&◌, ◌==◌, List, [], ◌∷◌, Option, Some, None, length, option_map, if◌then◌else◌}
 use Rattle.std.specs.Option.{option_and_then}
 use Rattle.kt_recipe.specs.Prelude.{Text, Node, NamePart, Subject, marks, has_parts, subject_names_in}
 use Rattle.kt_recipe.specs.declared.forms.NamePart.TheVariants.{Whole, Directory, File}
@@ -31,3 +31,7 @@ subject_and_part (mark ∷ letter ∷ other ∷ more) = None
 unfoldable pub macro_in : Node → ℕ → Text → Option Text
 macro_in node part macro =
     option_map (λ asked. names_text_in asked.1 (subject_names_in node part asked.0)) (subject_and_part macro)
+
+-- whether a node has this part alone
+unfoldable pub is_only_part : Node → ℕ → Bool
+is_only_part node part = part == 0 && length node.parts == 1

@@ -17,6 +17,7 @@ is_marked names marks name = mark_at marks name (place_of names name)
 -- a rule's names are this many, and its numbers are numbers of them
 pub record IsOf (count : ℕ) (rule : BookRule) : Type 0 where
   pub many : count ≡ length rule.names.now
+  pub targets : AreBelow (length rule.names.now) rule.targets.now
   pub prerequisites : AreBelow (length rule.names.now) rule.prerequisites.now
   pub order_only : AreBelow (length rule.names.now) rule.order_only.now
 

@@ -1,10 +1,10 @@
 -- How the program finds suffixes in a name by their lengths alone (kati's own).
 use Rattle.std.specs.Prelude.{◌≡◌, ℕ, min, nat_eq, nat_lt, Bool, true, false, ◌&&◌, List, [], ◌∷◌, ◌++◌, length, find}
-use Rattle.std.specs.Prelude.{Option, Some, None, if◌then◌else◌}
+use Rattle.std.specs.Prelude.{Option, Some, None, if◌then◌else◌, is_some}
 use Rattle.kt_rules.specs.Prelude.{ends_with, list_any, position_from, range_with_len, option_map_or, Text, Spot, Entry}
 use Rattle.kt_rules.specs.Names.{is_among}
 use Rattle.kt_rules.specs.Slots.{spot_rule}
-use Rattle.kt_rules.specs.Suffixes.{is_bare, is_cut_at}
+use Rattle.kt_rules.specs.Suffixes.{is_bare, is_cut_at, is_single, needs_nothing}
 
 -- ---- lengths
 
@@ -64,6 +64,10 @@ earlier (Some place) None = Some place
 earlier (Some place) (Some next) = Some (min place next)
 
 -- ---- rules
+
+-- whether a rule may have the form of a suffix rule, whatever a static pattern gives its targets
+abbrev pub may_be_bare : Entry → Bool
+may_be_bare rule = is_single rule.kind && (is_some rule.recipe && needs_nothing rule.needs)
 
 -- whether the rule at a spot has the form of a suffix rule
 abbrev pub is_bare_at : List Entry → Spot → Bool

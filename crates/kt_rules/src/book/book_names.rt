@@ -1,13 +1,15 @@
 //! The names that the rules of a book mention.
-ghost use Rattle.std.specs.Prelude.{◌≡◌, ◌||◌, List, bytes_eq, codes, false, find, flat_map, get_or, length};
+//! Fast: a target is marked by its name's number. Spares a hash a target.
+ghost use Rattle.std.specs.Prelude.{◌≡◌, ◌||◌, List, bytes_eq, codes, false, find, flat_map, get_or, length, ◌<◌};
 ghost use Rattle.std.specs.Prelude.{option_map, true, unwrap_or, IfOk, OnOk};
 ghost use Rattle.kt_text.specs.Words.{Text};
-ghost use Rattle.kt_list.specs.Names.{AreBelow, names_at, place_of};
+ghost use Rattle.kt_list.specs.Names.{AreBelow, name_at, names_at, place_of};
 ghost use Rattle.kt_rules.specs.Known.{named_by, named_with};
 ghost use Rattle.kt_rules.specs.Entry.{needs_for};
 ghost use Rattle.kt_rules.specs.Names.{is_among};
 ghost use Rattle.kt_rules.specs.Suffixes.{all_needs};
 ghost use Rattle.kt_rules.specs.Targets.{entry_view, names_view, needs_view, target_view};
+ghost use Rattle.kt_rules.specs.inner.Held.{numbered_target};
 ghost use Rattle.kt_rules.specs.inner.Marks.{HasShared, IsOf, is_marked};
 
 use super::book_rule::BookRule;
@@ -134,8 +136,8 @@ impl Marks {
         ensures many { length self.new.numbers.items ≡ length self.old.numbers.items }
     {
         let mut shared = false;
-        for target in rule.targets() {
-            shared = self.mark_target(suffixes, rule, target, shared)?;
+        for number in rule.targets {
+            shared = self.mark_target(suffixes, rule, *number as usize, shared)?;
         }
         match phony_target(rule) {
             Some(target) => {
@@ -146,23 +148,25 @@ impl Marks {
         }
     }
 
-    // Marks a target and its prerequisites, if the rule is explicit for it. Takes and returns whether those that all
-    // targets share are marked: that is done once a rule.
+    // Marks the target whose name has the number, and its prerequisites, if the rule is explicit for it. Takes and
+    // returns whether those that all targets share are marked: that is done once a rule.
     fn mark_target(
         &mut self,
         suffixes: &Suffixes,
         rule: BookRule<'_>,
-        target: TargetView<'_>,
+        number: usize,
         shared: bool,
     ) -> Result<bool, AllocError>
         requires count { IsOf (length self.old.numbers.items) rule }
+        requires below { number < length rule.names.now }
         requires shared { shared ≡ true → HasShared rule self.old }
         ensures marked { OnOk result ((name : Text) → is_marked rule.entry.names.now self.new name
             ≡ (is_marked rule.entry.names.now self.old name || is_among (named_with suffixes.now (entry_view rule.entry)
-            (target_view target.entry)) name)) }
+            (numbered_target rule.entry number)) name)) }
         ensures many { length self.new.numbers.items ≡ length self.old.numbers.items }
         ensures shared { IfOk result (λ shared. shared ≡ true → HasShared rule.entry self.new) }
     {
+        let target = rule.target(number);
         if !is_explicit(
             suffixes,
             TargetRule {
@@ -172,7 +176,7 @@ impl Marks {
         ) {
             return Ok(shared);
         }
-        self.mark_name(rule.names, target.name)?;
+        self.mark_number(rule.names, number);
         self.mark_needs(rule, target, shared)
     }
 
@@ -265,11 +269,24 @@ impl Marks {
             ≡ (is_marked names.now self.old name || is_among (names_at names.now numbers.now) name) }
         ensures many { length self.new.numbers.items ≡ length self.old.numbers.items }
     {
-        // The contract of `as_slice` makes known that the names differ.
-        let _names = names.as_slice();
+        // The contract of `len` makes known that the names differ.
+        let _count = names.len();
         for number in numbers {
             self.numbers[*number as usize] = true;
         }
+    }
+
+    // Marks the name with a number.
+    fn mark_number(&mut self, names: &Names, number: usize)
+        requires count { length self.old.numbers.items ≡ length names.now }
+        requires below { number < length names.now }
+        ensures marked { (name : Text) → is_marked names.now self.new name
+            ≡ (is_marked names.now self.old name || bytes_eq name (name_at names.now number)) }
+        ensures many { length self.new.numbers.items ≡ length self.old.numbers.items }
+    {
+        // The contract of `len` makes known that the names differ.
+        let _count = names.len();
+        self.numbers[number] = true;
     }
 }
 
@@ -278,5 +295,5 @@ fn phony_target<'a>(rule: BookRule<'a>) -> Option<TargetView<'a>>
     ensures { option_map target_view result
         ≡ find (λ target. bytes_eq target.name (codes ".PHONY")) (entry_view rule.entry).targets }
 {
-    named_target(rule.targets(), b".PHONY")
+    named_target(rule, b".PHONY")
 }

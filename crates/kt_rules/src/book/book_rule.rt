@@ -2,6 +2,7 @@
 ghost use Rattle.std.specs.Prelude.{◌≡◌, option_map};
 ghost use Rattle.kt_rules.specs.Entry.{needs_for};
 ghost use Rattle.kt_rules.specs.Targets.{entry_view, line_needs, listed_needs, needs_view, target_view, targets_view};
+ghost use Rattle.kt_rules.specs.inner.Held.{numbered_target};
 
 use crate::entry::{Kind, RecipeLine};
 use crate::listed::{AnyNames, ListedNeeds, NumberedNames};
@@ -40,6 +41,17 @@ impl<'a> BookRule<'a> {
         let numbers = self.targets;
         Targets {
             names: AnyNames::ByNumber(NumberedNames { names, numbers }),
+            pattern: self.pattern,
+            needs: self.listed(),
+        }
+    }
+
+    // The target whose name has this number.
+    pub(crate) fn target(self, number: usize) -> TargetView<'a>
+        ensures { target_view result ≡ numbered_target self.entry number }
+    {
+        TargetView {
+            name: self.names.name_at(number),
             pattern: self.pattern,
             needs: self.listed(),
         }

@@ -1,4 +1,5 @@
 //! The pattern rules of a book.
+//! Fast: a rule with prerequisites or without a recipe isn't looked at for suffix rules. Spares a look at each target.
 ghost use Rattle.std.specs.Prelude.{◌≡◌, ◌++◌, ◌||◌, ◌∷◌, [], IfOk, OnOk, flat_map, option_map, if◌then◌else◌};
 ghost use Rattle.kt_rules.specs.Book.{pattern_rule, patterns_in, repeats, unrepeated};
 ghost use Rattle.kt_rules.specs.Entry.{Entry};
@@ -12,7 +13,7 @@ use super::pattern::{Pattern, PatternForm};
 use super::pattern_set::PatternSet;
 use super::rules::Rules;
 use super::suffixes::Suffixes;
-use super::target_rule::{TargetRule, is_bare, is_made, is_pattern};
+use super::target_rule::{TargetRule, is_bare, is_made, is_pattern, may_be_bare};
 use crate::copying::{copied_needs, copied_targets};
 use crate::entry::{Kind, Name, Needs, Target};
 use kt_list::Sequence;
@@ -50,7 +51,23 @@ fn add_entry<'a>(
     add_suffix_rules(alloc, suffixes, entry, patterns)
 }
 
+// Appends the suffix rules of an entry as pattern rules. Where it can't have one, no target is looked at.
 fn add_suffix_rules<'a>(
+    alloc: Global,
+    suffixes: &Suffixes,
+    entry: BookRule<'a>,
+    patterns: &mut Vec<Pattern<'a>>,
+) -> Result<(), AllocError>
+    ensures { OnOk result (patterns.new.items
+        ≡ patterns.old.items ++ suffix_rules_in suffixes.now (entry_view entry.entry)) }
+{
+    if may_be_bare(entry) {
+        return add_each_suffix_rule(alloc, suffixes, entry, patterns);
+    }
+    Ok(())
+}
+
+fn add_each_suffix_rule<'a>(
     alloc: Global,
     suffixes: &Suffixes,
     entry: BookRule<'a>,

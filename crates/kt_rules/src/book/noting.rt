@@ -1,26 +1,29 @@
 //! Adds what a rule says to the spots, phony names and suffixes of a book.
-ghost use Rattle.std.specs.Prelude.{◌≡◌, ◌++◌, [], ◌<◌, ◌≤◌, OnErr, OnOk, Some, fold, is_some, if◌then◌else◌, length, slice_get};
+ghost use Rattle.std.specs.Prelude.{◌≡◌, ◌++◌, [], ◌<◌, ◌≤◌, IfOk, OnErr, OnOk, Some, fold, is_some, if◌then◌else◌, length, slice_get};
 ghost use Rattle.kt_text.specs.Words.{Text};
 ghost use Rattle.kt_rules.specs.Book.{phony_of};
 ghost use Rattle.kt_rules.specs.Names.{with_name};
-ghost use Rattle.kt_rules.specs.Slots.{GotRecipes, GotSpots, GrewIn, spots_at, target_spots};
+ghost use Rattle.kt_rules.specs.Slots.{GotRecipes, GotSpots, GrewIn, noted_messages, spots_at, target_spots};
 ghost use Rattle.kt_rules.specs.Suffixes.{suffixes_after};
 ghost use Rattle.kt_rules.specs.Targets.{entry_view};
 ghost use Rattle.kt_rules.specs.Entry.{Entry};
 ghost use Rattle.kt_rules.specs.inner.Held.{numbered_target};
 ghost use Rattle.kt_list.specs.Names.{AreBelow};
 
+use super::Warnings;
 use super::book_rule::BookRule;
+use super::overriding::warnings;
 use super::rules::Rules;
 use super::special::{learn_phony, learn_suffixes};
 use super::spot::Spot;
 use super::spots::Spots;
 use super::suffixes::Suffixes;
 use super::target_rule::is_made;
-use kt_list::Names;
+use kt_list::{Names, Sequence};
 use std::alloc::{AllocError, Global};
 
-/// Adds what the rule at a place says. If memory runs out, some targets may be noted, but the names are as they were.
+/// Adds what the rule at a place says, and returns the warnings on targets that get a second recipe. If memory runs
+/// out, some targets may be noted, but the names are as they were.
 pub(crate) fn learn(
     alloc: Global,
     rules: &Rules,
@@ -28,7 +31,9 @@ pub(crate) fn learn(
     phony: &mut Names,
     suffixes: &mut Suffixes,
     place: usize,
-) -> Result<(), AllocError>
+) -> Result<Warnings, AllocError>
+    ensures told { (rule : Entry) → slice_get rules.now.1 place ≡ Some rule → IfOk result
+        (λ warnings. warnings ≡ noted_messages rules.now.1 (rules.now.0, spots.old.recipes) rule) }
     ensures targets_noted { (rule : Entry) → slice_get rules.now.1 place ≡ Some rule → OnOk result
         (GotSpots rule place (rules.now.0, spots.old.targets) (rules.now.0, spots.new.targets)) }
     ensures recipes_noted { (rule : Entry) → slice_get rules.now.1 place ≡ Some rule → OnOk result
@@ -49,8 +54,12 @@ pub(crate) fn learn(
         → length spots.new.recipes ≤ length rules.now.0 }
 {
     match rules.get(place) {
-        Some(rule) => learn_rule(alloc, spots, phony, suffixes, rule, place),
-        None => Ok(()),
+        Some(rule) => {
+            let warnings = warnings(alloc, rules, &spots.recipes, rule)?;
+            learn_rule(alloc, spots, phony, suffixes, rule, place)?;
+            Ok(warnings)
+        }
+        None => Ok(Sequence::from(Vec::new(alloc))),
     }
 }
 
@@ -153,8 +162,8 @@ fn note_target(
     ensures recipes_within { length spots.old.recipes ≤ length rule.entry.names.now
         → length spots.new.recipes ≤ length rule.entry.names.now }
 {
-    // The contract of `as_slice` makes known that the names differ.
-    let _names = rule.names.as_slice();
+    // The contract of `len` makes known that the names differ.
+    let _count = rule.names.len();
     if !is_made(rule.kind(), rule.names.name_at(number)) {
         return Ok(());
     }

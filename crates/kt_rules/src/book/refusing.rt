@@ -3,7 +3,7 @@ ghost use Rattle.std.specs.Prelude.{◌≡◌, ◌||◌, option_map, is_none, �
 ghost use Rattle.std.specs.List.{list_any};
 ghost use Rattle.kt_rules.specs.Book.{beside_group_in, both_colons_in, differ_in_colons, is_beside_group, is_double};
 ghost use Rattle.kt_rules.specs.Book.{is_group, is_made, recipes_of, refusal_of, rules_of, two_recipes_in, xor};
-ghost use Rattle.kt_rules.specs.Refusals.{ReportsFault, fault_at, refusal_view};
+ghost use Rattle.kt_rules.specs.Refusals.{ReportsFault, rule_line_fault, refusal_view};
 ghost use Rattle.kt_rules.specs.Targets.{target_view};
 
 use super::Book;
@@ -34,8 +34,17 @@ impl Book {
         }
     }
 
-    // The first target that has rules with the other number of colons.
+    // The first target that has rules with the other number of colons. Where no rule has two, none is looked at.
     fn both_colons<'a>(&self, entry: &'a Entry) -> Option<TargetView<'a>>
+        ensures { option_map target_view result ≡ both_colons_in self.now entry.now }
+    {
+        if !is_double(entry.kind()) && !self.rules.may_have_double() {
+            return None;
+        }
+        self.first_of_both_colons(entry)
+    }
+
+    fn first_of_both_colons<'a>(&self, entry: &'a Entry) -> Option<TargetView<'a>>
         ensures { option_map target_view result ≡ both_colons_in self.now entry.now }
     {
         for target in entry.targets() {
@@ -56,7 +65,17 @@ impl Book {
         self.beside_group(entry)
     }
 
+    // Where there is no group, no target is looked at.
     fn beside_group<'a>(&self, entry: &'a Entry) -> Option<TargetView<'a>>
+        ensures { option_map target_view result ≡ beside_group_in self.now entry.now }
+    {
+        if !is_group(entry.kind()) && !self.rules.may_have_group() {
+            return None;
+        }
+        self.first_beside_group(entry)
+    }
+
+    fn first_beside_group<'a>(&self, entry: &'a Entry) -> Option<TargetView<'a>>
         ensures { option_map target_view result ≡ beside_group_in self.now entry.now }
     {
         for target in entry.targets() {
@@ -84,14 +103,10 @@ impl Book {
     }
 
     // Whether a target has rules with the other number of colons. Its first rule decides: all have the same number.
-    // Where no rule has two, it isn't looked up.
     fn has_other_colons(&self, entry: &Entry, name: &[u8]) -> bool
         ensures { result ≡ list_any (differ_in_colons entry.now) (rules_of self.now name.now) }
     {
         let kind = entry.kind();
-        if !is_double(kind) && !self.rules.may_have_double() {
-            return false;
-        }
         match first_rule(
             &self.rules,
             spots_of(&self.rules, &self.spots.targets, name),
@@ -102,14 +117,11 @@ impl Book {
     }
 
     // Whether a target has a recipe, and one of the two is a group's. Its first rule with one decides: if one is a
-    // group, all are. Where there is no group, it isn't looked up.
+    // group, all are.
     fn has_group(&self, entry: &Entry, name: &[u8]) -> bool
         ensures { result ≡ list_any (is_beside_group entry.now) (recipes_of self.now name.now) }
     {
         let kind = entry.kind();
-        if !is_group(kind) && !self.rules.may_have_group() {
-            return false;
-        }
         match first_rule(
             &self.rules,
             spots_of(&self.rules, &self.spots.recipes, name),
@@ -138,7 +150,7 @@ fn either_is_group(kind: Kind, earlier: Kind) -> bool
 
 /// The fault for refusing the rule at a place.
 pub(crate) fn fault_of(alloc: Global, place: &Place, refusal: Refusal) -> RuleFault
-    ensures { ReportsFault result (fault_at place.now (refusal_view refusal.entry)) }
+    ensures { ReportsFault result (rule_line_fault place.now (refusal_view refusal.entry)) }
 {
     match place.share() {
         Ok(place) => refusal.at(alloc, place),

@@ -10,7 +10,6 @@ ghost use Rattle.kt_rules.specs.Targets.{names_view, needs_view};
 
 use super::special::{add_needs, start_names};
 use super::suffix::{first_cut, first_end};
-use crate::entry::Name;
 use crate::needs::{NeededNames, NeedsView};
 use indexmap::IndexSet;
 use kt_list::Names;
@@ -51,15 +50,15 @@ impl Suffixes {
     {
         let names = start_names(alloc)?;
         let mut lengths = IndexSet::new(alloc);
-        note_lengths(&mut lengths, names.as_slice())?;
+        note_lengths(&mut lengths, &names)?;
         Ok(Suffixes { names, lengths })
     }
 
     /// The suffixes, in order.
-    pub(crate) fn as_slice(&self) -> &[Name]
+    pub(crate) fn names(&self) -> &Names
         ensures { result.now ≡ self.now }
     {
-        self.names.as_slice()
+        &self.names
     }
 
     /// Whether a name is a suffix.
@@ -83,7 +82,7 @@ impl Suffixes {
             (λ suffix. ends_with nat_eq name.now suffix) self.now }
     {
         if self.names.len() <= FEW {
-            return first_of(self.names.as_slice(), name);
+            return first_of(&self.names, name);
         }
         let number = first_end(&self.names, self.lengths.as_slice(), name)?;
         self.names.get(number)
@@ -113,25 +112,26 @@ impl Suffixes {
 }
 
 // The first of the names that the name ends with.
-fn first_of<'s>(suffixes: &'s [Name], name: &[u8]) -> Option<&'s [u8]>
+fn first_of<'s>(suffixes: &'s Names, name: &[u8]) -> Option<&'s [u8]>
     ensures { option_map (λ suffix. suffix.now) result ≡ find
         (λ suffix. ends_with nat_eq name.now suffix) suffixes.now }
 {
-    for suffix in suffixes {
-        if name.ends_with(suffix.as_slice()) {
-            return Some(suffix.as_slice());
+    for number in 0..suffixes.len() {
+        let suffix = suffixes.name_at(number);
+        if name.ends_with(suffix) {
+            return Some(suffix);
         }
     }
     None
 }
 
 // Adds the length of each name. If memory runs out, some may be added.
-fn note_lengths(lengths: &mut IndexSet<usize>, names: &[Name]) -> Result<(), AllocError>
+fn note_lengths(lengths: &mut IndexSet<usize>, names: &Names) -> Result<(), AllocError>
     ensures noted { OnOk result (lengths.new.keys ≡ lengths_with lengths.old.keys names.now) }
     ensures kept { KeepLengths lengths.old.keys lengths.new.keys }
 {
-    for name in names {
-        lengths.insert(name.as_slice().len())?;
+    for number in 0..names.len() {
+        lengths.insert(names.name_at(number).len())?;
     }
     Ok(())
 }

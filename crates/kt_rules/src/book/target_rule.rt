@@ -3,7 +3,7 @@ ghost use Rattle.std.specs.Prelude.{◌≡◌, not, ◌&&◌, is_some, option_ma
 ghost use Rattle.std.specs.List.{list_any};
 ghost use Rattle.kt_rules.specs.Book.{is_double, is_explicit, is_group, is_pattern};
 ghost use Rattle.kt_rules.specs.Slots.{first_found, rule_view, spot_rule, target_rule};
-ghost use Rattle.kt_rules.specs.inner.SuffixCuts.{is_bare_at};
+ghost use Rattle.kt_rules.specs.inner.SuffixCuts.{is_bare_at, may_be_bare};
 ghost use Rattle.kt_rules.specs.Suffixes.{is_bare, is_single};
 ghost use Rattle.kt_rules.specs.Entry.{needs_for};
 ghost use Rattle.kt_rules.specs.Names.{is_special};
@@ -79,6 +79,13 @@ pub(crate) fn is_bare(rule: TargetRule) -> bool
     ensures { result ≡ is_bare (rule_view rule.entry) }
 {
     is_single(rule.entry.kind()) && rule.entry.recipe().is_some() && rule.needs().is_empty()
+}
+
+// Whether a rule may have the form of a suffix rule for one of its targets. A static pattern may give it prerequisites.
+pub(crate) fn may_be_bare(rule: BookRule<'_>) -> bool
+    ensures { result ≡ may_be_bare (entry_view rule.entry) }
+{
+    is_single(rule.kind()) && rule.recipe().is_some() && rule.shared_needs().is_empty()
 }
 
 // Whether an entry is an explicit rule for one of its targets.

@@ -42,21 +42,11 @@ module _ (reads : Bool) (store : Store) (below : ℕ) where
 
   -- ---- a term that remains as a whole
 
-  pub whole_fails : (stop : Stop) (out : Text) (piece : Term) (w v : World)
-      → Early stop v (term_of (evaluator reads store below) piece w) → Early stop v (with_term (evaluator reads store below) out piece w)
-  unfolding with_term
-  whole_fails stop out piece w v h = fails_then stop v (term_of (evaluator reads store below) piece w) _ (λ x u. stands u) h
-
   pub whole_gives : (out now new x : Text) (piece : Term) (w v : World) → Whole ≡ left_by below piece w → now ≡ out ++ put_by below piece w
       → term_of (evaluator reads store below) piece w ≡ Gave v x → new ≡ now ++ x → with_term (evaluator reads store below) out piece w ≡ Gave v new
   unfolding with_term
   whole_gives out now new x piece w v left put gives more =
       rw gives (ap (λ t. Gave v t) (sym (more ∙ ap (λ t. t ++ x) (unput out now (put_by below piece w) put (term_whole below piece w left)))))
-
-  pub whole_front : (out x : Text) (piece : Term) (w v : World)
-      → term_of (evaluator reads store below) piece w ≡ Gave v x → GoesOn v (left_of (with_term (evaluator reads store below) out piece w))
-  unfolding with_term
-  whole_front out x piece w v gives = rw gives (stands v)
 
   -- ---- the terms after it
 

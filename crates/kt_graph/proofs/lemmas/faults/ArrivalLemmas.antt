@@ -10,9 +10,6 @@ count_left counts = count_by is_left counts
 
 -- ---- edges to vertices
 
-abbrev one_if : Bool → ℕ
-one_if test = cond test 1 0
-
 abbrev pub one_if_same : ℕ → ℕ → ℕ
 one_if_same vertex other = cond (nat_eq vertex other) 1 0
 

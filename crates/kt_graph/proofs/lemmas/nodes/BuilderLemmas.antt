@@ -1,14 +1,13 @@
 -- One more name gets its node, from the goals on to the last of all.
 use Rattle.std.proofs.Common.{rules, ◌≡◌, ℕ, suc, zero, Bool, ◌-◌, ◌<◌, ◌≤◌, if◌then◌else◌, List, [], ◌∷◌, ◌++◌, length, map, fold, take, drop, get_or, Option, Some, None, slice_get, Contains, All, refl, sym, ap, subst, ◌∙◌, arith, ◌⊎◌, inl, inr, ⊎_elim}
 use Rattle.kt_graph.proofs.Common.{option_map, length-append, length_push, take-append-drop, All-nil, All-cons, All-weaker, All-contains_itself, none-some, slice_get_within, slice_get-get_or, get_or_from_slice_get, Text, Target, explicit_rules, Entry, with_name, GraphBuilder, Instance as Held, NodeKind, StoredPart, StoredNode, Candidate, needed_by, Node, Part, all_inputs, node_by, node_of, HasNumbers, IsMaking, IsNumbered, IsStoredAs, SaysNode, SaysPart, SayParts, named_at, names_read, numbers_below, IsReached, AllSay, AreTold, BuildsNode, IsBegun, IsDone, IsOver, reached_text, instance_at, instance_view, name_at, part_view}
-use Rattle.kt_rules.specs.declared.entry.RecipeLine.{RecipeLine}
 use Rattle.kt_graph.specs.declared.nodes.reached_name.ReachedName.{ReachedName}
 use Rattle.kt_graph.specs.nodes.Node.{Instance}
 use Rattle.kt_graph.proofs.lemmas.nodes.NumberLemmas.{parts_kept}
 use Rattle.kt_graph.proofs.lemmas.nodes.StepLemmas.{over_kept}
 use Rattle.kt_graph.proofs.lemmas.nodes.ReachLemmas.{goal_reached, inputs_all, reached_all, reached_on, reached_only, reached_stays}
 use Rattle.kt_rules.proofs.FindLemmas.{names_grow}
-use Rattle.kt_list.proofs.OverLemmas.{slice_get-left}
+use Rattle.kt_list.proofs.PrefixLemmas.{slice_get-left}
 
 -- what was reached is needed by goals
 pub record IsUnderWay (rules : List Entry) (known goals names : List Text) (nodes : List StoredNode) : Type 0 where
@@ -176,10 +175,6 @@ parts_numbered names name (one ∷ expected) (part ∷ parts) h =
       order_only = numbers_below names part.order_only one.needs.order_only h.0.needs.order_only;
     })
     (parts_numbered names name expected parts h.1)
-
-abbrev part_from : Option (List RecipeLine) → Text → List Text → List Text → Part
-part_from recipe stem prerequisites order_only =
-    record { recipe = recipe; stem = stem; needs = record { prerequisites = prerequisites; order_only = order_only } }
 
 abbrev node_from : Text → NodeKind → List Part → Option Instance → Node
 node_from name kind parts made_with = record { name = name; kind = kind; parts = parts; made_with = made_with }

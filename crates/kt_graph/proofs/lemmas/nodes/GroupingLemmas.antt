@@ -215,9 +215,6 @@ module _ (table : NodeTable) (order : List ℕ) (whole : IsWhole table order)
   abbrev group_in : Node → List Node
   group_in leader = filter (are_together leader) (made order)
 
-  abbrev group_told : ℕ → List Node
-  group_told number = told (members_of table.nodes members number)
-
   one_group : (number : ℕ) → Contains order number
       → map group_in (filter (is_leading (made order)) (if is_made_at table.nodes number then told (number ∷ []) else [])) ≡ group_at table members number
   one_group number inside = grind (arith, cond, there_made, group_is, leads_is)

@@ -1,6 +1,6 @@
 -- Numbers without repeats, and the inputs of parts.
 use Rattle.std.proofs.Common.{◌≡◌, ℕ, ◌<◌, ◌≤◌, not, get_or, List, [], ◌∷◌, ◌++◌, ap, append-nil, append_assoc, arith, fold, length, nat_eq, nat_lt, refl, sym, subst, ◌∙◌, false, true}
-use Rattle.kt_graph.proofs.Common.{AllByRecursion, IsDistinct, list_any, IsPermutation, eq-eqb, eqb-false, eqb-true, ltb-true, ne_eqb, true≢false, flat_map-map, IsPermutation-sym, IsDistinct-cons, IsDistinct-head, IsDistinct-tail, IsDistinct-IsPermutation, and_first, and_second, HeldPart, HasOwnInputs, differ, inputs_held, numbers_without, others_held, rise, rise_after, with_input_number, AreRowsOf, IsPartWithin, StoredPart, input_numbers, order_only_numbers, part_stored, parts_stored}
+use Rattle.kt_graph.proofs.Common.{AllByRecursion, IsDistinct, list_all, list_any, IsPermutation, eq-eqb, eqb-false, eqb-true, ltb-true, ne_eqb, true≢false, flat_map-map, IsPermutation-sym, IsDistinct-cons, IsDistinct-head, IsDistinct-tail, IsDistinct-IsPermutation, and_first, and_second, HeldPart, HasOwnInputs, differ, inputs_held, numbers_without, others_held, rise, rise_after, rise_but_first, with_input_number, AreRowsOf, IsPartWithin, StoredPart, input_numbers, order_only_numbers, part_stored, parts_stored}
 
 -- ---- numbers that rise
 
@@ -25,6 +25,23 @@ after_distinct first (number ∷ numbers) h =
 pub rising_distinct : (numbers : List ℕ) → rise numbers ≡ true → IsDistinct nat_eq numbers
 unfolding rise IsDistinct
 rising_distinct numbers h = grind (arith, after_distinct)
+
+apart_above : (bound : ℕ) (numbers : List ℕ) → list_all (λ number. nat_lt number bound) numbers ≡ true
+    → AllByRecursion (λ y. nat_eq bound y ≡ false) numbers
+apart_above bound [] h = tt
+apart_above bound (number ∷ numbers) h =
+    let low : number < bound = ltb-true number bound (and_first (nat_lt number bound) (list_all (λ y. nat_lt y bound) numbers) h) in (
+      ne_eqb bound number (λ same. absurd (omega (arith, low, same))),
+      apart_above bound numbers (and_second (nat_lt number bound) (list_all (λ y. nat_lt y bound) numbers) h),
+    )
+
+pub newest_distinct : (numbers : List ℕ) → rise_but_first numbers ≡ true → IsDistinct nat_eq numbers
+unfolding rise_but_first IsDistinct
+newest_distinct [] h = tt
+newest_distinct (first ∷ numbers) h =
+    let below = list_all (λ number. nat_lt number first) numbers in
+    IsDistinct-cons nat_eq first numbers (apart_above first numbers (and_second (rise numbers) below h))
+    (rising_distinct numbers (and_first (rise numbers) below h))
 
 eqb-flips : (x y : ℕ) → nat_eq x y ≡ nat_eq y x
 eqb-flips x y = grind (arith, nat_eq, eq-eqb, eqb-true, ne_eqb, eqb-false)

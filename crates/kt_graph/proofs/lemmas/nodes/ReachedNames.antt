@@ -3,7 +3,7 @@ use Rattle.std.proofs.Common.{◌≡◌, ℕ, zero, suc, ◌+◌, ◌<◌, ◌�
 use Rattle.kt_graph.proofs.Common.{IsDistinct, position_from, option_or, unwrap_or, bytes_eq, eq-eqb, nat_list_eq_equiv, append_assoc, length-map, map-append, All-head, All-nil, All-push, All-tail, IsDistinct-push, slice_get-get_or, slice_get_within, IfOk-weaker, on_err_weaker, bytes_eq-Decides, AreBelow, is_among, place_of, with_name, number_found, Text, no_two, same_place, HasSame, IsPlaced, IsPushed, IsReachedAt, ReachesNumber, StaysPlaced, place_held, place_marked, HasMore, name_at, names_at}
 use Rattle.std.proofs.lemmas.Iterator.Adapters.{position_from-zero}
 use Rattle.kt_graph.specs.declared.nodes.reached.ReachedNumbers.{ReachedNumbers}
-use Rattle.kt_list.proofs.OverLemmas.{slice_get-left}
+use Rattle.kt_list.proofs.PrefixLemmas.{slice_get-left}
 
 -- ---- places of names
 

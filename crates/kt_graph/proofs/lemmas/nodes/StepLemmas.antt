@@ -7,7 +7,7 @@ use Rattle.kt_graph.specs.declared.nodes.part.PartRecipe.{PartRecipe}
 use Rattle.kt_graph.specs.inner.nodes.Stems.{own}
 use Rattle.kt_graph.specs.nodes.Node.{Instance}
 use Rattle.kt_list.proofs.ListLemmas.{last_pushed}
-use Rattle.kt_list.proofs.OverLemmas.{slice_get-left}
+use Rattle.kt_list.proofs.PrefixLemmas.{slice_get-left}
 
 -- ---- steps
 

@@ -8,7 +8,7 @@ use Rattle.kt_graph.specs.declared.nodes.stored.NodeHead.{NodeHead}
 use Rattle.kt_graph.specs.declared.nodes.stored.Span.{Span}
 use Rattle.kt_graph.specs.inner.nodes.Grouping.{is_made_at, making_at}
 use Rattle.kt_graph.proofs.lemmas.MemberLemmas.{Contains-slice_get}
-use Rattle.kt_list.proofs.OverLemmas.{has_more_of_more}
+use Rattle.kt_list.proofs.PrefixLemmas.{has_more_of_more}
 
 -- ---- places
 

@@ -6,7 +6,7 @@ use Rattle.kt_graph.specs.inner.search.Chains.{IsFound, IsRightFor, KeepsAnswers
 use Rattle.kt_graph.proofs.lemmas.search.AskingLemmas.{length-with_rule}
 use Rattle.kt_graph.proofs.lemmas.search.ChainLemmas.{keeps_all, keeps_more}
 use Rattle.kt_graph.proofs.lemmas.Membership.{found_any}
-use Rattle.kt_graph.proofs.lemmas.search.CandidateViewLemmas.{at_some, found_some, if_some, told_at, told_from, told_last, told_rule}
+use Rattle.kt_graph.proofs.lemmas.search.CandidateViewLemmas.{at_some, found_some, if_some, told_at, told_from, told_last}
 
 -- all this is to be asked, and this much of it remains
 pub record IsAsking (rules : List Entry) (known : List Text) (old now : TriedQuestions) (least : ℕ) (all left : List Question) : Type 0 where
@@ -159,9 +159,6 @@ module _ (rules : List Entry) (known : List Text) (left : ℕ) (name : Text) (us
 module _ (rules : List Entry) (known : List Text) (left : ℕ) (name : Text) (used chain : List ℕ) (candidate : HeldCandidate) (names : List Text) (last : Bool)
     (not_last : last ≡ false) (tells : IfSome (slice_get rules candidate.rule) (λ rule. last ≡ is_terminal rule.kind)) (chained : chain ≡ with_rule candidate.rule used)
     (unknown : IfSome (candidate_view rules name candidate) (λ told. names ≡ unknown_needs known told)) where
-  abbrev whole_chain : (told : Candidate) → candidate_view rules name candidate ≡ Some told → chain ≡ with_rule told.rule used
-  whole_chain told e = chained ∙ ap (λ rule. with_rule rule used) (told_rule rules name candidate told e)
-
   pub inferred_so : (all : Bool) → all ≡ list_all (λ n. is_some (fitting rules known left chain n)) names
       → IfSome (candidate_view rules name candidate) (λ told. all ≡ is_inferred known (fitting rules known left) used told)
   inferred_so all found = grind (arith, if_some, other_inferred, told_last, at_some)

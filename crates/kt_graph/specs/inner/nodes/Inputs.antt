@@ -1,7 +1,7 @@
 -- Numbers, each once, and the inputs of parts as the code finds them (kati's own).
 use Rattle.std.specs.Prelude.{◌≡◌, ℕ, ◌+◌, Bool, true, not, ◌&&◌, nat_eq, nat_lt, List, [], ◌∷◌, ◌++◌, filter, flat_map}
 use Rattle.std.specs.Prelude.{fold, get_or, if◌then◌else◌}
-use Rattle.std.specs.List.{IsDistinct, list_any}
+use Rattle.std.specs.List.{IsDistinct, list_all, list_any}
 use Rattle.kt_graph.specs.declared.nodes.stored.HeldPart.{HeldPart}
 
 -- numbers with one more at the end, unless they have it already
@@ -21,6 +21,11 @@ rise_after last (number ∷ numbers) = nat_lt last number && rise_after number n
 unfoldable pub rise : List ℕ → Bool
 rise [] = true
 rise (first ∷ numbers) = rise_after first numbers
+
+-- the first number is greater than all others, and each of these than the one before it
+unfoldable pub rise_but_first : List ℕ → Bool
+rise_but_first [] = true
+rise_but_first (first ∷ numbers) = rise numbers && list_all (λ number. nat_lt number first) numbers
 
 -- no number is among those after it
 unfoldable pub differ : List ℕ → Bool

@@ -1,5 +1,5 @@
 use Rattle.std.proofs.Common.{◌≡◌, length}
-use Rattle.kt_list.specs.inner.Lists.{hash_from}
+use Rattle.kt_list.specs.inner.Hashes.{hash_from}
 use Rattle.kt_list.proofs.lists.hash_of.Given as goal
 
 abbrev pub invariant-loop-left : goal.invariant-loop-left

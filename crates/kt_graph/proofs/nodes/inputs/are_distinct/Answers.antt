@@ -1,6 +1,6 @@
 use Rattle.std.proofs.Common.{sym, ◌∙◌, ap, subst}
 use Rattle.kt_graph.proofs.Common.{IsPermutation, rise}
-use Rattle.kt_graph.proofs.lemmas.nodes.InputLemmas.{differ_distinct, rising_distinct, sorted_distinct}
+use Rattle.kt_graph.proofs.lemmas.nodes.InputLemmas.{differ_distinct, newest_distinct, rising_distinct, sorted_distinct}
 use Rattle.kt_graph.proofs.nodes.inputs.are_distinct.Goals as goal
 
 pub returns-then-rise : goal.returns-then-rise
@@ -14,3 +14,6 @@ returns c = λ told.
 
 pub returns-then-numbers-le-FEW : goal.returns-then-numbers-le-FEW
 returns-then-numbers-le-FEW c = λ told. differ_distinct c.args.numbers.now (sym c.differ.ensures ∙ told)
+
+pub returns-then-rise_but_first : goal.returns-then-rise_but_first
+returns-then-rise_but_first c = λ _. newest_distinct c.args.numbers.now (sym c.rise_but_first.ensures ∙ c.if-rise_but_first.true)

@@ -1,87 +1,53 @@
-use Rattle.std.proofs.Common.{arith, ◌≡◌, length, refl, rules, ◌∙◌, ap, sym}
-use Rattle.kt_list.specs.inner.Lists.{kept_for}
+use Rattle.std.proofs.Common.{◌≡◌, ◌∙◌, ◌++◌, ◌∷◌, [], List, ℕ, ap, arith, length, slice_get, sym}
 use Rattle.kt_list.specs.Names.{is_among, place_of, with_name}
-use Rattle.kt_list.proofs.ListLemmas.{adds, among, are_more, keeps, lacking, number_is, number_next, stays}
+use Rattle.kt_list.specs.inner.Hashes.{list_hash}
 use Rattle.kt_list.proofs.general.Results.{on_err}
+use Rattle.kt_list.proofs.ListLemmas.{adds, among, lacking, last_pushed, number_is, one_more, placed, stays}
 use Rattle.kt_list.proofs.lists.Lists.add.Goals as goal
 
-pub invariant_of-self : goal.invariant_of-self
-invariant_of-self c =
-    keeps c.self.inside.rows c.self.inside.rows c.self.inside.ones.items c.keep.new.ones.items c.self.inside.firsts.entries c.keep.new.firsts.entries
-    c.self.inside.others.items c.keep.new.others.items c.self.invariant c.keep.ensures.kept refl
+pub returns-in_err-number-in-None-clause-lacking : goal.returns-in_err-number-in-None-clause-lacking
+returns-in_err-number-in-None-clause-lacking c =
+    on_err c.from_residual.result (sym (ap (λ (all : List (List ℕ)). is_among all c.args.list.now) c.self.view_is)
+    ∙ lacking list_hash c.self.inside.lists c.self.inside.chains c.args.list.now c.self.invariant c.hash_of-hash.result c.hash_of-hash.ensures
+    c.in-None.ensures.lacks)
 
-pub invariant_of-self-in_err-push_row-in-None : goal.invariant_of-self-in_err-push_row-in-None
-invariant_of-self-in_err-push_row-in-None c =
-    keeps c.self.inside.rows c.push_row.new.self c.self.inside.ones.items c.keep.new.ones.items c.self.inside.firsts.entries c.keep.new.firsts.entries
-    c.self.inside.others.items c.keep.new.others.items c.self.invariant c.keep.ensures.kept
-    c.in_err-push_row-in-None.ensures.refused
+pub returns-in_err-put-in-None-clause-lacking : goal.returns-in_err-put-in-None-clause-lacking
+returns-in_err-put-in-None-clause-lacking c =
+    on_err c.from_residual-in_err-put-in-None.result (sym (ap (λ (all : List (List ℕ)). is_among all c.args.list.now) c.self.view_is)
+    ∙ lacking list_hash c.self.inside.lists c.self.inside.chains c.args.list.now c.self.invariant c.hash_of-hash.result c.hash_of-hash.ensures
+    c.in-None.ensures.lacks)
 
 pub invariant_of-self-in-None : goal.invariant_of-self-in-None
 invariant_of-self-in-None c =
-    let is_first : c.kept_for-first.result ≡ kept_for c.self.inside.ones.items c.self.inside.firsts.entries c.args.list.now =
-    search rules in
-    let new = lacking c.self.inside.rows c.args.list.now c.self.inside.ones.items c.self.inside.firsts.entries c.self.inside.others.items
-    c.as_slice-2.result.now c.kept_for-first.result c.self.invariant is_first c.as_slice-2.ensures.value c.in-None.ensures.lacks in
-    let next : c.in_ok-number-in-None.number ≡ length c.self.inside.rows = search rules in
-    are_more c.self.inside.rows c.push_row.new.self c.self.inside.ones.items c.keep.new.ones.items c.self.inside.firsts.entries c.keep.new.firsts.entries
-    c.self.inside.others.items c.keep.new.others.items c.self.invariant c.keep.ensures.kept
-    c.args.list.now c.in_ok-number-in-None.number c.in_ok-keep-in-None.ensures.noted next
-    c.in_ok-push_row-in-None.ensures.added new
-
-pub returns-in_ok-push_row-in-None-clause-numbered : goal.returns-in_ok-push_row-in-None-clause-numbered
-returns-in_ok-push_row-in-None-clause-numbered c =
-    let is_first : c.kept_for-first.result ≡ kept_for c.self.inside.ones.items c.self.inside.firsts.entries c.args.list.now =
-    search rules in
-    let new = lacking c.self.inside.rows c.args.list.now c.self.inside.ones.items c.self.inside.firsts.entries c.self.inside.others.items
-    c.as_slice-2.result.now c.kept_for-first.result c.self.invariant is_first c.as_slice-2.ensures.value c.in-None.ensures.lacks in
-    let next : c.in_ok-number-in-None.number ≡ length c.self.inside.rows = search rules in
-    number_next c.self.inside.rows c.push_row.new.self c.self.inside.ones.items c.keep.new.ones.items c.self.inside.firsts.entries c.keep.new.firsts.entries
-    c.self.inside.others.items c.keep.new.others.items c.self.invariant c.keep.ensures.kept
-    c.args.list.now c.in_ok-number-in-None.number c.in_ok-keep-in-None.ensures.noted next
-    c.in_ok-push_row-in-None.ensures.added new
-
-pub returns-in_ok-push_row-in-None-clause-added : goal.returns-in_ok-push_row-in-None-clause-added
-returns-in_ok-push_row-in-None-clause-added c =
-    let is_first : c.kept_for-first.result ≡ kept_for c.self.inside.ones.items c.self.inside.firsts.entries c.args.list.now =
-    search rules in
-    let new = lacking c.self.inside.rows c.args.list.now c.self.inside.ones.items c.self.inside.firsts.entries c.self.inside.others.items
-    c.as_slice-2.result.now c.kept_for-first.result c.self.invariant is_first c.as_slice-2.ensures.value c.in-None.ensures.lacks in
-    c.in_ok-push_row-in-None.ensures.added ∙ adds c.self.inside.rows c.args.list.now new
-    ∙ ap (λ lists. with_name lists c.args.list.now) c.self.view_is
+    let new = lacking list_hash c.self.inside.lists c.self.inside.chains c.args.list.now c.self.invariant c.hash_of-hash.result c.hash_of-hash.ensures
+    c.in-None.ensures.lacks in
+    one_more list_hash c.self.inside.lists c.put.new.rows c.self.inside.chains c.put.new.chains c.args.list.now c.hash_of-hash.result
+    c.self.invariant new c.hash_of-hash.ensures c.in_ok-put-in-None.ensures.added c.in_ok-put-in-None.ensures.hashed
 
 pub returns-in-Some-clause-numbered : goal.returns-in-Some-clause-numbered
 returns-in-Some-clause-numbered c =
-    let is_first : c.kept_for-first.result ≡ kept_for c.self.inside.ones.items c.self.inside.firsts.entries c.args.list.now =
-    search rules in
     sym c.in-Some.is
-    ∙ number_is c.self.inside.rows c.args.list.now c.self.inside.ones.items c.self.inside.firsts.entries c.self.inside.others.items
-    c.as_slice-2.result.now c.kept_for-first.result c.self.invariant is_first c.as_slice-2.ensures.value
+    ∙ number_is list_hash c.self.inside.lists c.self.inside.chains c.args.list.now c.self.invariant c.hash_of-hash.result c.hash_of-hash.ensures
     c.number_among.result c.number_among.ensures.found c.number_among.ensures.lacks
-    ∙ ap (λ lists. place_of lists c.args.list.now) c.self.view_is
+    ∙ ap (λ (all : List (List ℕ)). place_of all c.args.list.now) c.self.view_is
 
 pub returns-in-Some-clause-added : goal.returns-in-Some-clause-added
 returns-in-Some-clause-added c = grind (arith, among, stays)
 
-pub returns-in_err-number-in-None-clause-lacking : goal.returns-in_err-number-in-None-clause-lacking
-returns-in_err-number-in-None-clause-lacking c =
-    let is_first : c.kept_for-first.result ≡ kept_for c.self.inside.ones.items c.self.inside.firsts.entries c.args.list.now =
-    search rules in
-    on_err c.from_residual.result (sym (ap (λ lists. is_among lists c.args.list.now) c.self.view_is)
-    ∙ lacking c.self.inside.rows c.args.list.now c.self.inside.ones.items c.self.inside.firsts.entries c.self.inside.others.items
-    c.as_slice-2.result.now c.kept_for-first.result c.self.invariant is_first c.as_slice-2.ensures.value c.in-None.ensures.lacks)
+pub returns-in_ok-put-in-None-clause-numbered : goal.returns-in_ok-put-in-None-clause-numbered
+returns-in_ok-put-in-None-clause-numbered c =
+    let new = lacking list_hash c.self.inside.lists c.self.inside.chains c.args.list.now c.self.invariant c.hash_of-hash.result c.hash_of-hash.ensures
+    c.in-None.ensures.lacks in
+    let once = one_more list_hash c.self.inside.lists c.put.new.rows c.self.inside.chains c.put.new.chains c.args.list.now c.hash_of-hash.result
+    c.self.invariant new c.hash_of-hash.ensures c.in_ok-put-in-None.ensures.added c.in_ok-put-in-None.ensures.hashed in
+    let next : c.in_ok-number-in-None.number ≡ length c.self.inside.lists = c.in_ok-number-in-None.ensures.same ∙ c.len.ensures.len in
+    sym (placed c.put.new.rows c.args.list.now c.in_ok-number-in-None.number once.1
+    (ap (λ (rows : List (List ℕ)). slice_get rows c.in_ok-number-in-None.number) c.in_ok-put-in-None.ensures.added
+    ∙ ap (λ (n : ℕ). slice_get (c.self.inside.lists ++ c.args.list.now ∷ []) n) next ∙ last_pushed c.self.inside.lists c.args.list.now))
 
-pub returns-in_err-keep-in-None-clause-lacking : goal.returns-in_err-keep-in-None-clause-lacking
-returns-in_err-keep-in-None-clause-lacking c =
-    let is_first : c.kept_for-first.result ≡ kept_for c.self.inside.ones.items c.self.inside.firsts.entries c.args.list.now =
-    search rules in
-    on_err c.from_residual-in_err-keep-in-None.result (sym (ap (λ lists. is_among lists c.args.list.now) c.self.view_is)
-    ∙ lacking c.self.inside.rows c.args.list.now c.self.inside.ones.items c.self.inside.firsts.entries c.self.inside.others.items
-    c.as_slice-2.result.now c.kept_for-first.result c.self.invariant is_first c.as_slice-2.ensures.value c.in-None.ensures.lacks)
-
-pub returns-in_err-push_row-in-None-clause-lacking : goal.returns-in_err-push_row-in-None-clause-lacking
-returns-in_err-push_row-in-None-clause-lacking c =
-    let is_first : c.kept_for-first.result ≡ kept_for c.self.inside.ones.items c.self.inside.firsts.entries c.args.list.now =
-    search rules in
-    on_err c.from_residual-in_err-push_row-in-None.result (sym (ap (λ lists. is_among lists c.args.list.now) c.self.view_is)
-    ∙ lacking c.self.inside.rows c.args.list.now c.self.inside.ones.items c.self.inside.firsts.entries c.self.inside.others.items
-    c.as_slice-2.result.now c.kept_for-first.result c.self.invariant is_first c.as_slice-2.ensures.value c.in-None.ensures.lacks)
+pub returns-in_ok-put-in-None-clause-added : goal.returns-in_ok-put-in-None-clause-added
+returns-in_ok-put-in-None-clause-added c =
+    let new = lacking list_hash c.self.inside.lists c.self.inside.chains c.args.list.now c.self.invariant c.hash_of-hash.result c.hash_of-hash.ensures
+    c.in-None.ensures.lacks in
+    c.in_ok-put-in-None.ensures.added ∙ adds c.self.inside.lists c.args.list.now new
+    ∙ ap (λ (all : List (List ℕ)). with_name all c.args.list.now) c.self.view_is

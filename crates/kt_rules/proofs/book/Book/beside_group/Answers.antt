@@ -1,12 +1,6 @@
 use Rattle.std.proofs.Common.{arith}
-use Rattle.kt_rules.proofs.FindLemmas.{find_left}
+use Rattle.kt_rules.proofs.SparedLemmas.{none_by_groups}
 use Rattle.kt_rules.proofs.book.Book.beside_group.Goals as goal
 
-pub returns-then-is_beside_group : goal.returns-then-is_beside_group
-returns-then-is_beside_group c = grind (arith, find_left)
-
-pub loop-target-preserved : goal.loop-target-preserved
-loop-target-preserved c = grind (arith, find_left)
-
-pub returns : goal.returns
-returns c = grind arith
+pub returns-then-not-may_have_group : goal.returns-then-not-may_have_group
+returns-then-not-may_have_group c = grind (arith, none_by_groups)

@@ -1,12 +1,6 @@
 use Rattle.std.proofs.Common.{arith}
-use Rattle.kt_rules.proofs.FindLemmas.{find_left}
+use Rattle.kt_rules.proofs.SparedLemmas.{none_of_both}
 use Rattle.kt_rules.proofs.book.Book.both_colons.Goals as goal
 
-pub returns-then-differs : goal.returns-then-differs
-returns-then-differs c = grind (arith, find_left)
-
-pub loop-target-preserved : goal.loop-target-preserved
-loop-target-preserved c = grind (arith, find_left)
-
-pub returns : goal.returns
-returns c = grind arith
+pub returns-then-not-may_have_double : goal.returns-then-not-may_have_double
+returns-then-not-may_have_double c = grind (arith, none_of_both)

@@ -1,6 +1,6 @@
-use Rattle.std.proofs.Common.{arith, ◌∙◌, Some, ap}
+use Rattle.std.proofs.Common.{◌∙◌, Some, ap}
 use Rattle.kt_rules.proofs.Common.{Kind, is_double, xor, first_found, rule_view}
-use Rattle.kt_rules.proofs.GoalLemmas.{colons_by_first, none_differs}
+use Rattle.kt_rules.proofs.GoalLemmas.{colons_by_first}
 use Rattle.kt_rules.proofs.book.Book.has_other_colons.Goals as goal
 
 pub returns-in-Some : goal.returns-in-Some
@@ -12,6 +12,3 @@ returns-in-Some c =
     ∙ colons_by_first rules.1 (rules.0, c.self.inside.spots.targets) (rules.0, c.self.inside.spots.recipes) c.self.inside.phony c.self.inside.suffixes c.self.invariant.kept
     c.args.self.now c.self.view_is c.args.entry.now c.args.name.now (Some (rule_view c.in-Some.rule))
     (c.in-Some.ensures ∙ ap (first_found rules.1) c.spots_of.ensures)
-
-pub returns-then-not-may_have_double : goal.returns-then-not-may_have_double
-returns-then-not-may_have_double c = grind (arith, none_differs)

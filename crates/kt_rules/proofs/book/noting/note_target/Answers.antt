@@ -16,7 +16,7 @@ returns-clause-targets_noted c =
     ∙ ap (λ (name : Text). not (is_pattern rule.kind) && not (is_special name)) c.name_at.ensures)
     ∙ c.if-not-is_made.false in
     on_ok_weaker c.note.result
-    (λ step. target_noted names rule target c.args.number c.args.spot true c.args.spots.now.targets c.note.new.self.targets c.as_slice-names.ensures.differ there made step)
+    (λ step. target_noted names rule target c.args.number c.args.spot true c.args.spots.now.targets c.note.new.self.targets c.len-count.ensures.differ there made step)
     c.note.ensures.targets_noted
 
 pub returns-clause-recipes_noted : goal.returns-clause-recipes_noted
@@ -36,7 +36,7 @@ returns-clause-recipes_noted c =
     let new = c.note.new.self.recipes in
     on_ok_weaker c.note.result
     (λ (step : (other : ℕ) → list_at new other ≡ list_at old other ++ (if c.is_some.result then (if nat_eq other c.args.number then c.args.spot ∷ [] else []) else [])).
-    target_noted names rule target c.args.number c.args.spot (is_some rule.recipe) old new c.as_slice-names.ensures.differ there made
+    target_noted names rule target c.args.number c.args.spot (is_some rule.recipe) old new c.len-count.ensures.differ there made
     (λ other. step other ∙ ap (λ (b : Bool). list_at old other ++ (if b then (if nat_eq other c.args.number then c.args.spot ∷ [] else []) else [])) has))
     c.note.ensures.recipes_noted
 

@@ -1,6 +1,6 @@
-use Rattle.std.proofs.Common.{◌≡◌, drop, fold}
+use Rattle.std.proofs.Common.{◌≡◌, fold, take}
 use Rattle.kt_graph.specs.inner.EndMarks.{with_end}
 use Rattle.kt_graph.proofs.known.end_marks.EndMarks.mark_all.Given as goal
 
-abbrev pub invariant-loop-name : goal.invariant-loop-name
-invariant-loop-name l = fold with_end l.self.marks.items (drop l.name-index l.name-items) ≡ fold with_end l.fn.self.marks.items l.name-items
+abbrev pub invariant-loop-number : goal.invariant-loop-number
+invariant-loop-number l = l.self.marks.items ≡ fold with_end l.fn.self.marks.items (take l.number l.names)

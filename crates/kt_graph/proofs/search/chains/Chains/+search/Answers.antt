@@ -1,5 +1,6 @@
 -- The lemmas of each step, at the values of the code.
-use Rattle.std.proofs.Common.{◌≡◌, ◌+◌, Some, find, length, not, is_some, sym, ap, ◌∙◌, subst, arith, rules, IfSome}
+use Rattle.std.proofs.Common.{◌≡◌, ◌+◌, ◌<◌, ◌≤◌, Some, find, length, not, is_some, sym, ap, ◌∙◌, refl, subst, arith, rules, IfSome}
+use Rattle.kt_list.proofs.NameLemmas.{name_or}
 use Rattle.kt_graph.proofs.Common.{list_all, IfOk-weaker, on_ok_weaker, asking, fitting, is_inferred, is_met, open_candidates, candidate_view, candidates_view}
 use Rattle.kt_graph.specs.inner.search.Chains.{IsFound, IsRightFor}
 use Rattle.kt_graph.proofs.lemmas.search.AskingLemmas.{length-with_rule}
@@ -17,29 +18,47 @@ pub all_found-returns-in_err-ask-clause-kept : goal.all_found-returns-in_err-ask
 all_found-returns-in_err-ask-clause-kept t c = grind (arith, keeps_more)
 
 pub all_found-returns-then-is_none-clause-found : goal.all_found-returns-then-is_none-clause-found
-all_found-returns-then-is_none-clause-found t c = grind (arith, finds_not, not)
+all_found-returns-then-is_none-clause-found t c =
+    let names = c.args.names.now in
+    let name = c.name_at.result.now in
+    let within : c.loop-at.at < length names = omega (arith, c.loop-at-test.true, c.len.ensures.len) in
+    let is = c.name_at.ensures ∙ name_or names c.loop-at.at name within in
+    finds_not c.args.self.now.patterns c.args.self.now.known.now c.args.left c.args.used.now names c.loop-at.at name within is name refl
+    c.in_ok-ask.field-0 c.in_ok-ask.ensures.found _ (c.is_none.ensures ∙ ap not c.if-is_none.true) c.loop-at.invariant.finds
 
 pub all_found-returns-then-is_none-clause-leaves : goal.all_found-returns-then-is_none-clause-leaves
-all_found-returns-then-is_none-clause-leaves t c = grind (arith, asks_no_more, not)
+all_found-returns-then-is_none-clause-leaves t c =
+    let names = c.args.names.now in
+    let name = c.name_at.result.now in
+    let within : c.loop-at.at < length names = omega (arith, c.loop-at-test.true, c.len.ensures.len) in
+    let is = c.name_at.ensures ∙ name_or names c.loop-at.at name within in
+    asks_no_more c.args.self.now.patterns c.args.self.now.known.now c.args.left c.args.used.now names c.loop-at.at name within is name refl
+    c.in_ok-ask.field-0 c.in_ok-ask.ensures.found c.args.tried.now c.loop-at.tried c.ask.new.tried _
+    (c.is_none.ensures ∙ ap not c.if-is_none.true) c.loop-at.invariant.asks c.in_ok-ask.ensures.leaves c.in_ok-ask.ensures.kept
 
 pub all_found-returns-then-is_none-clause-kept : goal.all_found-returns-then-is_none-clause-kept
 all_found-returns-then-is_none-clause-kept t c = grind (arith, keeps_more)
 
 pub all_found-loop-at-preserved : goal.all_found-loop-at-preserved
-all_found-loop-at-preserved t c = record {
-  asks = asks_later c.args.self.now.patterns c.args.self.now.known.now c.args.left c.args.used.now c.args.names.now c.loop-at.at c.index-names-at.result c.loop-at-test.true
-      c.index-names-at.is c.as_slice.result.now c.as_slice.ensures c.in_ok-ask.field-0 c.in_ok-ask.ensures.found c.args.tried.now c.loop-at.tried c.ask.new.tried _
-      (c.is_none.ensures ∙ ap not c.if-is_none.false) c.loop-at.invariant.asks c.in_ok-ask.ensures.leaves c.in_ok-ask.ensures.kept;
-  finds = finds_later c.args.self.now.patterns c.args.self.now.known.now c.args.left c.args.used.now c.args.names.now c.loop-at.at c.index-names-at.result c.loop-at-test.true
-      c.index-names-at.is c.as_slice.result.now c.as_slice.ensures c.in_ok-ask.field-0 c.in_ok-ask.ensures.found _
-      (c.is_none.ensures ∙ ap not c.if-is_none.false) c.loop-at.invariant.finds;
-}
+all_found-loop-at-preserved t c =
+    let names = c.args.names.now in
+    let name = c.name_at.result.now in
+    let within : c.loop-at.at < length names = omega (arith, c.loop-at-test.true, c.len.ensures.len) in
+    let is = c.name_at.ensures ∙ name_or names c.loop-at.at name within in
+    record {
+      asks = asks_later c.args.self.now.patterns c.args.self.now.known.now c.args.left c.args.used.now names c.loop-at.at name within is name refl
+          c.in_ok-ask.field-0 c.in_ok-ask.ensures.found c.args.tried.now c.loop-at.tried c.ask.new.tried _
+          (c.is_none.ensures ∙ ap not c.if-is_none.false) c.loop-at.invariant.asks c.in_ok-ask.ensures.leaves c.in_ok-ask.ensures.kept;
+      finds = finds_later c.args.self.now.patterns c.args.self.now.known.now c.args.left c.args.used.now names c.loop-at.at name within is name refl
+          c.in_ok-ask.field-0 c.in_ok-ask.ensures.found _ (c.is_none.ensures ∙ ap not c.if-is_none.false) c.loop-at.invariant.finds;
+    }
 
 pub all_found-returns-clause-found : goal.all_found-returns-clause-found
 all_found-returns-clause-found t c =
     let rules = c.args.self.now.patterns in
     let known = c.args.self.now.known.now in
-    sym (finds_past (fitting rules known c.args.left) (asking rules known c.args.left) c.args.used.now c.args.names.now c.loop-at.at c.loop-at-test.false) ∙ c.loop-at.invariant.finds
+    let past : length c.args.names.now ≤ c.loop-at.at = omega (arith, c.loop-at-test.false, c.len.ensures.len) in
+    sym (finds_past (fitting rules known c.args.left) (asking rules known c.args.left) c.args.used.now c.args.names.now c.loop-at.at past) ∙ c.loop-at.invariant.finds
 
 pub all_found-returns-clause-leaves : goal.all_found-returns-clause-leaves
 all_found-returns-clause-leaves t c = grind (arith, asking_ends, length, asked_past)
@@ -98,10 +117,10 @@ is_inferred-returns-clause-inferred t c =
     let rules = c.args.self.now.patterns in
     let known = c.args.self.now.known.now in
     IfOk-weaker c.all_found.result
-    (λ all. all ≡ list_all (λ n. is_some (fitting rules known c.args.left c.as_slice-2.result.now n)) c.as_slice.result.now)
+    (λ all. all ≡ list_all (λ n. is_some (fitting rules known c.args.left c.as_slice.result.now n)) c.in_ok-unknown.unknown)
     (λ all. IfSome (candidate_view rules c.args.name.now c.args.candidate) (λ told. all ≡ is_inferred known (fitting rules known c.args.left) c.args.used.now told))
-    (λ all found. inferred_so rules known c.args.left c.args.name.now c.args.used.now c.as_slice-2.result.now c.args.candidate c.as_slice.result.now c.is_last.result c.if-is_last.false
-    c.is_last.ensures (c.as_slice-2.ensures.value ∙ c.in_ok-chain.ensures) (rw c.as_slice.ensures.names c.in_ok-unknown.ensures) all found)
+    (λ all found. inferred_so rules known c.args.left c.args.name.now c.args.used.now c.as_slice.result.now c.args.candidate c.in_ok-unknown.unknown c.is_last.result c.if-is_last.false
+    c.is_last.ensures (c.as_slice.ensures.value ∙ c.in_ok-chain.ensures) c.in_ok-unknown.ensures all found)
     c.all_found.ensures.found
 
 pub is_inferred-returns-clause-leaves : goal.is_inferred-returns-clause-leaves
@@ -109,8 +128,8 @@ is_inferred-returns-clause-leaves t c =
     let rules = c.args.self.now.patterns in
     let known = c.args.self.now.known.now in
     on_ok_weaker c.all_found.result
-    (λ leaves. asked_so rules known c.args.left c.args.name.now c.args.used.now c.as_slice-2.result.now c.args.candidate c.as_slice.result.now c.is_last.result c.if-is_last.false
-    c.is_last.ensures (c.as_slice-2.ensures.value ∙ c.in_ok-chain.ensures) (rw c.as_slice.ensures.names c.in_ok-unknown.ensures) c.args.tried.now c.all_found.new.tried leaves)
+    (λ leaves. asked_so rules known c.args.left c.args.name.now c.args.used.now c.as_slice.result.now c.args.candidate c.in_ok-unknown.unknown c.is_last.result c.if-is_last.false
+    c.is_last.ensures (c.as_slice.ensures.value ∙ c.in_ok-chain.ensures) c.in_ok-unknown.ensures c.args.tried.now c.all_found.new.tried leaves)
     c.all_found.ensures.leaves
 
 -- ---- what makes a name

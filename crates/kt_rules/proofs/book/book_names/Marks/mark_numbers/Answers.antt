@@ -19,7 +19,7 @@ loop-number-preserved c =
     let new : Marks = record { alloc = now.alloc; numbers = with_item now.numbers number true; others = now.others } in
     let below : number < length names = c.requires.below i 0 c.loop-number-test.true in
     let within : number < length now.numbers.items = subst (λ n. number < n) (sym (c.loop-number.invariant.many ∙ c.requires.count)) below in
-    let at : place_of names one ≡ Some number = place_at names one number c.as_slice-names.ensures.differ (named_at names number below) in
+    let at : place_of names one ≡ Some number = place_at names one number c.len-count.ensures.differ (named_at names number below) in
     let first : names_at names (drop i numbers) ≡ one ∷ names_at names (drop (i + 1) numbers) = ap (names_at names) (drop_more numbers i 0 c.loop-number-test.true) in
     let same : length (set now.numbers.items number true) ≡ length now.numbers.items = simp length-set in
     record {
