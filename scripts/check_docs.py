@@ -12,6 +12,7 @@ What is checked:
   specs      each definition that a document names as specs/.. is there, in one of the crates; in docs/PROOFS.md in
              the crate of its section
   walk       the functions, types, definitions and modules that docs/DESIGN.md names stand where it says
+  shapes     docs/DESIGN.md lists at most twelve shapes of a rule, whose types stand in the crates that it says
   names      no name of the definitions or the types of code has two meanings
   crates     crates.txt and the table of crates in docs/DESIGN.md say of each crate that it stands on the same ones
   lines      no line of a document has more than 120 columns, but in tables and output
@@ -51,6 +52,7 @@ import crates_stated
 import definitions_stated
 import names_stated
 import options_stated
+import shapes_stated
 import tested_calls
 import tricks_stated
 from timing import picture
@@ -273,6 +275,11 @@ def check_walk(place, report):
     report.check(not missing, "docs/DESIGN.md names what isn't there:", *missing)
 
 
+def check_shapes(place, report):
+    wrong = list(shapes_stated.differing(place.root))
+    report.check(not wrong, "docs/DESIGN.md lists the shapes of a rule otherwise than they are:", *wrong)
+
+
 def check_names(place, report):
     twice = list(names_stated.doubled(place.root))
     report.check(not twice, "names with two meanings, and where they stand:", *twice)
@@ -415,9 +422,9 @@ def check_tricks(place, report):
 
 
 CHECKS = {"options": check_options, "faults": check_faults, "cases": check_cases, "calls": check_calls,
-          "files": check_files, "specs": check_specs, "walk": check_walk, "names": check_names, "crates": check_crates,
-          "lines": check_lines, "examples": check_examples, "scripts": check_scripts, "gate": check_gate,
-          "picture": check_picture, "tricks": check_tricks}
+          "files": check_files, "specs": check_specs, "walk": check_walk, "shapes": check_shapes, "names": check_names,
+          "crates": check_crates, "lines": check_lines, "examples": check_examples, "scripts": check_scripts,
+          "gate": check_gate, "picture": check_picture, "tricks": check_tricks}
 
 
 class Parser(argparse.ArgumentParser):

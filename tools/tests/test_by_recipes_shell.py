@@ -48,6 +48,17 @@ class ByRecipesShell(PortedTree):
                 # What the build has made since has nothing asked again.
                 self.assertEqual(self.tool("kati-build", "--port", "--no-ninja").all, "")
 
+    def test_calls_that_an_earlier_port_wrote(self):
+        for name, (makefile, call) in SAME.items():
+            with self.subTest(name):
+                self.put_all({"Makefile": makefile})
+                self.port()
+                written = self.read("Makefile"), self.read("kati-values.mk")
+                self.assertIn(f"Makefile: {RUNS}{call}\nMakefile: {ASIDE}", self.port().out)
+                self.assertEqual((self.read("Makefile"), self.read("kati-values.mk")), written)
+                self.put("Makefile", written[0] + "all: c d\nc d:\n\techo $(shell echo more $@) > $@\n")
+                self.assertIn(f"Makefile: {RUNS}{call}, $(shell echo more $@)\nMakefile: {ASIDE}", self.port().out)
+
     def test_calls_that_may_have_another_value(self):
         for recipe, reason in OTHERS.items():
             with self.subTest(recipe):

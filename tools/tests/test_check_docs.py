@@ -49,7 +49,7 @@ class Spoiling(unittest.TestCase):
         return done.stdout
 
     def test_as_it_is(self):
-        self.check("options", "cases", "calls", "files", "specs", "walk", "names", "crates", "lines", "gate",
+        self.check("options", "cases", "calls", "files", "specs", "walk", "shapes", "names", "crates", "lines", "gate",
                    "picture", "tricks", failed=0)
 
     def test_an_option_that_only_the_code_has(self):
@@ -128,6 +128,15 @@ class Spoiling(unittest.TestCase):
             self.spoil("docs/DESIGN.md", old, new)
             self.assertIn(f"    {said}\n", self.check("walk", failed=1))
 
+    def test_a_shape_of_a_rule_that_is_no_type(self):
+        self.spoil("docs/DESIGN.md", "| `RuleParts` | kt_syntax |", "| `RuleHalves` | kt_syntax |")
+        self.assertIn("    kt_syntax has no type RuleHalves", self.check("shapes", failed=1))
+
+    def test_more_shapes_of_a_rule_than_there_may_be(self):
+        shape = "| `RuleParts` | kt_syntax |"
+        self.spoil("docs/DESIGN.md", shape, "| `Line` | kt_text | | |\n" + shape)
+        self.assertIn("    13 shapes, which are more than 12", self.check("shapes", failed=1))
+
     def test_names_with_two_meanings(self):
         for name, old, new, said in (
                 ("crates/kt_syntax/specs/Terms.antt", "pub byte_count :", "pub place_of :", "place_of: kt_list"),
@@ -178,17 +187,18 @@ class Spoiling(unittest.TestCase):
         self.assertIn("docs/times.svg", self.check("picture", failed=1))
 
     def test_a_trick_that_the_table_lacks(self):
-        self.spoil("crates/kt_list/src/names.rt", "name is hashed in one write,", "name is hashed,")
+        self.spoil("crates/kt_list/src/names.rt", "hashed in one write. Spares", "hashed. Spares")
         said = self.check("tricks", failed=1)
-        self.assertIn("    not in the table: | a name is hashed, and looked up before it is copied | half", said)
-        self.assertIn("    in no head: | a name is hashed in one write, and looked up before it is copied | half", said)
+        names = "| the names lie one after another in one vector, and a name is hashed"
+        self.assertIn(f"    not in the table: {names} | 40 bytes", said)
+        self.assertIn(f"    in no head: {names} in one write | 40 bytes", said)
 
     def test_a_trick_that_does_not_say_what_it_spares(self):
         self.spoil("crates/kt_list/src/names.rt", ". Spares ", ", which spares ")
-        self.assertIn("    crates/kt_list/src/names.rt: //! Fast: a name is hashed", self.check("tricks", failed=1))
+        self.assertIn("    crates/kt_list/src/names.rt: //! Fast: the names lie", self.check("tricks", failed=1))
 
     def test_a_table_that_is_made_anew(self):
-        self.spoil("docs/BENCHMARKS.md", "| a name is hashed in one write,", "| a name is hashed,")
+        self.spoil("docs/BENCHMARKS.md", "a name is hashed in one write |", "a name is hashed |")
         self.check("tricks", failed=1)
         words = [sys.executable, "-B", ROOT / "scripts/tricks_stated.py", "--root", self.root]
         variables = {name: os.environ[name] for name in ("PATH", "HOME") if name in os.environ}

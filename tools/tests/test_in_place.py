@@ -119,6 +119,15 @@ class Places(Tree):
         self.look("echo 8 > ../v; echo > ../new", ["all: ; cat ../v\n"])
         self.assertEqual(self.state(), before)
 
+    def test_temporary_files_may_be_in_the_home_that_makefiles_name(self):
+        """They stand in the folder above, over which nothing lies where that is the user's home."""
+        self.put_all({"Makefile": "V := $(shell cat ../v)\nall: ; echo $(V)\n", "../temporary/x": ""})
+        given = {"TMPDIR": str(self.top.parent / "temporary"), "HOME": str(self.top.parent)}
+        self.assertNotIn("in a copy", self.tool("kati-port", "--diff", "Makefile", **given).whole)
+        given["HOME"] = str(self.top.parent.parent / "elsewhere")
+        said = self.tool("kati-port", "--diff", "Makefile", **given).whole
+        self.assertIn("the folder of temporary files is in ", said)
+
     def test_an_ordinary_user_may_have_it_too(self):
         for path in [self.top.parent, *self.top.parent.rglob("*")]:
             os.lchown(path, *([NOBODY] * 2 if os.getuid() == 0 else [os.getuid(), os.getgid()]))

@@ -127,7 +127,7 @@ class More(Tree):
         """A run of the generator that ends before it puts the file in place that ninja reads."""
         code = ("import sys, os; sys.path.insert(0, sys.argv.pop(1)); from kati_tools.base import files; "
                 "from kati_tools.port import building; real = files.put; "
-                "files.put = lambda new, path: (real(new, path), path.endswith('translated.ninja') and os._exit(9)); "
+                "files.put = lambda *given: (real(*given), given[1].endswith('translated.ninja') and os._exit(9)); "
                 "sys.argv[0] = sys.argv.pop(1); building.main(sys.argv[1:])")
         ran = self.run_in("python3", "-B", "-S", "-c", code, TOOLS.parent / "share/kati", TOOLS / "kati-build",
                           "--no-ninja")

@@ -50,6 +50,16 @@ class Ported(Tree):
 class Asked(Ported):
     """Values that are asked for again."""
 
+    def test_a_list_of_files_has_what_make_makes_first(self):
+        self.put("Makefile", "N := $(sort $(shell find . -name '*.mk') $(wildcard *.mk))\n"
+                             "out: ; echo $(N) $(U) > out\ninclude made.mk\nmade.mk: made.in ; cp $< $@\n")
+        self.put("made.in", "U = made\n")
+        self.assertNotIn("asked again", self.build())
+        self.assertEqual(self.read("out"), "./made.mk made.mk made\n")
+        self.put("more.mk", "")
+        self.assertIn("fits other files: make is asked again\n", self.build())
+        self.assertEqual(self.read("out"), "./made.mk ./more.mk made.mk more.mk made\n")
+
     def test_an_element_of_a_loop_that_comes_has_its_own_value(self):
         self.put("Makefile", LOOP)
         self.put_all({"mod/a/1.c": "", "mod/b/2.c": ""})

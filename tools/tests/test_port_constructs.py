@@ -14,6 +14,11 @@ CONSTRUCTS = {
         ({"Makefile": "$(if $(filter target-specific,$(.FEATURES)),,$(error no target-specific))\n"
                       "ifdef .FEATURES\nF = 1\nendif\nall: ; echo hi $(F) > out\n"},
          ["# tells of the run\n.FEATURES := "]),
+    "a suffix rule with prerequisites":
+        ({"Makefile": "all: a.o b.o c.o\n.SUFFIXES: .x .y\n.c.o .x.o: a.h | d.h # ignored\n\tcp $< $@; echo $^ >> $@\n"
+                      ".y.o: a.h ; cp $< $@\na.h d.h: ; touch $@\n",
+          "a.c": "a\n", "b.x": "b\n", "c.y": "c\n"},
+         ["\n.c.o .x.o:# ignored\n", "\n.y.o:; cp $< $@\n"]),
     "a double colon behind .PHONY":
         ({"Makefile": "N := $(shell echo 1)\n.PHONY:: all\nall:: a\na: ; echo $(N) > $@\n.PHONY:: clean\n"
                       "clean:: ; rm -f a\n"},
@@ -76,6 +81,19 @@ CONSTRUCTS = {
                       "Y = $(shell cat y)\nZ = z\n$(call lazy,X)\n$(call lazy,Y)\nall: ; echo $(X) $(Y) > out\n",
           "y": "v2\n"},
          ["ifdef MAKE_VERSION\n$(call lazy,X)\nelse\n", "\nX = $(V_X)\n", " reads y "]),
+    "values of many words, which come again for each target or for one alone":
+        ({"Makefile": "W = $(wildcard w/*)\nall: a b c\na b c:\n\techo $(W) $(wildcard $(@D)/$@.d/*) > $@\n",
+          **{f"{folder}/{number}": "" for folder in ("w", "a.d", "c.d") for number in range(25)}, "b.d/1": ""},
+         ["W = $(V_W)\n", "V_wildcard_.-b := ./b.d/1\n"]),
+    "the text of a macro that is mended":
+        ({"Makefile": "X = $(shell echo hi) \\# there\nY = y $(X)\nall:\n"
+                      "\techo '$(value X)' '$(value Y)' $(X) '$(words $(value X))' > out\n"},
+         ["echo '$(V_X_2)' '$(value Y)' $(X) '$(words $(V_X_2))' > out\n", "V_X_2 := $$(shell echo hi) \\# there\n"]),
+    "a quoted percent sign":
+        ({"Makefile": "S = a.c b.c\nP = $(patsubst %.c,\\%%.o,$(S))\n"
+                      "Q = $(patsubst a.c,\\%,$(S))\n"
+                      "all:\n\techo '$(S:%=\\%)' '$(S:%.c=%\\%x)' '$(S:.c=\\%)' '$(P)' '$(Q)' > out\n"},
+         ["P = $(subst KATI_PERCENT,%,$(patsubst %.c,KATI_PERCENT%.o,$(S)))\n"]),
     "a command that a recipe's function asks about":
         ({"Makefile": "all: a b\na b:\n\techo $(if $(shell test $@ = a && echo x),yes,no) > $@\n"},
          ["$(if $(V_shell),yes,no) > $@\n", "\nV_shell = $(V_shell_$@)\n"]),

@@ -10,7 +10,7 @@ from unittest import mock
 from support import Tree, kati, needs
 
 from kati_tools.make import make_run, recipe_shell, running, shell_text
-from kati_tools.port import command_reads, freezing, frozen_values
+from kati_tools.port import command_reads, freezing, frozen_values, make_probes
 
 # Of each construct: lines of a makefile, and what its recipe has of them; ~ stands for a number.
 CONSTRUCTS = (
@@ -63,13 +63,13 @@ def template(count):
 class Cost(Tree):
     """Programs that stand for kati and make count their runs."""
 
-    def runs(self, *words):
-        """How often a port runs kati and make; what it says."""
+    def runs(self, *words, tool="kati-port"):
+        """How often a port by a tool runs kati and make; what it says."""
         counted = self.top.parent / "counted"
         counted.write_text("")
         around = {name: self.program(f"{name}-counted", f'echo {name} >> {counted}\nexec {path} "$@"')
                   for name, path in (("kati", kati()), ("make", "make"))}
-        ran = self.tool("kati-port", *words, KATI=around["kati"], MAKE=around["make"])
+        ran = self.tool(tool, *words, KATI=around["kati"], MAKE=around["make"])
         self.assertEqual(ran.status, 0, ran.all)
         found = counted.read_text().split()
         return found.count("kati"), found.count("make"), ran.all
@@ -116,7 +116,16 @@ class Cost(Tree):
                              "\tcc $(CFLAGS) -o $@ $^ # $(CURDIR) $$E $(N)\na.o: a.c\n\tcc -c $(CFLAGS) $<\n")
         katis, makes, said = self.runs("--diff", "Makefile")
         self.assertIn("kati's commands are make's\n", said)
-        self.assertEqual((katis, makes), (5, 7))
+        self.assertEqual((katis, makes), (5, 6))
+
+    def test_a_build_mends_beside_each_other_what_its_commands_have(self):
+        """Rules that are taken back, macros of targets, text within quotes, blanks of `+=` and exported variables,
+        which make and kati have otherwise, cost one translation more together."""
+        self.put_all({"a.c": "", "Makefile": "MAKEFLAGS += -r\nN := $(shell echo 1)\nexport E = e\nV =\nV += x\n"
+                      "prog: F = 1\nprog: a.c\n\techo '$(F) a\\\n\tb' $$E \"$(V)\" $(N) > $@\n"})
+        katis, makes, said = self.runs("--port", "--no-ninja", tool="kati-build")
+        self.assertNotIn("differ", said)
+        self.assertEqual((katis, makes), (4, 6))
 
     def test_what_make_does_not_come_by_stays(self):
         self.put("Makefile", "A := $(shell echo a)\nifeq ($(A),b)\nB := $(shell echo b)\nexport C\nelse ifeq ($(A),a)\n"
@@ -166,6 +175,12 @@ class Quick(unittest.TestCase):
         out = ("cc a\n@@kati:0 a b:kati@@\n@@kati:12 1\n2:kati@@\nx @@kati:0 :kati@@\n"
                "@@kati:x y:kati@@\n@@kati:3 open\n")
         self.assertEqual(make_run.answered(out), {0: ["a b", ""], 12: ["1\n2"]})
+
+    def test_values_that_come_again_are_told_once(self):
+        found = {1: ["a|1 2", f"b|{make_probes.SAME}", f"c|{make_probes.LINES}", f"c|{make_probes.SAME}", "d|x|y"],
+                 2: ["no value"]}
+        self.assertEqual(make_probes.with_values(found), {
+            1: ["a|1 2", "b|1 2", "c|\n", "c|\n", "d|x|y"], 2: ["no value"]})
 
     def test_a_database_is_looked_at_where_it_names_the_shell(self):
         others = "A = 1\n\tcc -c a.c\n# a comment\n" * 1000

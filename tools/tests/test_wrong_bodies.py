@@ -70,8 +70,8 @@ class WrongBodies(Tree):
         self.program("bin/rt", f'exec "{sys.executable}" "{self.top.parent}/prover.py"')
         self.run_in("git", "init", "-q", ".")
 
-    def edit(self, name, old, new, ending="edit"):
-        self.put(f"crates/demo/wrong-bodies/{name}.{ending}", f"file: src/lib.rt\nold: {old}\nnew: {new}\n")
+    def edit(self, name, old, new, ending="edit", folder="wrong-bodies"):
+        self.put(f"crates/demo/{folder}/{name}.{ending}", f"file: src/lib.rt\nold: {old}\nnew: {new}\n")
 
     def tried(self, *words, status):
         """What is printed of the edits, in order, and last of the crate, without the minutes."""
@@ -132,6 +132,17 @@ class WrongBodies(Tree):
         self.edit("wrong", "    by_hand_is", "    if SAME { QUIET }", "control")
         self.assertEqual(self.tried(status=0), [f"demo wrong: refused ({why})",
                                                 "demo: 1 edits, 1 refused, 0 without evidence, 2 rounds"])
+
+    def test_controls_stand_in_one_folder(self):
+        self.edit("wrong", "    by_hand_is", "    if other { x }", folder="must-fail")
+        self.edit("wrong", "    by_hand_is", "    if SAME { QUIET }", "control")
+        self.assertEqual(self.tried("--must-fail", status=0)[-1],
+                         "demo: 1 edits, 1 refused, 0 without evidence, 2 rounds")
+
+    def test_must_fail_holds_edits_alone(self):
+        # The gate takes any other file there for an edit that can't be applied.
+        others = [path for path in (TOP / "crates").glob("*/must-fail/*") if path.suffix not in (".edit", ".md")]
+        self.assertEqual(others, [])
 
     def test_counts_are_kept(self):
         self.edit("right", "    as_it_is", "    SAME")

@@ -167,26 +167,28 @@ def to_disk(path):
         os.close(handle)
 
 
-def put(new, path):
+def put(new, path, lasts=False):
     """Gives a new file its name. It gets its time after that, so that it is no older than the folder that holds it."""
     try:
         os.replace(new, path)
     except OSError as error:
         if error.errno != errno.EXDEV:
             raise
-        put_elsewhere(new, path)
+        put_elsewhere(new, path, lasts)
     os.utime(path)
 
 
-def put_elsewhere(new, path):
-    """The same where the file stands in another file system: its bytes come there first, by another name."""
+def put_elsewhere(new, path, lasts):
+    """The same where the file stands in another file system: its bytes come there first, by another name, and onto the
+    disk where it outlasts this run."""
     # Loaded here alone, since it takes time and is seldom needed.
     import shutil
     beside = f"{path}.new"
     try:
         write(beside, b"")
         shutil.copyfile(new, beside)
-        to_disk(beside)
+        if lasts:
+            to_disk(beside)
         os.replace(beside, path)
     finally:
         remove(beside)
@@ -196,7 +198,7 @@ def put_elsewhere(new, path):
 def put_to_last(new, path):
     """The same as `put` so that a loss of power leaves the old file or the new one, whole."""
     to_disk(new)
-    put(new, path)
+    put(new, path, True)
 
 
 def replace(path, text, room, put_new=put):

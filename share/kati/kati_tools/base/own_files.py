@@ -15,6 +15,8 @@ ASIDE = "aside"
 # The file whose time is that of a run's start; and the one that says of which form the other files are: each change of
 # a form has a number of its own.
 BEGUN, VERSION, FORM = ".begun", "version", "2\n"
+# What a shell does to see whether anything is new.
+LOOK = ".look"
 FIRST_LINE = "# Written by kati-build, which writes it anew when the makefile changes.\n"
 
 
@@ -39,6 +41,11 @@ def is_own(folder, name):
         return False
     path = os.path.join(folder, name)
     return ending == ENDING or os.path.isfile(path) and begins_as_output(path)
+
+
+def among(folder, names):
+    """Those of these names in a folder that are kati-build's."""
+    return {name for name in names if is_own(folder, name)} if rooms_in(os.path.abspath(folder)) else set()
 
 
 def is_below(path):

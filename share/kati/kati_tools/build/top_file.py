@@ -12,7 +12,9 @@ translation depends on, by kati-build itself, and ninja reads the file again whe
   of sources.
 - What kati wrote is an input itself: one that is emptied is made anew. A run writes it before this file.
 - Ninja's own log stands in a folder that nothing depends on, or each run of ninja would change what this file
-  depends on."""
+  depends on.
+- A shell is asked first whether anything is new, where kati-build has written what it is to look at
+  (shell_look.py): Python takes longer to start than all else, where nothing is."""
 import os
 import re
 import shlex
@@ -24,6 +26,8 @@ from ..base.programs import bytes_of, text_of
 
 # Of so many names those that are listed aren't looked for again, which takes longer than to take the list apart.
 MANY = 1000
+# The shell that is asked first, and its answer where nothing is new: none else counts, as of a file that is emptied.
+SHELL, SAME = "/bin/sh", "same"
 # The goal of a file that has nothing but what makes includes.
 FAULTS_NAME = "_kati_fault_"
 UNUSUAL = re.compile(r"^\./|/\.|//|/$", re.MULTILINE)
@@ -125,10 +129,22 @@ def text(build, names, translation, is_new, includes=None):
     return filled(build, names, made, changed.group(1) if changed else time.time_ns(), includes)
 
 
-def generator(build):
+def word(name):
+    """A name of a file as a word of a shell, which no program takes for an option."""
+    return shlex.quote(name if name.startswith("/") else f"./{name}")
+
+
+def asked_first(build, command):
+    """The command that asks a shell before this one."""
+    look = word(os.path.join(build.room, own_files.LOOK))
+    return f"[ \"$({SHELL} {look} 2>/dev/null)\" = {SAME} ] || {command}"
+
+
+def generator(build, is_asked_first=False):
     """What fills the parts of both kinds of files that translate again."""
+    command = " ".join(map(shlex.quote, build.command()))
     return {"room": ninja_text.escaped_value(build.room),
-            "command": ninja_text.escaped_value(" ".join(map(shlex.quote, build.command()))),
+            "command": ninja_text.escaped_value(asked_first(build, command) if is_asked_first else command),
             "makefile": ninja_text.escaped_value(build.makefile()), "output": ninja_text.escaped(build.output)}
 
 
@@ -144,7 +160,7 @@ def filled(build, names, made, changed, includes=None):
     present = ninja_text.all_escaped([name for name in [*names, *absent] if name not in made])
     fault = FAULT.format(file=ninja_text.escaped_value(shlex.quote(build.fault)), name=FAULTS_NAME)
     return TEMPLATE.format(
-        **generator(build),
+        **generator(build, is_asked_first=True),
         changed=changed,
         fault=fault if includes and includes.made.is_first else "",
         inputs="".join(f" $\n    {name}" for name in ninja_text.all_escaped([*names, build.translated])),

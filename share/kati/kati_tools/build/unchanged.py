@@ -10,7 +10,10 @@ from ..base import files
 from ..base.programs import text_of
 
 NAME = ".inputs"
-UNKNOWN = "?"
+# What a name was; of a file its times, its length and its place are noted.
+FOLDER, FILE, ABSENT, UNKNOWN = "folder", "file", "-", "?"
+# What stands before a name that counts where it comes or goes, and is there.
+THERE = "+"
 
 
 def identity(name):
@@ -18,13 +21,18 @@ def identity(name):
     try:
         found = os.stat(name)
     except (OSError, ValueError):
-        return "-"
+        return ABSENT
     return f"{found.st_mtime_ns} {found.st_ctime_ns} {found.st_size} {found.st_ino}"
 
 
 def state(name):
     """What counts of a name: of a folder only that it is one."""
-    return "folder" if os.path.isdir(name) else identity(name)
+    return FOLDER if os.path.isdir(name) else identity(name)
+
+
+def kind(name):
+    """What a name is now."""
+    return FOLDER if os.path.isdir(name) else FILE if os.path.exists(name) else ABSENT
 
 
 class Noted:
@@ -47,23 +55,38 @@ class Noted:
         """Takes the note away."""
         files.remove(self.path)
 
+    def read(self):
+        """Reads the note; answers whether there is one."""
+        lines = text_of(files.content(self.path) or b"").split("\n")
+        if len(lines) != 5:
+            return False
+        self.words = lines[0]
+        self.folders, self.looked_at, self.states = ([one for one in line.split("\0") if one] for line in lines[1:4])
+        return True
+
     def is_so(self, words):
         """Whether all is as it was noted, for these words, folders and the list of files aside."""
-        lines = text_of(files.content(self.path) or b"").split("\n")
-        if len(lines) != 5 or lines[0] != "\0".join(words):
+        if not self.read() or self.words != "\0".join(words):
             return False
-        self.folders = lines[1].split("\0")
-        there = all(os.path.exists(one[1:]) == (one[:1] == "+") for one in lines[2].split("\0") if one)
-        states = (one for one in lines[3].split("\0") if one)
-        return there and all(is_as_noted(one) for one in states)
+        there = all(os.path.exists(one[1:]) == (one[0] == THERE) for one in self.looked_at)
+        return there and all(map(is_as_noted, self.states))
+
+    def names(self):
+        """The noted names, each with what it was: a folder, a file, absent or unknown."""
+        for one in self.states:
+            state, _, name = one.partition(" ")
+            if state in (FOLDER, ABSENT, UNKNOWN):
+                yield state, name
+            else:
+                yield FILE, one.split(" ", 4)[4]
 
 
 def is_as_noted(one):
     """Whether a file has the state that stands before its name."""
-    if one.startswith("folder "):
-        return os.path.isdir(one[len("folder "):])
-    if one[:2] in ("- ", "? "):
-        return one[0] == "-" and not os.path.lexists(one[2:])
+    if one.startswith(f"{FOLDER} "):
+        return os.path.isdir(one[len(FOLDER) + 1:])
+    if one[:2] in (f"{ABSENT} ", f"{UNKNOWN} "):
+        return one[0] == ABSENT and not os.path.lexists(one[2:])
     mtime, ctime, size, place, name = one.split(" ", 4)
     return identity(name) == " ".join((mtime, ctime, size, place))
 

@@ -88,9 +88,11 @@ def run_by(commands, names, are_handed_on=False):
     """Of these files, those that commands may run: scripts that they name, and makefiles where they run make and macros
     of the command line aren't handed on to it anyhow."""
     text = "\n".join(commands)
+    # Most words come again and again.
+    words = "\n".join(set(text.split()))
     is_inner = not are_handed_on and RUNS_MAKE.search(text) is not None
     return [name for name in names if is_inner and MAKEFILES.search(name)
-            or SCRIPTS.search(name) and os.path.basename(name) in text]
+            or SCRIPTS.search(name) and os.path.basename(name) in (text if " " in name else words)]
 
 
 def may_export(text):

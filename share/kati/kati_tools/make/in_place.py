@@ -146,7 +146,8 @@ class InPlace:
         """Stops where something could not be as it is."""
         for folder in filter(namespaces.mounts_below, self.covered):
             raise Refused(f"something is mounted below {folder}")
-        for folder in {*self.covered, *self.tops}:
+        # Nothing lies over the user's home and what is above it, and no makefile looks there for what it builds from.
+        for folder in {*self.covered, *(one for one in self.tops if not above_home(one))}:
             if is_below(self.room, folder):
                 raise Refused(f"the folder of temporary files is in {folder}")
 

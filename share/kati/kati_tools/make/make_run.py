@@ -2,10 +2,10 @@
 import os
 import re
 import subprocess
-from collections import Counter
 
 from ..base import files
-from . import command_environment, kept_answers, make_commands, recipe_shell, shell_calls, target_environment
+from . import (command_environment, command_lists, kept_answers, make_commands, recipe_shell, shell_calls,
+               target_environment)
 from .running import run_make
 from ..base.programs import Stop
 
@@ -17,6 +17,14 @@ OWN_SHELL = ("$(SHELL)", "$(.SHELLFLAGS)")
 SECONDS = 120
 # The special target in make's database.
 NOT_PARALLEL = re.compile(r"^\.NOTPARALLEL:", re.MULTILINE)
+# What stands before make's database, behind its commands, in its own language.
+DATABASE, DATABASE_OF = "\n# Make data base, printed on ", re.compile(r"(?:# .*\n)+")
+# What a recipe tells of the flags of a run that asks, and what one has make say behind those of makefiles; and flags by
+# which make runs several commands at a time.
+FLAGS = f": {ANSWER}0 $(MAKEFLAGS){END} {ANSWER}1 $(MFLAGS){END}"
+MADE = f": {ANSWER}made "
+BEHIND = f"{MADE}$(MAKEFLAGS){END}"
+PARALLEL = re.compile(r"^-?\w*j|\s-j|--jobs")
 # What a run that asks has besides -Bn.
 OWN_FLAGS = ("--no-print-directory", "--eval=.SECONDARY:")
 
@@ -57,9 +65,11 @@ def users_flags(text):
 
 
 def with_users_flags(out, told):
-    """What make printed, with the flags that a user's run has in the place of those of this one, which it `told`."""
-    for flags in re.findall(rf"{ANSWER}[01] (.*?){END}", told):
-        out = out.replace(flags, users_flags(flags)) if flags else out
+    """What make printed, with the flags that a user's run has in the place of those of this one, which it `told`, where
+    it was asked for its database, too, or not."""
+    for flags in filter(None, re.findall(rf"{ANSWER}[01] (.*?){END}", told)):
+        for one in (flags, flags.replace("Bn", "Bnp", 1)):
+            out = out.replace(one, users_flags(flags))
     return out
 
 
@@ -77,6 +87,8 @@ class MakeRun:
         # What it told besides where it was asked for something else: the shell and flags of the makefile's own, by a
         # run without goals; values of texts; and how it makes makefiles.
         self.own_shell, self.told_besides, self.first = {}, {}, None
+        # Its database at the end of what it would do for the goals, where it was asked for it.
+        self.ended_with = None
         self.noop, self.extra = (os.path.join(room, name) for name in ("noop", "question.mk"))
         self.use_shell("/bin/sh")
 
@@ -105,12 +117,13 @@ class MakeRun:
         """Has each call of $(shell ..) run once more, where a file is another one now."""
         shell_calls.of_room(self.room).forget()
 
-    def ask(self, goals=None, question=""):
-        """What make would do for the goals; a question is a makefile's text that is read after the makefile."""
+    def ask(self, goals=None, question="", flags=(), given=None):
+        """What make would do for the goals; a question is a makefile's text that is read after the makefile. `given` is
+        its environment, where it is another one."""
         files.replace(self.extra, make_commands.UNLISTED + recipe_shell.guard(self.room) + question, self.room)
-        words = ["-n", "-B", "--no-print-directory", "--eval=.SECONDARY:", "-f", self.makefile, "-f", self.extra]
+        words = [*flags, "-n", "-B", *OWN_FLAGS, "-f", self.makefile, "-f", self.extra]
         goals = self.goals if goals is None else goals
-        return self.run([*words, *goals, *self.macros, f"SHELL={self.noop}"])
+        return self.run([*words, *goals, *self.macros, f"SHELL={self.noop}"], given)
 
     def refuse_other_shells(self):
         """Stops where a line of a recipe would be run by another shell than the one that runs none."""
@@ -129,11 +142,19 @@ class MakeRun:
         self.is_not_parallel = NOT_PARALLEL.search(database) is not None
         self.answers.tell(kept_answers.SHELLS, self.is_not_parallel)
 
-    def database(self, goal):
-        """make's database once it has read the makefile, for a goal for which it makes nothing."""
+    def only_read(self, goal, *flags):
+        """What make says, in its own language, where it reads the makefile for a goal for which it makes nothing."""
         files.replace(self.extra, f"{goal}: ;\n", self.room)
-        words = ["-p", "-n", "--no-print-directory", "-f", self.makefile, "-f", self.extra, goal, *self.macros]
-        return self.run([*words, f"SHELL={self.noop}"], {**self.environment(), "LC_ALL": "C"})[1]
+        words = [*flags, "-n", "--no-print-directory", "-f", self.makefile, "-f", self.extra, goal, *self.macros]
+        return self.run([*words, f"SHELL={self.noop}"], {**self.environment(), "LC_ALL": "C"})
+
+    def database(self, goal):
+        """make's database once it has read the makefile."""
+        return self.only_read(goal, "-p")[1]
+
+    def warnings(self):
+        """What make warns of once it has read the makefile."""
+        return self.only_read(NO_GOAL)[2]
 
     def added_to_environment(self):
         """What make adds to the environment of its commands."""
@@ -165,9 +186,11 @@ class MakeRun:
         if known is not None:
             return 0, "", known
         asked = questions(["$(MAKEFILE_LIST)", *OWN_SHELL])
-        question = f"{asked}{NO_GOAL}: ;\n"
+        # The makefiles have the goals of a user's run, and recipes don't hand them on to other makes.
+        question = f"{asked}unexport MAKECMDGOALS\n{NO_GOAL}: ;\n"
         files.replace(self.extra, make_commands.UNLISTED + question, self.room)
-        status, out, said = self.run(["-n", "-f", self.makefile, "-f", self.extra, NO_GOAL, *self.macros])
+        status, out, said = self.run(["-n", "-f", self.makefile, "-f", self.extra, NO_GOAL, *self.macros],
+                                     make_commands.with_goals(self.environment(), self.goals))
         # Where make has made one of them, it reads all once more.
         told = answered(out)
         names = (told.get(0) or [""])[-1].split()
@@ -209,30 +232,49 @@ class MakeRun:
         """The same for one text."""
         return self.values([text])[0]
 
-    def commands(self, goals=None, texts=()):
+    def commands(self, goals=None, texts=(), has_database=False, may_make=True):
         """The status, the commands that make would run for the goals, what it says, and the commands before those,
-        which make makefiles; in the same run it is asked for the values of texts."""
-        status, out, said = self.ask(goals, questions(texts))
+        which make makefiles, where something may; in the same run it is asked for the values of texts, and for its
+        database where that is of use."""
+        status, out, said = self.ask_all(goals, questions(texts), has_database)
         if status and texts:
             # One of them may be none that make can expand.
-            status, out, said = self.ask(goals)
+            status, out, said = self.ask_all(goals, "", False)
         elif texts:
             told = answered(out)
             self.told_besides.update((kept_answers.VALUE + text, told[number][-1])
                                      for number, text in enumerate(texts) if number in told)
-            out = TOLD.sub("", out)
+        begin, *parts = out.split(MADE)
+        texts = [begin, *(part.partition(f"{END}\n")[2] for part in parts)]
+        has_order = len(parts) == 2 and not PARALLEL.search(parts[1].partition(END)[0])
+        first = TOLD.sub("", "".join(texts[:-1])) if has_order else ""
+        out = texts[-1] if has_order else TOLD.sub("", "".join(texts))
+        # Where make is silent, or comes by them in no order, it tells by itself what makes makefiles.
+        flags = self.flags_told() if OWN_FLAGS[-1] in out or may_make and not has_order else ""
+        before = [line for line in make_commands.lines_of(first if has_order else flags) if ANSWER not in line]
+        lines = make_commands.lines_of(with_users_flags(out, flags))
+        return status, lines if has_order else command_lists.alone(lines, before), said, before
+
+    def ask_all(self, goals, question, has_database):
+        """The same as `ask`, where make says that it has made the makefiles: by a rule of the first and the last that
+        it reads, which aren't there, as one of the two is the last that it makes. With its database for what tells of
+        it; without where it speaks another language."""
+        first, last = (os.path.join(self.room, name) for name in ("read-first", "read-last"))
+        is_plain = re.fullmatch(r"[\w./+-]+", last) is not None
+        question += f"{first} {last}: ; {BEHIND}\n-include {last}\n" if is_plain else ""
+        given = {**self.environment(), "MAKEFILES": first} if is_plain else None
+        status, out, said = self.ask(goals, question, ["-p"] * has_database, given)
+        out, is_told, self.ended_with = out.partition(DATABASE) if has_database else (out, "", None)
+        start = out.rfind("# GNU Make ")
+        if has_database and not (is_told and DATABASE_OF.fullmatch(out, start)):
+            return self.ask_all(goals, question, False)
+        return status, out[:start] if has_database else out, said
+
+    def flags_told(self):
+        """What make says where it makes nothing but makefiles, and then its flags."""
         first = self.first or self.answers.known(kept_answers.FIRST)
         if first is None:
-            question = f"{NO_GOAL}: ; : {ANSWER}0 $(MAKEFLAGS){END} {ANSWER}1 $(MFLAGS){END}\n"
-            first = self.ask([NO_GOAL], question)[1]
+            first = self.ask([NO_GOAL], f"{NO_GOAL}: ; {FLAGS}\n")[1]
             self.answers.tell(kept_answers.FIRST, first)
         self.first = first
-        before = [line for line in make_commands.lines_of(first) if ANSWER not in line]
-        left, lines = Counter(before), []
-        for line in make_commands.lines_of(with_users_flags(out, first)):
-            if left[line]:
-                left[line] -= 1
-            else:
-                lines.append(line)
-        return status, lines, said, before
-
+        return first

@@ -67,15 +67,22 @@ def fault_in(line, room, is_body):
 def first_fault(database, makefile, room):
     """The place in make's database that tells of a shell that isn't one of the folder `room`, and what is wrong there;
     None where none is."""
-    place, is_body = None, False
-    for line in database.split("\n"):
-        if line[:1] == "#":
-            place = PLACE.fullmatch(line) or (None if line.startswith("# ") and "=" not in line else place)
+    is_body, lines = False, database.split("\n")
+    for at, line in enumerate(lines):
         # What has no such name is most of a database, and is told apart in a tenth of the time.
         words = fault_in(line, room, is_body) if "SHELL" in line else None
         if words:
-            return f"{place_of(place, makefile)}: {words}"
+            return f"{place_of(place_before(lines[:at + 1]), makefile)}: {words}"
         is_body = line.startswith("define ") or is_body and line != "endef"
+    return None
+
+
+def place_before(lines):
+    """The place that make told last in these lines of its database; None where what it told last has none."""
+    for line in filter(lambda line: line[:1] == "#", reversed(lines)):
+        found = PLACE.fullmatch(line)
+        if found or line.startswith("# ") and "=" not in line:
+            return found
     return None
 
 

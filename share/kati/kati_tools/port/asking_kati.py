@@ -45,13 +45,14 @@ def translate(port, is_hiding=True):
     with hiding(port) if is_hiding else contextlib.nullcontext():
         # Faults in reading don't hang on the list, so it is made anew where kati takes the makefile first, where
         # nothing more is mended, and where the file of values has come into being.
-        if port.listing is None or port.listing_has_values != os.path.isfile(frozen_values.NAME):
+        is_new = port.listing is None or port.listing_has_values != os.path.isfile(frozen_values.NAME)
+        if is_new:
             list_anew(port)
         translator, is_first = translating.Translator(asked_of_kati(port), room), port.is_list_sure is None
         found = translated(translator, port)
         if found.status == 0:
             port.is_list_sure = is_first
-            if is_first and list_anew(port):
+            if is_first and not is_new and list_anew(port):
                 found = translated(translator, port)
         return found
 
@@ -59,7 +60,8 @@ def translate(port, is_hiding=True):
 def translated(translator, port):
     """The translation by the list of a port, which begins with what the last one found that the build makes."""
     found = translator.translate(port.listing, lambda: port.dropped)
-    port.dropped = found.dropped
+    # A fault tells nothing of what is made.
+    port.dropped = found.dropped if found.status == 0 else port.dropped
     return found
 
 

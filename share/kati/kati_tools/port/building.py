@@ -30,6 +30,7 @@ files:
   build.kati/version           the form of these files: those of another version are made anew
   build.kati/.begun            when the last run began: what is saved later is looked at again
   build.kati/.inputs           what the last translation came from: where that is so, none is made
+  build.kati/.look             by which a shell sees that, and ninja starts no Python
   build.kati/lock              what a run holds while it translates: one at a time, the next one waits
   build.kati/                  has ninja's own log too. It is named after FILE: .kati for .ninja
 

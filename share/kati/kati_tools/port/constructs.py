@@ -5,9 +5,9 @@ makefile and means something else by it than make."""
 from typing import Callable, Mapping, NamedTuple
 
 from . import (default_rule, dependency_includes, double_colons, environment_names, folder_search, inner_makes,
-    made_folders, made_values, mending, mending_appends, mending_exports, mending_lines, mending_shell, of_the_run,
-    recipe_prefix, second_expansion, shared_includes, shell_flags, shell_writes, suffix_names, taken_away, taken_back,
-    target_macros, written_out)
+    literal_percents, made_folders, made_values, mending, mending_appends, mending_exports, mending_lines,
+    mending_shell, of_the_run, recipe_prefix, second_expansion, shared_includes, shell_flags, shell_writes,
+    suffix_names, suffix_needs, taken_away, taken_back, target_macros, value_texts, written_out)
 
 
 class Construct(NamedTuple):
@@ -32,6 +32,8 @@ CONSTRUCTS = (
     Construct("`$(shell ..)`, `$(wildcard ..)`, `origin`, `flavor`, `abspath`, `realpath`, `!=`, `$(MAKEFILE_LIST)`, "
               "`$(.SHELLSTATUS)`",
               {"E16": mending.refused_function, "E17": mending.shell_assignment}, at_first=shared_includes.add_values),
+    Construct("`$(value X)` of a macro that is mended", mender=value_texts.ValueTexts),
+    Construct("`$(S:%=\\%)`, `$(patsubst %,\\%,..)`", {"E18": literal_percents.mend}),
     Construct("`*.c` among names", {"E20": mending.refused_name}),
     Construct("`include mk/*.mk`", {"E20": mending.refused_include}),
     Construct("`ifdef $(NAME)`, where that is empty", {"E15": mending_lines.empty_name}),
@@ -42,6 +44,7 @@ CONSTRUCTS = (
     Construct("`-lm` as a prerequisite", mender=folder_search.Search),
     Construct("`X:: y` without a recipe, which make makes by an implicit rule", mender=double_colons.DoubleColons),
     Construct("`.o: ; mkdir .o`, where the goals need a file or folder of that name", mender=suffix_names.SuffixNames),
+    Construct("`.c.o: defs.h` with a recipe", mender=suffix_needs.SuffixNeeds),
     Construct("`.DEFAULT`", {"E22": mending.default}, mender=default_rule.DefaultRule),
     Construct("`debug: CFLAGS += -g`, where the goals don't need `debug`", {"E23": mending.target_macro},
               mender=target_macros.TargetMacros),
@@ -124,8 +127,15 @@ def menders_of(fault):
 
 
 def settle(port, translation):
-    """Mends the first constructs by which kati's translation isn't make's; answers whether the makefile has changed."""
-    return any(any([port.mender(kind).settle(translation) for kind in kinds]) for kinds in SETTLED)
+    """Mends the first constructs by which kati's translation isn't make's, and beside them, for a build alone, others
+    that may not have to be mended then; answers whether the makefile has changed."""
+    for at, kinds in enumerate(SETTLED):
+        if any([port.mender(kind).settle(translation) for kind in kinds]):
+            others = [kind for more in SETTLED[at + 1:] for kind in more] if port.asked.for_build else []
+            for kind in others:
+                port.mender(kind).settle_beside(translation)
+            return True
+    return False
 
 
 def end(port):

@@ -45,6 +45,10 @@ class DependencyIncludes(Mender):
         self.lines, self.read, self.unread, self.is_tried = {}, set(), [], False
         self.by_compilers = set()
 
+    def texts(self):
+        """The names in all includes, where a compiler writes such files."""
+        return [" ".join(line.says.names) for line in self.all_lines()] if self.has_compilers() else []
+
     def look(self):
         """Finds what compilers write, which may have names as those of other makefiles."""
         found = [header_dependencies.written_in(text) for text in self.port.first.commands[1] if WRITES.search(text)]
@@ -67,13 +71,20 @@ class DependencyIncludes(Mender):
 
     def wrap(self):
         """Keeps the lines that include nothing else for make alone, for now; answers whether there are any."""
-        lines = [line for line in self.port.lines()
-                 if line.kind is Kind.INCLUDE and not (line.is_tab or line.is_wrapped)]
-        return any([self.add(line, names) for line, names in self.names_in(lines).items()])
+        return any([self.add(line, names) for line, names in self.names_in(self.all_lines()).items()])
+
+    def all_lines(self):
+        """The lines that include something."""
+        return [line for line in self.port.lines()
+                if line.kind is Kind.INCLUDE and not (line.is_tab or line.is_wrapped)]
+
+    def has_compilers(self):
+        """Whether a compiler may write such files, and Ninja reads them."""
+        return self.port.asked.has_deps and any(WRITES.search(file.before) for file in self.port.ported.values())
 
     def begin(self):
         """The same where a compiler writes such files, and Ninja reads them."""
-        if self.port.asked.has_deps and any(WRITES.search(file.before) for file in self.port.ported.values()):
+        if self.has_compilers():
             self.wrap()
 
     def add(self, line, names):

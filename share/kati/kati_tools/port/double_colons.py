@@ -10,7 +10,7 @@ from . import folder_search, port_report, second_expansion
 from .mender import Mender
 
 # What make knows of a target with a double colon for which it found an implicit rule.
-IMPLICIT = re.compile(r"^([^\s#:=][^:=\n]*)::.*\n(?:[#\t].*\n)*?#  Implicit/static pattern stem: ", re.MULTILINE)
+IMPLICIT = re.compile(r"([^\s#:=][^:=\n]*)::.*\n(?:[#\t].*\n)*?#  Implicit/static pattern stem: ")
 ADVICE = "make looks for an implicit rule for each, and kati for none: write its recipe"
 
 
@@ -20,12 +20,29 @@ def with_one_colon(text):
     return text[:at] + text[at + 1:]
 
 
+def made_by_implicit(database):
+    """The targets with a double colon for which make found an implicit rule, as its database tells."""
+    at = database.find("::")
+    while at >= 0:
+        found = IMPLICIT.match(database, database.rfind("\n", 0, at) + 1)
+        yield from found.group(1).split() if found else ()
+        at = database.find("::", at + 2)
+
+
 class DoubleColons(Mender):
     """Those of a makefile, where make has commands that kati hasn't."""
 
     def __init__(self, port):
         super().__init__(port)
         self.is_settled, self.told = False, []
+
+    def texts(self):
+        """The targets of those lines."""
+        return [" ".join(rule.targets) for _, rule, _ in self.lines()]
+
+    def has_use_for_database(self):
+        """Whether a rule may have no recipe."""
+        return bool(self.lines())
 
     def settle(self, translation):
         """Has kati look for implicit rules; answers whether that changes the makefile."""
@@ -34,8 +51,7 @@ class DoubleColons(Mender):
         commands = port_report.commands_of(translation.statements) if lines else []
         if not lines or not command_lists.alone(self.port.first.commands[1], commands):
             return False
-        found = IMPLICIT.findall(second_expansion.database_text(self.port))
-        made = {name for names in found for name in names.split()}
+        made = set(made_by_implicit(self.port.run.ended_with or second_expansion.database_text(self.port)))
         told = self.port.run.values([" ".join(rule.targets) for _, rule, _ in lines])
         targets = [(names or "").split() for names in told]
         counts = Counter(name for names in targets for name in names)

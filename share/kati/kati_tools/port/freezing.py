@@ -1,4 +1,5 @@
 """Calls that kati refuses become macros of kati-values.mk: what is frozen, and under which name."""
+import functools
 import os
 import re
 
@@ -82,7 +83,7 @@ class Freezer:
             if function_of(text) == "eval":
                 return None
             told = probes.told(line, span)
-            if is_free(line, span) and len(told) == 1:
+            if is_free(line, span) and len(told) == 1 and "\n" not in told[0]:
                 return span, told[0]
             if is_free(line, span) and not told and not is_in(is_automatic, text):
                 # As in a recipe that the goals don't need.
@@ -224,12 +225,14 @@ class Freezer:
         told = {one: found[0] for one, found in asked.items() if found is not None and len(found) == 1}
         left = [one for one, found in asked.items() if found is not None and one not in told]
         told.update(zip(left, self.port.run.values([frozen_argument(one.makes) for one in left])))
+        # Many values hang on the same.
+        sum_of = functools.lru_cache(None)(watched.sum_of)
         with inside(self.port.copy.real):
             for one in values:
                 if told.get(one) is None:
-                    one.source = frozen_values.with_sums(one.source, self.watched_by_value(one))
+                    one.source = frozen_values.with_sums(one.source, self.watched_by_value(one), sum_of)
                 else:
-                    self.settle(one, self.port.copy.real_text(told[one].strip()))
+                    self.settle(one, self.port.copy.real_text(told[one].strip()), sum_of)
 
     def watched_by_value(self, value):
         """The words to watch for a value, but for patterns that its table names."""
@@ -255,8 +258,9 @@ class Freezer:
         found = dict.fromkeys(one.strip() for call in calls for one in self.port.probes.asked_behind(call, numbers))
         return [text for text in found if "\n" not in text]
 
-    def settle(self, value, asked):
-        """The same for one value, of which the call's argument expands to `asked`."""
+    def settle(self, value, asked, sum_of):
+        """The same for one value, of which the call's argument expands to `asked`; `sum_of` answers the sums of
+        words."""
         is_wildcard = argument_of(value.makes, "wildcard") is not None and not set(asked) & set("$()\n")
         if is_wildcard and self.is_of_recipes(asked):
             value.source = f"$(wildcard {asked}) {BEFORE_RECIPES}"
@@ -269,7 +273,7 @@ class Freezer:
             return
         named = command_reads.reads_of(asked)
         if named and "\n" not in asked:
-            value.source = frozen_values.with_sums(f"$(shell {asked})", named)
+            value.source = frozen_values.with_sums(f"$(shell {asked})", named, sum_of)
 
 
 def frozen_argument(text):

@@ -39,9 +39,9 @@ def escaped(value):
     return value + "$()" if value.endswith(("\\", " ", "\t")) else value
 
 
-def with_sums(source, words):
-    """A source that says what these words are now, which are watched."""
-    sums = ", ".join(f"{word} {total}" for word, total in watched.sums_of(words).items())
+def with_sums(source, words, sum_of=watched.sum_of):
+    """A source that says what these words are now, which are watched, as `sum_of` has their sums."""
+    sums = ", ".join(f"{word} {sum_of(word)}" for word in dict.fromkeys(words))
     return f"{source} reads {sums}" if words else source
 
 
@@ -207,6 +207,11 @@ def other_environment(text):
     for source, name, _, value in ENTRY.findall(text):
         if source == ENVIRONMENT and text_of_environment(os.environ.get(name, "")) != value:
             yield name
+
+
+def variables(text):
+    """The words to watch for the values of the environment."""
+    return [watched.ENVIRONMENT + name for source, name, _, _ in ENTRY.findall(text) if source == ENVIRONMENT]
 
 
 def stale(text):

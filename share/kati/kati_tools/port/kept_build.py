@@ -122,6 +122,10 @@ class Build:
     def translate_settled(self):
         """Translates until nothing has changed that was read meanwhile; answers the status."""
         if nothing_new.is_so(self):
+            if self.asked.no_ninja:
+                # Loaded where ninja asked for nothing alone: the next time a shell sees that.
+                from . import shell_look
+                shell_look.keep(self)
             return 0
         inputs, names = begun.Inputs(self.room), self.names_before() or self.makefiles()
         for _ in range(begun.TIMES):
@@ -136,7 +140,7 @@ class Build:
             status = self.finish(found, listing, includes, names)
             changed = inputs.changed(names)
             if not changed:
-                nothing_new.note(self, names, listing.folders, inputs.start)
+                nothing_new.note(self, [*names, *listing.watched], listing.folders, inputs.start)
                 return status
         if not changed:
             # A build that runs beside this one may make files all the time.

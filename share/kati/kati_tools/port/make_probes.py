@@ -38,7 +38,37 @@ ASKED = (Asking("wildcard", "", 1_000_000, "$(strip "), Asking("shell", "", 2_00
          Asking("realpath", "", 3_000_000, "$(strip "), Asking("file", "<", 4_000_000, "$(subst ,,"))
 WILD = re.compile(r"[*?\[]")
 # A probe tells its number, what the value depends on, and the value.
-PROBE = f"kati_probe = $(info {ANSWER}$1 $3|$2{END})$2\nkati_number_sign := \\#\n"
+TELLS = f"$(info {ANSWER}$1 $3|$2{END})"
+NUMBER_SIGN = "kati_number_sign := \\#\n"
+PROBE = f"kati_probe = {TELLS}$2\n{NUMBER_SIGN}"
+# What stands in what a probe tells before the target; and in the place of a value of many words, which come again a
+# thousand times: that it is the one that it told last, or that it has several lines, as no value that is frozen.
+TARGET, SAME, LINES = "@@at:", "@@same@@", "@@lines@@"
+# No macro with a dot in its name is exported with all others.
+LONG = f"""\
+define kati.newline
+
+
+endef
+kati_kept = $(eval kati.told.$1 := $$2)$2
+kati_told_last = $(and $(findstring $2,$(kati.told.$1)),$(findstring $(kati.told.$1),$2))
+kati_lines = $(if $(findstring $(kati.newline),$2),{LINES})
+kati_long = $(or $(kati_lines),$(if $(kati_told_last),{SAME},$(kati_kept)))
+kati_asked = $(info {ANSWER}$1 $3|$(if $(word 20,$2),$(if $(kati_told_last),{SAME},$(kati_kept)),$2){END})$2
+kati_probe = $(info {ANSWER}$1 $3|$(if $(word 20,$2),$(kati_long),$2){END})$2
+"""
+SHORT_PROBE = f"{LONG}{NUMBER_SIGN}"
+
+
+def with_values(found):
+    """What probes told, with the values in the place of what stands for them; for several lines there is one."""
+    for values in found.values():
+        last = ""
+        for at, told in enumerate(values):
+            key, bar, value = told.partition("|")
+            last = last if value == SAME else "\n" if value == LINES else value
+            values[at] = f"{key}|{last}" if bar else told
+    return found
 
 
 def comes_to_wildcard(text):
@@ -101,6 +131,18 @@ def is_read_late(line):
     return line.is_tab or line.is_body or assignment is not None and assignment[1] in ("=", "+=", "?=")
 
 
+def asked_key(line, span):
+    """What a probe is to tell before a value: as `key_of`, with the target where there may be one."""
+    return key_of(line, span) + (f"{TARGET}$@" if is_read_late(line) else "")
+
+
+def told_key(told, is_by_target):
+    """What tells one use from another, of what a probe told before the value; the target counts where it is what
+    settles the value."""
+    found, _, target = told.partition(TARGET)
+    return found if not is_by_target else f"{found}-{target}" if found else target
+
+
 class Call:
     """A call that kati refuses: its kind, and where it stands in its line, with the references round it, from itself
     outwards."""
@@ -144,6 +186,16 @@ def refused_macros(ported):
     return found
 
 
+def may_be_unsettled(ported):
+    """The deferred macros that have refused calls, which may have several values, with the kinds of these."""
+    refused, found = refused_macros(ported), {}
+    for name, line in (one for file in ported for one in file.definitions() if "$" not in one[0]):
+        calls = calls_in(line, lambda one: kind_of(one, refused)) if is_read_late(line) else []
+        if calls and not is_in(is_numbered, line.text):
+            found.setdefault(name, calls[0].kind)
+    return found
+
+
 def kind_of(reference, refused, unsettled=()):
     """The kind of a reference that kati refuses or that is empty for it; None of another one."""
     if reference.name in OF_MAKE:
@@ -161,17 +213,27 @@ class Probes:
     `unsettled`, which have the kinds of the calls in them, count as such calls. The values of those at the places
     `by_target` depend on the target, too."""
 
-    def __init__(self, ported, unsettled=None, by_target=frozenset()):
-        self.refused, self.unsettled, self.by_target = refused_macros(ported), unsettled or {}, by_target
-        self.calls, self.numbers, self.values = {}, {}, {}
+    def __init__(self, ported, unsettled=None, read=None):
+        self.refused, self.unsettled, self.by_target = refused_macros(ported), unsettled or {}, frozenset()
+        self.calls, self.numbers, self.values, self.known = {}, {}, {}, {}
         # The words of rule lines that come to names with wildcards, by their places.
         self.words = {}
         # What each call of `wildcard`, `shell` and their kin is asked for is told as well, by numbers of their own.
         self.asked = [{} for _ in ASKED]
         self.patterns, self.commands, self.links, self.contents = self.asked
-        self.read = read_lines.ReadLines(ported)
+        self.read = read or read_lines.ReadLines(ported)
         for line in (line for file in ported for line in file.lines):
             self.add(line)
+
+    def take(self, others):
+        """Takes what make told of other probes, if these were among them; answers whether they were."""
+        are_all = self.numbers.keys() <= others.numbers.keys()
+        for own, asked in zip(self.asked, others.asked):
+            known = {(call.line, *call.chain[0]): number for call, number in asked.items()}
+            own.update((call, known.get((call.line, *call.chain[0]))) for call in own)
+            are_all = are_all and None not in own.values()
+        self.numbers, self.values, self.read = others.numbers, others.values, others.read
+        return are_all
 
     def add(self, line):
         """Adds a line's calls; answers them."""
@@ -182,7 +244,9 @@ class Probes:
             self.calls[line] = found
         for call in found:
             for span in call.chain:
-                self.numbers.setdefault((line, *span), len(self.numbers))
+                # What holds an argument of a `call` is frozen only where it is the call itself, by a table.
+                if span == call.chain[0] or not is_in(is_numbered, line.text[slice(*span)]):
+                    self.numbers.setdefault((line, *span), len(self.numbers))
             for numbers, asking in zip(self.asked, ASKED):
                 if asking.is_one(references.only(call.text())):
                     numbers[call] = asking.first + len(numbers)
@@ -208,7 +272,7 @@ class Probes:
         found = dict(self.unsettled)
         for name, line in (one for file in ported for one in file.definitions() if "$" not in one[0]):
             for call in self.of(line):
-                counts = [len(self.told(line, span)) for span in call.chain]
+                counts = [len(told) + ("\n" in told) for told in (self.told(line, span) for span in call.chain)]
                 if max(counts) > 1 and 1 not in counts and not is_in(is_numbered, line.text):
                     found.setdefault(name, call.kind)
         return found
@@ -226,11 +290,16 @@ class Probes:
         pairs = set(self.pairs(call.line, call.chain[0]))
         return len(dict(pairs)) < len(pairs) and all(len(self.told(call.line, span)) != 1 for span in call.chain)
 
+    def is_by_target(self, line, span):
+        """Whether the target is what settles the value of the reference at this place."""
+        return any(one == line and span[0] <= start and end <= span[1] for one, start, end in self.by_target)
+
     def key(self, line, span):
         """What tells one use of a reference from another, as `key_of`, with the target where that alone settles it."""
         found = key_of(line, span)
-        is_by_target = any(one == line and span[0] <= start and end <= span[1] for one, start, end in self.by_target)
+        is_by_target = self.is_by_target(line, span)
         return f"{found}-$@" if is_by_target and found else "$@" if is_by_target else found
+
 
     def of(self, line):
         """The refused calls of a line."""
@@ -238,8 +307,12 @@ class Probes:
 
     def pairs(self, line, span):
         """What the reference at this place depends on, and its value, for each time that make asked for it."""
-        found = self.values.get(self.numbers.get((line, *span)), [])
-        return [tuple(one.split("|", 1)) for one in found]
+        number, is_by_target = self.numbers.get((line, *span)), self.is_by_target(line, span)
+        # They are many, and asked for again and again.
+        if (number, is_by_target) not in self.known:
+            found = [one.split("|", 1) for one in self.values.get(number, [])]
+            self.known[number, is_by_target] = [(told_key(told, is_by_target), value) for told, value in found]
+        return self.known[number, is_by_target]
 
     def asked_of(self, call):
         """The patterns that a wildcard, the commands that a shell was asked for, and so on, each once."""
@@ -257,16 +330,19 @@ class Probes:
 
     def asked_by(self, call):
         """The pattern that a wildcard was asked for, by what it depends on; none where that doesn't settle it."""
-        found = {}
+        found, is_by_target = {}, self.is_by_target(call.line, call.chain[0])
         for one in self.values.get(self.patterns.get(call), []):
-            key, pattern = one.split("|", 1)
-            if found.setdefault(key, pattern) != pattern:
+            told, pattern = one.split("|", 1)
+            if found.setdefault(told_key(told, is_by_target), pattern) != pattern:
                 return {}
         return found
 
     def told(self, line, span):
         """The values of the reference at this place, each once; none where make never asked for it."""
-        return list(dict.fromkeys(value for _, value in self.pairs(line, span)))
+        number = self.numbers.get((line, *span))
+        if number not in self.known:
+            self.known[number] = list(dict.fromkeys(value for _, value in self.pairs(line, span)))
+        return self.known[number]
 
     def are_told(self, line):
         """Whether make asked for each refused call of a line, of which there are some."""
@@ -285,11 +361,11 @@ class Probes:
         """The text of a line with its probes."""
         marks = {}
         for span in dict.fromkeys(span for call in self.of(line) for span in call.chain):
-            if function_of(line.text[span[0]:span[1]]) != "eval":
-                number = self.numbers[(line, *span)]
+            number = self.numbers.get((line, *span))
+            if number is not None and function_of(line.text[span[0]:span[1]]) != "eval":
                 # What closes comes before what opens; of two at one place the inner one closes, the outer one opens,
                 # first.
-                marks.setdefault(span[1], []).append((0, -span[0], f",{self.key(line, span)})"))
+                marks.setdefault(span[1], []).append((0, -span[0], f",{asked_key(line, span)})"))
                 marks.setdefault(span[0], []).append((1, -span[1], f"$(call kati_probe,{number},"))
         for call in self.of(line):
             self.mark_asked(call, marks)
@@ -308,8 +384,8 @@ class Probes:
             if call in numbers:
                 start, end = call.chain[0]
                 first = start + references.only(call.text()).spans()[0][0]
-                marks.setdefault(first, []).append((1, 0, f"$(call kati_probe,{numbers[call]},{asking.handing}"))
-                marks.setdefault(end - 1, []).append((0, 0, f"),{self.key(call.line, call.chain[0])})"))
+                marks.setdefault(first, []).append((1, 0, f"$(call kati_asked,{numbers[call]},{asking.handing}"))
+                marks.setdefault(end - 1, []).append((0, 0, f"),{asked_key(call.line, call.chain[0])})"))
 
     def asked_again(self, line):
         """A line that assigns by `!=`, with a probe round its command; None for another line."""
@@ -327,7 +403,7 @@ class Probes:
         status, found = self.answers(ported, run, room, self.read.marked)
         if status:
             status, found = self.answers(ported, run, room, lambda line, text: text)
-        self.values, self.read.told = found, set(found)
+        self.values, self.known, self.read.told = found, {}, set(found)
         for file in ported:
             files.replace(file.name, file.before, room)
 
@@ -335,7 +411,7 @@ class Probes:
         """make's status, and what it tells by these files."""
         for file in ported:
             text = file.flat(lambda line: marked(line, self.asked_again(line) or self.probed(line)))
-            head = PROBE if file.name == run.makefile else ""
+            head = SHORT_PROBE if file.name == run.makefile else ""
             files.replace(file.name, (head + text).replace("\n", file.ending), room)
         status, out, _ = run.ask()
-        return status, answered(out)
+        return status, with_values(answered(out))

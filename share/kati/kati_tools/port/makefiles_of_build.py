@@ -85,7 +85,7 @@ class Ported:
             if sums != before and any(map(start.is_newer, watched.inputs({**known.watched, **sums}))):
                 return sums
             if not self.stuck:
-                self.write(found)
+                sums.update(self.written(found, sums))
         if not self.stuck:
             sums.update(watched.sums_of(made))
             self.note(found, sums, kept)
@@ -99,6 +99,15 @@ class Ported:
         self.record.keep({**self.record.given(), "watched": sums, "written": written, **found.kept()})
         for line in found.report if kept is None or kept["report"] != found.report else []:
             say(TOOL, line)
+
+    def written(self, found, sums):
+        """Writes what came of a port, which had these sums before; answers those of lists of names, where it adds but
+        what make had made when it told of them."""
+        is_known = bool(found.made) and set(found.made) <= set(found.by_rules)
+        lists = [word for word in sums if watched.is_list(word)] if is_known else []
+        before = watched.sums_of(lists)
+        self.write(found)
+        return watched.sums_of(word for word in lists if before[word] == sums[word])
 
     def write(self, found):
         """Writes the ported makefiles, and into this folder what make makes of makefiles before it reads them."""

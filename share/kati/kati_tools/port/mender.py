@@ -11,6 +11,10 @@ class Mender:
         """The texts of which it needs the values: make tells them with its commands, before anything is changed."""
         return []
 
+    def has_use_for_database(self):
+        """Whether it may need make's database: make tells it with its commands then."""
+        return False
+
     def look(self):
         """Asks make, before anything is changed."""
 
@@ -25,6 +29,11 @@ class Mender:
 
     def settle(self, translation):
         """Mends what kati takes otherwise than make, by its translation; answers whether that changes the makefile."""
+        del translation
+        return False
+
+    def settle_beside(self, translation):
+        """The same beside what another one mends by this translation, as far as it doesn't hang on that."""
         del translation
         return False
 

@@ -110,9 +110,14 @@ def is_wild(word):
 
 
 def wildcards(port, line):
-    """The names with wildcards in a rule line."""
+    """The names with wildcards in a line, where it is one of a rule."""
     is_rule = not (line.is_tab or line.is_body) and port.probes.read.kind(line) is Kind.RULE
-    return list(filter(is_wild, statements.Rule(line.joined).words())) if is_rule else []
+    return wildcards_in(line) if is_rule else []
+
+
+def wildcards_in(line):
+    """The same in a rule line."""
+    return list(filter(is_wild, statements.Rule(line.joined).words())) if has_wildcard(line.joined) else []
 
 
 ALIKE = {"E06": behind_tabs, "E15": empty_names, "E16": functions, "E17": forms, "E20": names, "E23": of_targets}

@@ -64,6 +64,8 @@ class Appends(Mender):
                 is_any = True
         return is_any
 
+    settle_beside = settle
+
     def is_other(self, translation):
         """Whether kati's commands aren't make's, or their environment isn't."""
         katis = port_report.commands_of(translation.statements)

@@ -83,17 +83,25 @@ class Exports(Mender):
 
     def settle(self, translation):
         """Hands on what kati's commands lack; answers whether that changes the makefile."""
-        if not self.wanted:
-            return False
-        katis = command_environment.of_commands(commands_of(translation))
-        lacking = [name for name in command_environment.lacking(self.added, self.wanted, katis, self.of_targets)
-                   if not unfit(self.added.all[name])]
+        lacking = self.lacking(translation)
         new = [name for name in lacking if name not in self.handed]
         others = [name for name in lacking if name in self.handed and name not in self.frozen
                   and self.is_one_value(name)]
         self.handed = sorted([*self.handed, *new])
         self.freeze(others)
         return bool(new or others)
+
+    def lacking(self, translation):
+        """The names that kati's commands lack, or have with another value."""
+        katis = command_environment.of_commands(commands_of(translation)) if self.wanted else ()
+        found = command_environment.lacking(self.added, self.wanted, katis, self.of_targets) if self.wanted else ()
+        return [name for name in found if not unfit(self.added.all[name])]
+
+    def settle_beside(self, translation):
+        """Hands on what kati's commands lack whatever else is mended."""
+        new = set(self.lacking(translation)).difference(self.handed)
+        self.handed = sorted([*self.handed, *new])
+        return bool(new)
 
     def is_one_value(self, name):
         """Whether a variable has for all targets one value, which a line can have."""

@@ -120,6 +120,8 @@ class ShellTexts(Mender):
             self.is_printing = self.is_printing or "$(call KATI_PRINTED," in mended(line.text)
         return True
 
+    settle_beside = settle
+
     def others(self):
         """The lines of recipes that kati gets otherwise."""
         meant = (line for line in self.port.lines() if line.is_tab and "\\\n" in line.text)

@@ -49,6 +49,8 @@ def note(build, names, folders, start):
     """Notes what a translation came from, with these names and folders; nothing where it makes nothing but includes,
     for a makefile of which kati has a fault."""
     noted = unchanged.Noted(build.room)
+    # It is of another note, or came with the tree, whose text no shell is to run.
+    files.remove(os.path.join(build.room, own_files.LOOK))
     if build.looked_at is None:
         noted.forget()
     else:

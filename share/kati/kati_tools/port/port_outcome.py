@@ -17,8 +17,8 @@ AT_WORK = rewriting.AT_WORK
 class Outcome:
     """The words to watch; why the port is stuck, and by which program, None where it isn't. Else the folder of the
     ported makefiles and their texts, what make has made before anything, each with the file that holds it, None for a
-    folder, the folders
-    that their includes go through; what it has found out that holds for other goals; and what kati-build keeps of it:
+    folder, those of them that it made by rules, before it was asked for values; the folders that their includes go
+    through; what it has found out that holds for other goals; and what kati-build keeps of it:
     what to say, which of kati's commands differ, None where all do, the line that sums that up, None where they don't,
     the macros of the command line that stand in the makefile, and whether make runs one job at a time."""
 
@@ -28,6 +28,7 @@ class Outcome:
     folder: str = None
     texts: dict = field(default_factory=dict)
     made: dict = field(default_factory=dict)
+    by_rules: list = field(default_factory=list)
     folders: list = field(default_factory=list)
     found: dict = field(default_factory=dict)
     report: list = field(default_factory=list)
@@ -64,7 +65,8 @@ def of_rewritten(made, comparison, room):
     return Outcome(watched_by(made, texts), folder=os.path.relpath(made.copy.top, made.copy.base), texts=texts,
                    made={**made.mender(shell_writes.ShellWrites).kept(),
                          **kept_in(os.path.join(room, "made"), [*made.first.made, *made.first.by_shell])},
-                   folders=folders_of(made), found=other_goals.found_by(made, comparison), report=report,
+                   by_rules=[*made.first.made], folders=folders_of(made),
+                   found=other_goals.found_by(made, comparison), report=report,
                    differing=None if differs_otherwise else [real(line) for line in comparison.katis],
                    difference=None if comparison.is_same() else report[-1], taken=sorted(made.for_kati.taken_words),
                    is_not_parallel=made.run.is_not_parallel)
@@ -81,7 +83,8 @@ def kept_in(folder, names):
 
 def folders_of(made):
     """The folders through which makefiles name others by `..`, as x of x/../y.mk."""
-    lines = [line for file in made.ported.values() for line in syntax.Makefile(file.before).lines]
+    lines = [line for file in made.ported.values() if "/.." in file.before
+             for line in syntax.Makefile(file.before).lines]
     names = [statements.without_comment(line.text)[statements.first_word(line.text)[1]:].strip()
              for line in lines if line.kind is syntax.Kind.INCLUDE and "/.." in line.text]
     told = made.run.values(names)

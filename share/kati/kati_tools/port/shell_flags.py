@@ -2,7 +2,6 @@
 the shell, and has other macros by itself."""
 import re
 
-from ..build import translating
 from ..make import command_environment, make_run
 from ..makefile import ported_text
 from .mender import Mender
@@ -39,19 +38,17 @@ class ShellFlags(Mender):
         """Asks make, where the makefiles have what may give it others."""
         texts = [file.before for file in self.port.ported.values()]
         if any(map(MAY_BE_OTHERS.search, texts)):
-            told = self.own_shell(texts)
+            told = self.own_shell()
             self.shell, self.flags = (text or before for text, before in zip(told, (self.shell, self.flags)))
         if self.is_posix():
             told = [(one or ":").split(":", 1) for one in self.port.run.values(QUESTIONS)]
             self.macros = {name: value for (name, usual), (origin, value) in zip(OF_POSIX.items(), told)
                            if origin == "default" and value != usual}
 
-    def own_shell(self, texts):
-        """make's shell and flags for makefiles with these texts. Where they don't name the goals, make has told them
-        without."""
-        run = self.port.run
-        told = [] if any(translating.GOALS in text for text in texts) else list(run.own_shell.values())
-        return told if len(told) == len(make_run.OWN_SHELL) else run.values_with_own_shell(make_run.OWN_SHELL)
+    def own_shell(self):
+        """make's shell and flags, as make told them when it made includes, else as it tells them now."""
+        told = list(self.port.run.own_shell.values())
+        return told if len(told) == len(make_run.OWN_SHELL) else self.port.run.values_with_own_shell(make_run.OWN_SHELL)
 
     def begin_as(self, before):
         """Gives kati make's flags, as a port for other goals had to."""

@@ -14,7 +14,7 @@ from .mender import Mender
 MAY_TAKE_BACK = re.compile(r"^ *(?:%[^:=\n]*:[ \t]*%|\.SUFFIXES\b|MAKEFLAGS\b.*r)|--no-builtin-rules", re.MULTILINE)
 KNOWN = re.compile(r"\(filter ([^\s,]+),")
 # The rules of make's database, by what is made and from what; one that is taken back has no recipe.
-LISTED = re.compile(r"^%(\S*): %(\S+)\n#  recipe", re.MULTILINE)
+LISTED = re.compile(r"(\S*): %(\S+)\n#  recipe")
 
 
 class TakenBack(Mender):
@@ -24,10 +24,18 @@ class TakenBack(Mender):
         super().__init__(port)
         self.is_settled = False
 
+    def has_use_for_database(self):
+        """Whether the makefiles may take rules back."""
+        return any(MAY_TAKE_BACK.search(file.before) for file in self.port.ported.values())
+
+    def begin(self):
+        """Gives kati the list where make has told of its rules already, and nobody is to read the makefile."""
+        if self.port.asked.for_build and self.port.run.ended_with and self.has_use_for_database():
+            self.is_settled, self.port.for_kati.taken_back = True, self.asked()
+
     def settle(self, translation):
         """Asks make for its rules; answers whether some are taken back."""
-        texts = [file.before for file in self.port.ported.values()]
-        if self.is_settled or not any(map(MAY_TAKE_BACK.search, texts)):
+        if self.is_settled or not self.has_use_for_database():
             return False
         self.is_settled = True
         if command_lists.alone(port_report.commands_of(translation.statements), self.port.first.commands[1]):
@@ -37,7 +45,10 @@ class TakenBack(Mender):
     def asked(self):
         """The suffixes of kati's rules that make hasn't."""
         known = KNOWN.findall(files.read(os.path.join(SHARE, translating.RULES)))
-        told = {f"{need}{target}" for target, need in LISTED.findall(self.port.run.database(make_run.NO_GOAL))}
+        database = self.port.run.ended_with or self.port.run.database(make_run.NO_GOAL)
+        # A database is large, and few of its lines begin so.
+        rules = filter(None, map(LISTED.match, database.split("\n%")[1:]))
+        told = {f"{found.group(2)}{found.group(1)}" for found in rules}
         return [one for one in known if one not in told]
 
     def tail(self):

@@ -34,6 +34,11 @@ def is_pattern(word):
     return not WILD.isdisjoint(word)
 
 
+def is_list(word):
+    """Whether the names in folders are what counts of a word."""
+    return is_pattern(word) and not word.startswith(CONTENT) or os.path.isdir(word)
+
+
 def is_values_file(name):
     """Whether a name is that of kati-values.mk in this folder."""
     return os.path.basename(name) == VALUES and os.path.dirname(os.path.abspath(name)) == os.getcwd()
@@ -63,9 +68,10 @@ def walked(folder):
     """The folders from this one downwards, each with the names in it, as the copy of it has them in which make is
     asked."""
     for at, folders, names in os.walk(folder or "."):
-        folders[:] = [one for one in folders if one not in sources.CONTROL and not own_files.is_own(at, one)
+        own = own_files.among(at, [*folders, *names])
+        folders[:] = [one for one in folders if one not in sources.CONTROL and one not in own
                       and not scratch.is_room(os.path.join(at, one))]
-        kept = [one for one in names if one not in sources.OWN and not own_files.is_own(at, one)]
+        kept = [one for one in names if one not in sources.OWN and one not in own]
         yield at, folders + [one for one in kept if not is_values_file(os.path.join(at, one))]
 
 
