@@ -30,6 +30,11 @@ def kati_asked():
     return kati() and programs.find_asked(None, kati())
 
 
+# The tools are told both, found by whichever way: where a test puts another program in the place of one, the other one
+# stays, and what is run, and how often, hangs on nothing of this host's.
+os.environ.update({name: path for name, path in (("KATI", kati()), ("KATI_ASKED", kati_asked())) if path})
+
+
 def needs(*names):
     """Skips a test where one of these programs isn't there; `kati` and `kati-asked` are those of the checkout, or of
     the environment."""

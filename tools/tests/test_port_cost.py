@@ -7,7 +7,7 @@ import types
 import unittest
 from unittest import mock
 
-from support import Tree, kati, needs
+from support import Tree, kati, kati_asked, needs
 
 from kati_tools.make import make_run, recipe_shell, running, shell_text
 from kati_tools.port import command_reads, freezing, frozen_values, make_probes
@@ -61,15 +61,17 @@ def template(count):
 
 @needs("kati", "kati-asked", "make")
 class Cost(Tree):
-    """Programs that stand for kati and make count their runs."""
+    """Programs that stand for kati, kati-asked and make count their runs."""
 
     def runs(self, *words, tool="kati-port"):
-        """How often a port by a tool runs kati and make; what it says."""
+        """How often a port by a tool runs kati and make, and what it says. A run of kati-asked in the place of kati's
+        counts as one of kati."""
         counted = self.top.parent / "counted"
         counted.write_text("")
-        around = {name: self.program(f"{name}-counted", f'echo {name} >> {counted}\nexec {path} "$@"')
-                  for name, path in (("kati", kati()), ("make", "make"))}
-        ran = self.tool(tool, *words, KATI=around["kati"], MAKE=around["make"])
+        programs = (("KATI", "kati", kati()), ("KATI_ASKED", "kati", kati_asked()), ("MAKE", "make", "make"))
+        around = {key: self.program(f"{key}-counted", f'echo {name} >> {counted}\nexec {path} "$@"')
+                  for key, name, path in programs}
+        ran = self.tool(tool, *words, **around)
         self.assertEqual(ran.status, 0, ran.all)
         found = counted.read_text().split()
         return found.count("kati"), found.count("make"), ran.all
@@ -125,7 +127,7 @@ class Cost(Tree):
                       "prog: F = 1\nprog: a.c\n\techo '$(F) a\\\n\tb' $$E \"$(V)\" $(N) > $@\n"})
         katis, makes, said = self.runs("--port", "--no-ninja", tool="kati-build")
         self.assertNotIn("differ", said)
-        self.assertEqual((katis, makes), (4, 6))
+        self.assertEqual((katis, makes), (5, 6))
 
     def test_what_make_does_not_come_by_stays(self):
         self.put("Makefile", "A := $(shell echo a)\nifeq ($(A),b)\nB := $(shell echo b)\nexport C\nelse ifeq ($(A),a)\n"
