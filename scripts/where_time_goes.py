@@ -1,9 +1,9 @@
 #!/usr/bin/env python3
-"""Tells what the built kati's time goes into, case by case: the table "What the time goes into" of docs/BENCHMARKS.md.
+"""Tells what the built kati's time goes into, case by case, in a table that stands in no document.
 
-Each case of the table "The whole program" is run at half its larger size under `perf record` (Debian's package
-linux-perf), and each sample is put to the first group that its function belongs to. The shares are hundredths of a
-run's samples; those below one are left out. --small takes a hundredth of each size, to try the script.
+Each case of the table "The whole program" of docs/BENCHMARKS.md is run at half its larger size under `perf record`
+(Debian's package linux-perf), and each sample is put to the first group that its function belongs to. The shares are
+hundredths of a run's samples; those below one are left out. --small takes a hundredth of each size, to try the script.
 
 examples:
   scripts/where_time_goes.py            the table, of the built program
