@@ -1,7 +1,10 @@
 """scripts/wrong_bodies.py, with a program that stands for the toolchain: what counts as refused."""
+import collections
+import importlib
 import os
 import shutil
 import sys
+import unittest
 
 from support import TOP, Tree, needs
 
@@ -153,3 +156,27 @@ class WrongBodies(Tree):
         self.assertEqual([line for line in lines if not line.startswith("#")],
                          ["demo 2 1 0 1 0 1", "    right: let through (proved)", "other 1 1 0 0 0 1"])
         self.assertEqual(self.tried("--record", "--only", "right", status=2), [])
+
+
+class Recorded(unittest.TestCase):
+    """scripts/wrong_bodies.txt beside the edits of the repository."""
+
+    def setUp(self):
+        sys.path.append(str(TOP / "scripts"))
+        self.addCleanup(sys.path.remove, str(TOP / "scripts"))
+        counts = importlib.import_module("bodies.counts")
+        self.rows = counts.rows_of((TOP / "scripts/wrong_bodies.txt").read_text())
+
+    def test_each_crate_has_a_row_for_all_of_its_edits(self):
+        edits = [path for folder in ("wrong-bodies", "must-fail") for path in TOP.glob(f"crates/*/{folder}/*.edit")]
+        found = collections.Counter(path.parent.parent.name for path in edits)
+        self.assertEqual({crate: int(lines[0].split()[1]) for crate, lines in self.rows.items()}, found)
+
+    def test_the_gate_names_each_edit_that_is_not_refused(self):
+        gate = (TOP / "docs/GATE.md").read_text()
+        for crate, (counts, *others) in self.rows.items():
+            with self.subTest(crate):
+                tried, refused = map(int, counts.split()[1:3])
+                self.assertEqual(tried - refused, len(others))
+                for line in others:
+                    self.assertIn(f"(`{line.split(':')[0].strip()}` of {crate})", gate)
