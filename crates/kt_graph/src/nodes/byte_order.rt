@@ -45,6 +45,7 @@ fn texts_of<'n>(alloc: Global, names: &'n NameNumbers) -> Result<Vec<&'n [u8]>, 
     Ok(texts)
 }
 
+// More than 4,294,967,295 texts are refused as if memory were.
 fn fronts_of(alloc: Global, texts: &[&[u8]]) -> Result<Vec<Front>, AllocError>
     ensures { IfOk result (λ fronts. AreFronts (map (λ text. text.now) texts.now) (length texts.now) fronts.items) }
 {

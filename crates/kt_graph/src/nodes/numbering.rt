@@ -229,7 +229,7 @@ impl<'a> NameNumbers<'a> {
         Ok(())
     }
 
-    // Adds the numbers of names at the end.
+    // Adds the numbers of names at the end. One beyond 4,294,967,295 is refused as if memory were.
     fn add_names(
         &mut self,
         numbers: &mut Vec<u32>,

@@ -1,7 +1,7 @@
 //! Names that are held as long as a book.
 //! Fast: names of the book and of the list of files are read where they are held. Spares a copy of each, and a place
 //! in a second table.
-ghost use Rattle.std.specs.Prelude.{◌≡◌, ◌^◌, ◌+◌, ◌<◌, Some, length, option_map, IfOk, IfSome};
+ghost use Rattle.std.specs.Prelude.{◌≡◌, ◌^◌, ◌+◌, ◌<◌, ◌++◌, Some, length, option_map, IfOk, IfSome, OnErr};
 ghost use Rattle.kt_list.specs.Names.{name_at, place_of};
 ghost use Rattle.kt_rules.specs.Targets.{needed_view};
 ghost use Rattle.kt_graph.specs.inner.nodes.Reached.{listed_in};
@@ -40,7 +40,10 @@ impl<'a> Tables<'a> {
     }
 
     /// The names of a book and of a list. More than 4,294,967,295 are refused as if memory were.
-    pub(crate) fn of_both(book: &'a Names, list: &'a Names) -> Result<Tables<'a>, AllocError> {
+    pub(crate) fn of_both(book: &'a Names, list: &'a Names) -> Result<Tables<'a>, AllocError>
+        ensures both { IfOk result (λ tables. tables ≡ book.now ++ list.now) }
+        ensures large { OnErr result (4294967295 < length book.now + length list.now) }
+    {
         let _count = narrow(book.len() + list.len())?;
         let list = Some(list);
         Ok(Tables { book, list })
