@@ -1,20 +1,22 @@
-use Rattle.kt_eval.proofs.lemmas.reading.ReadingRowLemmas as rows
+use Rattle.kt_eval.proofs.Common.{refl}
+use Rattle.kt_eval.proofs.lemmas.reading.ReadingRowLemmas.{reading}
 use Rattle.kt_eval.proofs.laws.rows_of_reading.Goals as goal
 
 pub returns : goal.returns
+unfolding reading
 returns c = record {
-  no_makefile = rows.no_makefile;
-  stray_end = rows.stray_end;
-  appended = rows.appended;
-  condition = rows.condition;
-  missing_end = rows.missing_end;
-  defined = rows.defined;
-  deep = rows.deep;
-  absent = rows.absent;
-  includes_itself = rows.includes_itself;
-  included_twice = rows.included_twice;
-  bare_tab = rows.bare_tab;
-  refused_form = rows.refused_form;
-  pattern = rows.pattern;
-  end_in_eval = rows.end_in_eval;
+  no_makefile = refl;
+  stray_end = refl;
+  appended = refl;
+  condition = refl;
+  missing_end = refl;
+  defined = refl;
+  deep = refl;
+  absent = refl;
+  includes_itself = refl;
+  included_twice = refl;
+  bare_tab = refl;
+  refused_form = refl;
+  pattern = refl;
+  end_in_eval = refl;
 }
