@@ -4,6 +4,7 @@ pub use Rattle.kt_eval.specs.Outcome.{Fails, IfCutBy, done, then_do}
 pub use Rattle.kt_eval.specs.State.{newer}
 unfoldable pub use Rattle.kt_eval.specs.State.{innermost_value, lookup, seen}
 pub use Rattle.kt_eval.specs.Step.{BlamesBy, Trail, asked_for, one_of, told, trail}
+unfoldable pub use Rattle.kt_eval.specs.Step.{astray}
 pub use Rattle.kt_eval.specs.declared.reading.page.Source.{Source}
 pub use Rattle.kt_eval.specs.declared.reading.page.Source.TheVariants.{File, Held}
 pub use Rattle.kt_eval.specs.declared.state.Frame.{Frame}

@@ -1,113 +1,157 @@
--- The lemmas of each step under one name, for the attributes of functions.
-use Rattle.kt_eval.proofs.Common.{referred, body_of, each_term, expanded, term_of, lookup}
-use Rattle.kt_eval.specs.inner.Plain.{put_of, still_deferred, put_by, left_by}
+-- What each step before which something may fail adds to: a list of its world stays a prefix of that at its end. And what
+-- the attributes of functions name: such lemmas of several steps, and definitions, under one name.
+use Rattle.std.proofs.Common.{ℕ, zero, suc, ◌≤◌, Bool, true, List, [], ◌∷◌, ◌++◌, arith, Option}
+use Rattle.kt_eval.proofs.Common.{Text, Directive, Operator, Missing, Form, Term, Items, RuleParts, Entry, Function, FoundValue, Source, Assigning, Store, World, left_of, Trail, told, asked_for, one_of, astray, GoesOn, Request, Naming, value_of, each_argument, accepted, apply, apply_or, apply_and, each_word, called, call_by_name, value_named, referred, each_term, expanded, Page, branch_holds, read_bare_tab, read_define, read_kind, read_items, read_end, read_sheet, read_without_nul, read_text, read_file, read_included, read_first, evaluator, body_of, term_of, lookup}
+use Rattle.kt_eval.specs.macros.Assignments.{assign, assign_named, assign_line, define}
+use Rattle.kt_eval.specs.reading.Conditionals.{is_set, holds, text_holds}
+use Rattle.kt_eval.specs.files.Including.{each_include, include_line}
+use Rattle.kt_eval.specs.reading.Rules.{enter_rule, close_rule, open_rule, rule_of_parts, rule_line}
+use Rattle.kt_eval.proofs.lemmas.GrowingLemmas.{value_of_related, each_argument_related, accepted_related, apply_related, apply_or_related, apply_and_related, each_word_related, called_related, call_by_name_related, value_named_related, referred_related, appended_related, each_term_related, expanded_related, assign_related, assign_named_related, assign_line_related, define_related}
+use Rattle.kt_eval.proofs.lemmas.GrowingReads.{read_items_related, branch_holds_related, read_first_related, one_more_level, read_bare_tab_related, read_define_related, read_kind_related, holds_related, text_holds_related, each_include_related, include_line_related, rule_of_parts_related, rule_line_related, read_sheet_related, read_text_related, read_without_nul_related, read_file_related, read_included_related, is_set_grows, close_rule_grows, open_rule_grows, read_end_grows, enter_rule_grows}
+use Rattle.kt_eval.specs.inner.Plain.{with_term, put_of, still_deferred, put_by, left_by}
 use Rattle.kt_eval.proofs.LevelLemmas.{evaluator_reads}
 use Rattle.kt_eval.proofs.lemmas.AgreementLemmas.{last_held, no_fewer}
 use Rattle.kt_eval.proofs.lemmas.LastLemmas.{last_after}
-use Rattle.kt_eval.proofs.lemmas.StepLemmas.{accepted_longer, accepted_same, apply_and_longer, apply_and_same, apply_or_longer}
-use Rattle.kt_eval.proofs.lemmas.StepLemmas.{appended_longer, appended_same, apply_longer, apply_same}
-use Rattle.kt_eval.proofs.lemmas.StepLemmas.{apply_or_same, asked_longer, asked_same, assign_line_longer, assign_line_same, assign_longer}
-use Rattle.kt_eval.proofs.lemmas.StepLemmas.{assign_named_longer, assign_named_same, assign_same, branch_holds_longer, branch_holds_same}
-use Rattle.kt_eval.proofs.lemmas.StepLemmas.{call_by_name_longer, call_by_name_same, called_longer, called_same, close_rule_longer}
-use Rattle.kt_eval.proofs.lemmas.StepLemmas.{close_rule_same, define_longer, define_same, each_argument_longer, each_argument_same}
-use Rattle.kt_eval.proofs.lemmas.StepLemmas.{each_include_longer, each_include_same, each_term_longer, each_term_same, each_word_longer}
-use Rattle.kt_eval.proofs.lemmas.StepLemmas.{each_word_same, enter_rule_longer, enter_rule_same, eval_longer, eval_same, expand_longer}
-use Rattle.kt_eval.proofs.lemmas.StepLemmas.{expand_same, expanded_longer, expanded_same, holds_longer, holds_same, include_line_longer}
-use Rattle.kt_eval.proofs.lemmas.StepLemmas.{include_line_same, is_set_longer, is_set_same, open_rule_longer, open_rule_same}
-use Rattle.kt_eval.proofs.lemmas.StepLemmas.{read_bare_tab_longer, read_bare_tab_same, read_define_longer, read_define_same, read_end_longer}
-use Rattle.kt_eval.proofs.lemmas.StepLemmas.{read_end_same, read_file_longer, read_file_same, read_first_longer, read_first_same}
-use Rattle.kt_eval.proofs.lemmas.StepLemmas.{read_included_longer, read_included_same, read_items_longer, read_items_same, read_kind_longer}
-use Rattle.kt_eval.proofs.lemmas.StepLemmas.{read_kind_same, read_sheet_longer, read_sheet_same, read_text_longer, read_text_same}
-use Rattle.kt_eval.proofs.lemmas.StepLemmas.{read_without_nul_longer, read_without_nul_same, referred_longer, referred_same}
-use Rattle.kt_eval.proofs.lemmas.StepLemmas.{rule_line_longer, rule_line_same, rule_of_parts_longer, rule_of_parts_same, text_holds_longer}
-use Rattle.kt_eval.proofs.lemmas.StepLemmas.{text_holds_same, value_named_longer, value_named_same, value_of_longer, value_of_same}
+use Rattle.kt_eval.proofs.lemmas.TrailLemmas.{goes_on, longer}
 
--- the two lemmas of a step under one name
-pub ruleset assign_goes = (assign_longer, assign_same)
+-- one more name that is asked for
+pub asked_goes : (of : Trail) (texts said asked : List Text) (name : Text)
+    → astray texts (one_of of said (asked ++ name ∷ [])) ≤ astray texts (one_of of said asked)
+asked_goes told texts said asked name = omega arith
+asked_goes asked_for texts said asked name = longer texts asked (name ∷ [])
 
-pub ruleset assign_named_goes = (assign_named_longer, assign_named_same)
+-- more messages
+pub said_goes : (of : Trail) (texts said more asked : List Text)
+    → astray texts (one_of of (said ++ more) asked) ≤ astray texts (one_of of said asked)
+said_goes told texts said more asked = longer texts said more
+said_goes asked_for texts said more asked = omega arith
 
-pub ruleset assign_line_goes = (assign_line_longer, assign_line_same)
+pub accepted_goes : (name : Text) (found : Option Text) (w : World) → GoesOn w (left_of (accepted name found w))
+accepted_goes name found w = goes_on w (left_of (accepted name found w)) ((accepted_related (evaluator true [] zero) (evaluator true [] (suc zero)) (one_more_level true [] zero) name found w).0)
 
-pub ruleset is_set_goes = (is_set_longer, is_set_same)
+pub is_set_goes : (names : List Text) (w : World) → GoesOn w (left_of (is_set names w))
+is_set_goes names w = goes_on w (left_of (is_set names w)) ((is_set_grows (evaluator true [] zero) (evaluator true [] (suc zero)) (one_more_level true [] zero) names w))
 
-pub ruleset expanded_goes = (expanded_longer, expanded_same)
+pub close_rule_goes : (w : World) → GoesOn w (left_of (close_rule w))
+close_rule_goes w = goes_on w (left_of (close_rule w)) ((close_rule_grows (evaluator true [] zero) (evaluator true [] (suc zero)) (one_more_level true [] zero) w))
 
-pub ruleset text_holds_goes = (text_holds_longer, text_holds_same)
+pub open_rule_goes : (recipe : Option Text) (head : Text) (w : World) → GoesOn w (left_of (open_rule recipe head w))
+open_rule_goes recipe head w = goes_on w (left_of (open_rule recipe head w)) ((open_rule_grows (evaluator true [] zero) (evaluator true [] (suc zero)) (one_more_level true [] zero) recipe head w))
 
-pub ruleset holds_goes = (holds_longer, holds_same)
+pub read_end_goes : (source : Source) (end : Option Missing) (w : World) → GoesOn w (left_of (read_end source end w))
+read_end_goes source end w = goes_on w (left_of (read_end source end w)) ((read_end_grows (evaluator true [] zero) (evaluator true [] (suc zero)) (one_more_level true [] zero) source end w))
 
-pub ruleset appended_goes = (appended_longer, appended_same)
+pub enter_rule_goes : (entry : Entry) (w : World) → GoesOn w (left_of (enter_rule entry w))
+enter_rule_goes entry w = goes_on w (left_of (enter_rule entry w)) ((enter_rule_grows (evaluator true [] zero) (evaluator true [] (suc zero)) (one_more_level true [] zero) entry w))
 
-pub ruleset each_term_goes = (each_term_longer, each_term_same)
+module _ (reads : Bool) (store : Store) (levels : ℕ) where
+  pub value_of_goes : (found : Option FoundValue) (w : World) → GoesOn w (left_of (value_of (evaluator reads store levels) found w))
+  value_of_goes found w = goes_on w (left_of (value_of (evaluator reads store levels) found w)) ((value_of_related (evaluator reads store levels) (evaluator reads store (suc levels)) (one_more_level reads store levels) found w).0)
 
-pub ruleset referred_goes = (referred_longer, referred_same)
+  pub each_argument_goes : (out texts : List Text) (w : World) → GoesOn w (left_of (each_argument (evaluator reads store levels) out texts w))
+  each_argument_goes out texts w = goes_on w (left_of (each_argument (evaluator reads store levels) out texts w)) ((each_argument_related (evaluator reads store levels) (evaluator reads store (suc levels)) (one_more_level reads store levels) out texts w).0)
 
-pub ruleset value_named_goes = (value_named_longer, value_named_same)
+  pub apply_or_goes : (texts : List Text) (w : World) → GoesOn w (left_of (apply_or (evaluator reads store levels) texts w))
+  apply_or_goes texts w = goes_on w (left_of (apply_or (evaluator reads store levels) texts w)) ((apply_or_related (evaluator reads store levels) (evaluator reads store (suc levels)) (one_more_level reads store levels) texts w).0)
 
-pub ruleset value_of_goes = (value_of_longer, value_of_same)
+  pub apply_and_goes : (texts : List Text) (w : World) → GoesOn w (left_of (apply_and (evaluator reads store levels) texts w))
+  apply_and_goes texts w = goes_on w (left_of (apply_and (evaluator reads store levels) texts w)) ((apply_and_related (evaluator reads store levels) (evaluator reads store (suc levels)) (one_more_level reads store levels) texts w).0)
 
-pub ruleset accepted_goes = (accepted_longer, accepted_same)
+  pub each_word_goes : (name body out separator : Text) (words : List Text) (w : World) → GoesOn w (left_of (each_word (evaluator reads store levels) name body out separator words w))
+  each_word_goes name body out separator words w = goes_on w (left_of (each_word (evaluator reads store levels) name body out separator words w)) ((each_word_related (evaluator reads store levels) (evaluator reads store (suc levels)) (one_more_level reads store levels) name body out separator words w).0)
 
-pub ruleset each_argument_goes = (each_argument_longer, each_argument_same)
+  pub called_goes : (name : Text) (arguments : List Text) (w : World) → GoesOn w (left_of (called (evaluator reads store levels) name arguments w))
+  called_goes name arguments w = goes_on w (left_of (called (evaluator reads store levels) name arguments w)) ((called_related (evaluator reads store levels) (evaluator reads store (suc levels)) (one_more_level reads store levels) name arguments w).0)
 
-pub ruleset expand_goes = (expand_longer, expand_same)
+  pub call_by_name_goes : (name : Text) (texts : List Text) (w : World) → GoesOn w (left_of (call_by_name (evaluator reads store levels) name texts w))
+  call_by_name_goes name texts w = goes_on w (left_of (call_by_name (evaluator reads store levels) name texts w)) ((call_by_name_related (evaluator reads store levels) (evaluator reads store (suc levels)) (one_more_level reads store levels) name texts w).0)
 
-pub ruleset apply_goes = (apply_longer, apply_same)
+  pub value_named_goes : (naming : Naming) (w : World) → GoesOn w (left_of (value_named (evaluator reads store levels) naming w))
+  value_named_goes naming w = goes_on w (left_of (value_named (evaluator reads store levels) naming w)) ((value_named_related (evaluator reads store levels) (evaluator reads store (suc levels)) (one_more_level reads store levels) naming w).0)
 
-pub ruleset apply_or_goes = (apply_or_longer, apply_or_same)
+  pub apply_goes : (function : Function) (arguments : List Text) (w : World) → GoesOn w (left_of (apply (evaluator reads store levels) function arguments w))
+  apply_goes function arguments w = goes_on w (left_of (apply (evaluator reads store levels) function arguments w)) ((apply_related (evaluator reads store levels) (evaluator reads store (suc levels)) (one_more_level reads store levels) function arguments w).0)
 
-pub ruleset apply_and_goes = (apply_and_longer, apply_and_same)
+  pub referred_goes : (asked : Request) (w : World) → GoesOn w (left_of (referred (evaluator reads store levels) asked w))
+  referred_goes asked w = goes_on w (left_of (referred (evaluator reads store levels) asked w)) ((referred_related (evaluator reads store levels) (evaluator reads store (suc levels)) (one_more_level reads store levels) asked w).0)
 
-pub ruleset each_word_goes = (each_word_longer, each_word_same)
+  pub appended_goes : (out : Text) (piece : Term) (w : World) → GoesOn w (left_of (with_term (evaluator reads store levels) out piece w))
+  appended_goes out piece w = goes_on w (left_of (with_term (evaluator reads store levels) out piece w)) ((appended_related (evaluator reads store levels) (evaluator reads store (suc levels)) (one_more_level reads store levels) out piece w).0)
 
-pub ruleset call_by_name_goes = (call_by_name_longer, call_by_name_same)
+  pub each_term_goes : (out : Text) (pieces : List Term) (w : World) → GoesOn w (left_of (each_term (evaluator reads store levels) out pieces w))
+  each_term_goes out pieces w = goes_on w (left_of (each_term (evaluator reads store levels) out pieces w)) ((each_term_related (evaluator reads store levels) (evaluator reads store (suc levels)) (one_more_level reads store levels) out pieces w).0)
 
-pub ruleset enter_rule_goes = (enter_rule_longer, enter_rule_same)
+  pub expanded_goes : (text : Text) (w : World) → GoesOn w (left_of (expanded (evaluator reads store levels) text w))
+  expanded_goes text w = goes_on w (left_of (expanded (evaluator reads store levels) text w)) ((expanded_related (evaluator reads store levels) (evaluator reads store (suc levels)) (one_more_level reads store levels) text w).0)
 
-pub ruleset open_rule_goes = (open_rule_longer, open_rule_same)
+  pub assign_goes : (name text : Text) (does : Assigning) (w : World) → GoesOn w (left_of (assign (evaluator reads store levels) name text does w))
+  assign_goes name text does w = goes_on w (left_of (assign (evaluator reads store levels) name text does w)) ((assign_related (evaluator reads store levels) (evaluator reads store (suc levels)) (one_more_level reads store levels) name text does w).0)
 
-pub ruleset each_include_goes = (each_include_longer, each_include_same)
+  pub assign_named_goes : (o : Operator) (text name : Text) (w : World) → GoesOn w (left_of (assign_named (evaluator reads store levels) o text name w))
+  assign_named_goes o text name w = goes_on w (left_of (assign_named (evaluator reads store levels) o text name w)) ((assign_named_related (evaluator reads store levels) (evaluator reads store (suc levels)) (one_more_level reads store levels) o text name w).0)
 
-pub ruleset read_included_goes = (read_included_longer, read_included_same)
+  pub assign_line_goes : (name : Text) (o : Operator) (text : Text) (w : World) → GoesOn w (left_of (assign_line (evaluator reads store levels) name o text w))
+  assign_line_goes name o text w = goes_on w (left_of (assign_line (evaluator reads store levels) name o text w)) ((assign_line_related (evaluator reads store levels) (evaluator reads store (suc levels)) (one_more_level reads store levels) name o text w).0)
 
-pub ruleset read_text_goes = (read_text_longer, read_text_same)
+  pub define_goes : (rest : Text) (kind : Form) (body : Text) (w : World) → GoesOn w (left_of (define (evaluator reads store levels) rest kind body w))
+  define_goes rest kind body w = goes_on w (left_of (define (evaluator reads store levels) rest kind body w)) ((define_related (evaluator reads store levels) (evaluator reads store (suc levels)) (one_more_level reads store levels) rest kind body w).0)
 
-pub ruleset read_first_goes = (read_first_longer, read_first_same)
+  pub holds_goes : (kind : Directive) (text : Text) (w : World) → GoesOn w (left_of (holds (evaluator reads store levels) kind text w))
+  holds_goes kind text w = goes_on w (left_of (holds (evaluator reads store levels) kind text w)) ((holds_related (evaluator reads store levels) (evaluator reads store (suc levels)) (one_more_level reads store levels) kind text w).0)
 
-pub ruleset read_end_goes = (read_end_longer, read_end_same)
+  pub text_holds_goes : (text : Text) (w : World) → GoesOn w (left_of (text_holds (evaluator reads store levels) text w))
+  text_holds_goes text w = goes_on w (left_of (text_holds (evaluator reads store levels) text w)) ((text_holds_related (evaluator reads store levels) (evaluator reads store (suc levels)) (one_more_level reads store levels) text w).0)
 
-pub ruleset read_items_goes = (read_items_longer, read_items_same)
+  pub each_include_goes : (optional : Bool) (names : List Text) (w : World) → GoesOn w (left_of (each_include (evaluator reads store levels) optional names w))
+  each_include_goes optional names w = goes_on w (left_of (each_include (evaluator reads store levels) optional names w)) ((each_include_related (evaluator reads store levels) (evaluator reads store (suc levels)) (one_more_level reads store levels) optional names w).0)
 
-pub ruleset branch_holds_goes = (branch_holds_longer, branch_holds_same)
+  pub include_line_goes : (optional : Bool) (text : Text) (w : World) → GoesOn w (left_of (include_line (evaluator reads store levels) optional text w))
+  include_line_goes optional text w = goes_on w (left_of (include_line (evaluator reads store levels) optional text w)) ((include_line_related (evaluator reads store levels) (evaluator reads store (suc levels)) (one_more_level reads store levels) optional text w).0)
 
-pub ruleset read_kind_goes = (read_kind_longer, read_kind_same)
+  pub rule_of_parts_goes : (parts : Option RuleParts) (w : World) → GoesOn w (left_of (rule_of_parts (evaluator reads store levels) parts w))
+  rule_of_parts_goes parts w = goes_on w (left_of (rule_of_parts (evaluator reads store levels) parts w)) ((rule_of_parts_related (evaluator reads store levels) (evaluator reads store (suc levels)) (one_more_level reads store levels) parts w).0)
 
-pub ruleset read_bare_tab_goes = (read_bare_tab_longer, read_bare_tab_same)
+  pub rule_line_goes : (text : Text) (w : World) → GoesOn w (left_of (rule_line (evaluator reads store levels) text w))
+  rule_line_goes text w = goes_on w (left_of (rule_line (evaluator reads store levels) text w)) ((rule_line_related (evaluator reads store levels) (evaluator reads store (suc levels)) (one_more_level reads store levels) text w).0)
 
-pub ruleset include_line_goes = (include_line_longer, include_line_same)
+  pub read_sheet_goes : (sheet : Page) (w : World) → GoesOn w (left_of (read_sheet (evaluator reads store levels) sheet w))
+  read_sheet_goes sheet w = goes_on w (left_of (read_sheet (evaluator reads store levels) sheet w)) ((read_sheet_related (evaluator reads store levels) (evaluator reads store (suc levels)) (one_more_level reads store levels) sheet w).0)
 
-pub ruleset read_define_goes = (read_define_longer, read_define_same)
+  pub read_text_goes : (source : Source) (text : Text) (w : World) → GoesOn w (left_of (read_text (evaluator reads store levels) source text w))
+  read_text_goes source text w = goes_on w (left_of (read_text (evaluator reads store levels) source text w)) ((read_text_related (evaluator reads store levels) (evaluator reads store (suc levels)) (one_more_level reads store levels) source text w).0)
 
-pub ruleset define_goes = (define_longer, define_same)
+  pub read_without_nul_goes : (source : Source) (text : Text) (nul : Option ℕ) (w : World) → GoesOn w (left_of (read_without_nul (evaluator reads store levels) source text nul w))
+  read_without_nul_goes source text nul w = goes_on w (left_of (read_without_nul (evaluator reads store levels) source text nul w)) ((read_without_nul_related (evaluator reads store levels) (evaluator reads store (suc levels)) (one_more_level reads store levels) source text nul w).0)
 
-pub ruleset called_goes = (called_longer, called_same)
+  pub read_file_goes : (name text : Text) (w : World) → GoesOn w (left_of (read_file (evaluator reads store levels) name text w))
+  read_file_goes name text w = goes_on w (left_of (read_file (evaluator reads store levels) name text w)) ((read_file_related (evaluator reads store levels) (evaluator reads store (suc levels)) (one_more_level reads store levels) name text w).0)
 
-pub ruleset eval_goes = (eval_longer, eval_same)
+  pub read_included_goes : (optional : Bool) (name : Text) (found : Option Text) (w : World) → GoesOn w (left_of (read_included (evaluator reads store levels) optional name found w))
+  read_included_goes optional name found w = goes_on w (left_of (read_included (evaluator reads store levels) optional name found w)) ((read_included_related (evaluator reads store levels) (evaluator reads store (suc levels)) (one_more_level reads store levels) optional name found w).0)
 
-pub ruleset asked_goes = (asked_longer, asked_same)
+  pub read_items_goes : (sheet : Page) (items : Items) (w : World) → GoesOn w (left_of (read_items (evaluator reads store levels) sheet items w))
+  read_items_goes sheet items w = goes_on w (left_of (read_items (evaluator reads store levels) sheet items w)) ((read_items_related (evaluator reads store levels) (evaluator reads store (suc levels)) (one_more_level reads store levels) sheet items w).0)
 
-pub ruleset read_file_goes = (read_file_longer, read_file_same)
+  pub read_kind_goes : (text : Text) (kind : Form) (w : World) → GoesOn w (left_of (read_kind (evaluator reads store levels) text kind w))
+  read_kind_goes text kind w = goes_on w (left_of (read_kind (evaluator reads store levels) text kind w)) ((read_kind_related (evaluator reads store levels) (evaluator reads store (suc levels)) (one_more_level reads store levels) text kind w).0)
 
-pub ruleset read_sheet_goes = (read_sheet_longer, read_sheet_same)
+  pub read_bare_tab_goes : (kind : Form) (w : World) → GoesOn w (left_of (read_bare_tab (evaluator reads store levels) kind w))
+  read_bare_tab_goes kind w = goes_on w (left_of (read_bare_tab (evaluator reads store levels) kind w)) ((read_bare_tab_related (evaluator reads store levels) (evaluator reads store (suc levels)) (one_more_level reads store levels) kind w).0)
 
-pub ruleset read_without_nul_goes = (read_without_nul_longer, read_without_nul_same)
+  pub read_define_goes : (kind : Form) (body : Text) (w : World) → GoesOn w (left_of (read_define (evaluator reads store levels) kind body w))
+  read_define_goes kind body w = goes_on w (left_of (read_define (evaluator reads store levels) kind body w)) ((read_define_related (evaluator reads store levels) (evaluator reads store (suc levels)) (one_more_level reads store levels) kind body w).0)
 
-pub ruleset close_rule_goes = (close_rule_longer, close_rule_same)
+  pub branch_holds_goes : (sheet : Page) (place : ℕ) (condition : Bool) (w : World) → GoesOn w (left_of (branch_holds (evaluator reads store levels) sheet place condition w))
+  branch_holds_goes sheet place condition w = goes_on w (left_of (branch_holds (evaluator reads store levels) sheet place condition w)) ((branch_holds_related (evaluator reads store levels) (evaluator reads store (suc levels)) (one_more_level reads store levels) sheet place condition w).0)
 
-pub ruleset rule_line_goes = (rule_line_longer, rule_line_same)
+  pub read_first_goes : (names : List Text) (w : World) → GoesOn w (left_of (read_first store (evaluator reads store levels) names w))
+  read_first_goes names w = goes_on w (left_of (read_first store (evaluator reads store levels) names w)) ((read_first_related (evaluator reads store levels) (evaluator reads store (suc levels)) (one_more_level reads store levels) store names w).0)
 
-pub ruleset rule_of_parts_goes = (rule_of_parts_longer, rule_of_parts_same)
+  pub expand_goes : (text : Text) (w : World) → GoesOn w (left_of ((evaluator reads store levels).expand text w))
+  expand_goes text w = goes_on w (left_of ((evaluator reads store levels).expand text w)) ((one_more_level reads store levels).expand text w).0
+
+  pub eval_goes : (text : Text) (w : World) → GoesOn w (left_of ((evaluator reads store levels).eval text w))
+  eval_goes text w = goes_on w (left_of ((evaluator reads store levels).eval text w)) ((one_more_level reads store levels).eval text w).0
 
 -- those of the steps of one function
 pub ruleset value_named_steps = (value_named_goes, accepted_goes)
@@ -129,6 +173,10 @@ pub ruleset read_text_steps = (read_sheet_goes, read_without_nul_goes)
 pub ruleset read_page_steps = (close_rule_goes, read_end_goes)
 
 pub ruleset read_kind_steps = (assign_line_goes, rule_line_goes)
+
+pub ruleset said_steps = (said_goes, longer)
+
+pub ruleset enter_rule_steps = (enter_rule_goes, said_steps)
 
 pub ruleset read_rule_steps = (rule_of_parts_goes, open_rule_goes)
 

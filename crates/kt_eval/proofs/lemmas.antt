@@ -6,7 +6,7 @@ pub mod PlaceLemmas
 pub mod reading
 pub mod GrowingLemmas
 pub mod GrowingReads
-pub mod StepLemmas
+pub mod TrailLemmas
 pub mod EarlyLemmas
 pub mod TextLemmas
 pub mod LastLemmas

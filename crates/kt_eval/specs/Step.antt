@@ -1,5 +1,5 @@
 -- The steps of an evaluation, which leave a world, and what else a call leaves.
-use Rattle.std.specs.Prelude.{◌≡◌, ℕ, ◌≤◌, Option, Some, List, length, take, Result, Ok, Err, string_bytes}
+use Rattle.std.specs.Prelude.{◌≡◌, ℕ, suc, ◌+◌, ◌≤◌, Option, Some, List, [], ◌∷◌, bytes_eq, Result, Ok, Err, string_bytes, if◌then◌else◌}
 use Rattle.kt_list.specs.Counters.{Rises}
 use Rattle.kt_text.specs.Words.{Text}
 use Rattle.kt_rules.specs.declared.fault_kind.FaultKind.{FaultKind}
@@ -37,11 +37,16 @@ one_of asked_for said asked = asked
 abbrev pub trail : Trail → World → List Text
 trail of w = one_of of w.said w.asked
 
--- each list of the first world is a prefix of that of the second
+-- how many of these texts don't stand at the same place in a list
+unfoldable pub astray : List Text → List Text → ℕ
+astray [] xs = 0
+astray (text ∷ texts) [] = suc (astray texts [])
+astray (text ∷ texts) (x ∷ xs) = (if bytes_eq text x then 0 else 1) + astray texts xs
+
+-- What stands in a list of the first world stands at the same place in that of the second, which so begins with it. By
+-- a count it follows through calls and loops as an order on numbers does.
 abbrev pub GoesOn : World → World → Type 0
-GoesOn old new =
-    ((of : Trail) → length (trail of old) ≤ length (trail of new))
-    × ((of : Trail) (count : ℕ) → count ≤ length (trail of old) → take count (trail of new) ≡ take count (trail of old))
+GoesOn old new = (of : Trail) (texts : List Text) → astray texts (trail of new) ≤ astray texts (trail of old)
 
 -- the files are the same; answers, failures, messages and names asked for are only added to
 abbrev pub Keeps : Evaluation → Evaluation → Type 0

@@ -371,7 +371,7 @@ impl<'a, M: MacroScope, F: Files> Evaluation<'a, M, F> {
     }
 
     // Adds a rule to the book.
-    #[tactic(auto, using(crate::proofs::Steps::enter_rule_goes), unfolding(crate::specs::reading::Rules::enter_rule))]
+    #[tactic(auto, using(crate::proofs::Steps::enter_rule_steps), unfolding(crate::specs::reading::Rules::enter_rule))]
     fn enter_rule(&mut self, rule: Entry) -> Result<(), Stop>
         requires { M.writable ≡ true }
         ensures gives { Gives (λ u. u) result self.new.world (enter_rule rule self.old.world) }

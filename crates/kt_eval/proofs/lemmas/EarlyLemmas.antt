@@ -1,27 +1,41 @@
 -- Messages and names so far, if something fails: they are a prefix of those of the whole step.
-use Rattle.std.proofs.Common.{◌≡◌, ℕ, suc, ◌+◌, ◌<◌, ◌==◌, ◌||◌, Bool, true, cond, false, List, [], ◌∷◌, ◌++◌, length, map, drop, get_or, drop-cons, Some, codes, refl, sym, ap, subst, ◌∙◌, arith, Bor}
-use Rattle.kt_eval.proofs.Common.{slice_get, Text, words_of, stripped, Items, Branches, definition, conditional, no_branch, branch, late, tree_of, Form, line_form, left_at, AreTried, Stop, Store, World, bind, unbind, Loop, StepEnd, Gave, Stopped, Fails, IfCutBy, then_do, left_of, Step, trail, GoesOn, is_function_name, expanded, each_argument, apply_or, apply_and, apply_eval, apply_foreach, call_by_name, each_word, evaluator, Page, at_line, line_at, body_at, branch_holds, late_else, read_bytes, read_define, read_first, read_items, read_branches, read_or, read_sheet}
+use Rattle.std.proofs.Common.{◌≡◌, ℕ, suc, ◌+◌, ◌<◌, ◌==◌, ◌||◌, Bool, true, cond, false, List, [], ◌∷◌, ◌++◌, length, map, drop, get_or, drop-cons, Some, Result, Err, codes, refl, sym, ap, subst, ◌∙◌, arith, Bor}
+use Rattle.kt_eval.proofs.Common.{slice_get, Text, words_of, stripped, Items, Branches, definition, conditional, no_branch, branch, late, tree_of, Form, line_form, left_at, AreTried, Stop, Store, AgreeWith, Keeps, Evaluator, World, bind, unbind, Loop, StepEnd, Gave, Stopped, Fails, IfCutBy, then_do, left_of, Step, GoesOn, is_function_name, expanded, each_argument, apply_or, apply_and, apply_eval, apply_foreach, call_by_name, each_word, evaluator, Page, at_line, line_at, body_at, branch_holds, late_else, read_bytes, read_define, read_first, read_items, read_branches, read_or, read_sheet}
 use Rattle.kt_syntax.specs.declared.step.BlockStep.{BlockStep as Found}
 use Rattle.kt_syntax.specs.declared.step.BlockStep.TheVariants as step
 use Rattle.kt_eval.specs.declared.stop.Stop.TheVariants as stops
+use Rattle.kt_eval.specs.Step.{Blames, Evaluation, files_of}
+use Rattle.kt_eval.specs.inner.Doing.{DoesIn}
 use Rattle.kt_eval.specs.reading.Conditions.{ComparedTexts}
 use Rattle.kt_eval.specs.reading.Conditionals.{are_equal}
 use Rattle.kt_eval.specs.reading.Rules.{close_rule}
 use Rattle.kt_eval.proofs.LevelLemmas.{evaluator_reads}
 use Rattle.kt_eval.proofs.lemmas.reading.ReadingLemmas.{Tries}
-use Rattle.kt_eval.proofs.lemmas.GrowingLemmas.{front_next}
 use Rattle.kt_eval.proofs.lemmas.GrowingReads.{after_first_related, after_branch_related, read_first_related, read_or_related, one_more_level}
-use Rattle.kt_eval.proofs.lemmas.StepLemmas.{called_front, grown_front, expand_front, eval_front, each_word_front, expanded_front, each_argument_front, apply_or_front, apply_and_front, read_items_front, close_rule_front, read_end_front}
+use Rattle.kt_eval.proofs.lemmas.TrailLemmas.{grown}
+use Rattle.kt_eval.proofs.Steps.{called_goes, expand_goes, eval_goes, each_word_goes, expanded_goes, each_argument_goes, apply_or_goes, apply_and_goes, read_items_goes, close_rule_goes, read_end_goes}
 
 -- a call that was stopped ended as a step does, or was cut before its end
 abbrev pub Early : {A : Type 0} → Stop → World → StepEnd World A → Type 0
 Early stop w o = Fails stop w o × IfCutBy stop (GoesOn w (left_of o))
 
+-- a call of a step that was stopped
+pub does_early : {A B : Type 0} {see : A → B} {writable : Bool} {levels : ℕ} {step : Store → Evaluator → Step B} {result : Result A Stop}
+    {old new : Evaluation} {e : Stop} (stop : Stop) → result ≡ Err e → e ≡ stop
+    → ((store : Store) → AgreeWith store new.answers → Early stop new.world (step store (evaluator writable store levels) old.world))
+    → Keeps old new → Blames result (files_of old) (files_of new) → DoesIn see writable levels step result old new
+does_early stop is same early kept blames = record {
+  gives = λ store agrees. rw (is, same) (early store agrees).0;
+  cut = λ store agrees. rw (is, same) (early store agrees).1;
+  kept = kept;
+  blames = blames;
+}
+
 pub stands : (w : World) → GoesOn w w
-stands w = (λ of. omega arith, λ of count le. refl)
+stands w of texts = omega arith
 
 goes_further : (u v w : World) → GoesOn u v → GoesOn v w → GoesOn u w
-goes_further u v w p q = (λ of. (front_next (trail of u) (trail of v) (trail of w) (p.0 of, p.1 of) (q.0 of, q.1 of)).0, λ of. (front_next (trail of u) (trail of v) (trail of w) (p.0 of, p.1 of) (q.0 of, q.1 of)).1)
+goes_further u v w p q of texts = omega (arith, p of texts, q of texts)
 
 -- what is before the end of a step is before that of a longer one
 early_then : {A B : Type 0} (v : World) (o : StepEnd World A) (f : A → Step B) → ((x : A) (w : World) → GoesOn w (left_of (f x w))) → GoesOn v (left_of o) → GoesOn v (left_of (then_do o f))
@@ -48,7 +62,7 @@ module _ (reads : Bool) (store : Store) (levels : ℕ) where
   eval_fails stop w v text is h =
       rw (evaluator_reads reads store levels ∙ is)
       (fails_then stop v ((evaluator reads store levels).expand text w) _
-      (λ x u. early_then u ((evaluator reads store levels).eval x u) _ (λ _ t. stands t) (eval_front reads store levels x u)) h)
+      (λ x u. early_then u ((evaluator reads store levels).eval x u) _ (λ _ t. stands t) (eval_goes reads store levels x u)) h)
 
   pub foreach_fails : (stop : Stop) (w v : World) (variable list body : Text)
       → Early stop v ((evaluator reads store levels).expand variable w) → Early stop v (apply_foreach (evaluator reads store levels) variable list body w)
@@ -56,7 +70,7 @@ module _ (reads : Bool) (store : Store) (levels : ℕ) where
   foreach_fails stop w v variable list body h =
       fails_then stop v ((evaluator reads store levels).expand variable w) _
       (λ name u. early_then u ((evaluator reads store levels).expand list u) _
-      (λ words t. each_word_front reads store levels (stripped name) body [] [] (words_of words) t) (expand_front reads store levels list u)) h
+      (λ words t. each_word_goes reads store levels (stripped name) body [] [] (words_of words) t) (expand_goes reads store levels list u)) h
 
   -- the body of a loop, for the first of the words that remain
   pub word_fails : (stop : Stop) (w v : World) (name body out separator bound taken word : Text) (words rest : List Text)
@@ -69,14 +83,14 @@ module _ (reads : Bool) (store : Store) (levels : ℕ) where
       rw (sym bound_is, sym taken_is) h in
       rw is
       (fails_then stop v ((evaluator reads store levels).expand body (bind (Loop name word) w)) _
-      (λ x u. each_word_front reads store levels name body (out ++ (separator ++ x)) (codes " ") rest (unbind u)) held)
+      (λ x u. each_word_goes reads store levels name body (out ++ (separator ++ x)) (codes " ") rest (unbind u)) held)
 
   pub equal_fails : (stop : Stop) (w v : World) (compared : ComparedTexts)
       → Early stop v (expanded (evaluator reads store levels) compared.first w) → Early stop v (are_equal (evaluator reads store levels) (Some compared) w)
   unfolding are_equal
   equal_fails stop w v compared h =
       fails_then stop v (expanded (evaluator reads store levels) compared.first w) _
-      (λ x u. early_then u (expanded (evaluator reads store levels) compared.second u) _ (λ y t. stands t) (expanded_front reads store levels compared.second u)) h
+      (λ x u. early_then u (expanded (evaluator reads store levels) compared.second u) _ (λ y t. stands t) (expanded_goes reads store levels compared.second u)) h
 
   -- the arguments of a call, the first of which is the name
   pub call_fails : (stop : Stop) (w v : World) (name : Text) (first texts : List Text) → is_function_name name ≡ false → first ≡ name ∷ []
@@ -85,28 +99,28 @@ module _ (reads : Bool) (store : Store) (levels : ℕ) where
   call_fails stop w v name first texts other is h =
       rw other
       (fails_then stop v (each_argument (evaluator reads store levels) (name ∷ []) texts w) _
-      (λ arguments u. called_front reads store levels name arguments u)
+      (λ arguments u. called_goes reads store levels name arguments u)
       (subst (λ (begun : List Text). Early stop v (each_argument (evaluator reads store levels) begun texts w)) is h))
 
   pub argument_fails : (stop : Stop) (w v : World) (out : List Text) (text : Text) (texts : List Text)
       → Early stop v ((evaluator reads store levels).expand text w) → Early stop v (each_argument (evaluator reads store levels) out (text ∷ texts) w)
   unfolding each_argument
   argument_fails stop w v out text texts h =
-      fails_then stop v ((evaluator reads store levels).expand text w) _ (λ x u. each_argument_front reads store levels (out ++ x ∷ []) texts u) h
+      fails_then stop v ((evaluator reads store levels).expand text w) _ (λ x u. each_argument_goes reads store levels (out ++ x ∷ []) texts u) h
 
   pub or_fails : (stop : Stop) (w v : World) (text : Text) (texts : List Text)
       → Early stop v ((evaluator reads store levels).expand (stripped text) w) → Early stop v (apply_or (evaluator reads store levels) (text ∷ texts) w)
   unfolding apply_or
   or_fails stop w v text texts h =
       fails_then stop v ((evaluator reads store levels).expand (stripped text) w) _
-      (λ x u. front_cond (length x == 0) _ _ u (apply_or_front reads store levels texts u) (stands u)) h
+      (λ x u. front_cond (length x == 0) _ _ u (apply_or_goes reads store levels texts u) (stands u)) h
 
   pub and_fails : (stop : Stop) (w v : World) (text : Text) (texts : List Text)
       → Early stop v ((evaluator reads store levels).expand (stripped text) w) → Early stop v (apply_and (evaluator reads store levels) (text ∷ texts) w)
   unfolding apply_and
   and_fails stop w v text texts h =
       fails_then stop v ((evaluator reads store levels).expand (stripped text) w) _
-      (λ x u. front_cond (length x == 0 || length texts == 0) _ _ u (stands u) (apply_and_front reads store levels texts u)) h
+      (λ x u. front_cond (length x == 0 || length texts == 0) _ _ u (stands u) (apply_and_goes reads store levels texts u)) h
 
   -- the same at a place of texts
   pub argument_at_fails : (stop : Stop) (w v : World) (out : List Text) (texts : List (Bor Text)) (place : ℕ) (d : Bor Text) → place < length texts
@@ -133,7 +147,7 @@ module _ (reads : Bool) (store : Store) (levels : ℕ) where
       → GoesOn v (left_of (each_argument (evaluator reads store levels) out (map (λ a. a.now) (drop place texts)) w))
   unfolding each_argument
   argument_at_front w v out texts place d x within h =
-      rw (texts_left texts place d within, h) (each_argument_front reads store levels (out ++ x ∷ []) (map (λ a. a.now) (drop (suc place) texts)) v)
+      rw (texts_left texts place d within, h) (each_argument_goes reads store levels (out ++ x ∷ []) (map (λ a. a.now) (drop (suc place) texts)) v)
 
 module _ (reads : Bool) (store : Store) (levels : ℕ) (sheet : Page) where
   pub sheet_fails : (stop : Stop) (w v : World) → Early stop v (read_items (evaluator reads store levels) sheet (tree_of sheet.blocks.steps) w)
@@ -141,14 +155,7 @@ module _ (reads : Bool) (store : Store) (levels : ℕ) (sheet : Page) where
   unfolding read_sheet
   sheet_fails stop w v h =
       fails_then stop v (read_items (evaluator reads store levels) sheet (tree_of sheet.blocks.steps) w) _
-      (λ _ u. early_then u (close_rule u) _ (λ _ t. read_end_front sheet.source sheet.blocks.missing t) (close_rule_front u)) h
-
-  -- the rule that is open at the end
-  pub close_fails : (stop : Stop) (w u v : World) (x : Unit {0}) → read_items (evaluator reads store levels) sheet (tree_of sheet.blocks.steps) w ≡ Gave u x
-      → Early stop v (close_rule u) → Early stop v (read_sheet (evaluator reads store levels) sheet w)
-  unfolding read_sheet
-  close_fails stop w u v x is h =
-      rw is (fails_then stop v (close_rule u) _ (λ _ t. read_end_front sheet.source sheet.blocks.missing t) h)
+      (λ _ u. early_then u (close_rule u) _ (λ _ t. read_end_goes sheet.source sheet.blocks.missing t) (close_rule_goes u)) h
 
   pub definition_fails : (stop : Stop) (w v : World) (items next : Items) (place end : ℕ) (kind : Form) (body : Text) → items ≡ definition place end next
       → kind ≡ line_form (line_at sheet.lines place).text false → body ≡ body_at sheet (place + 1) end
@@ -158,7 +165,7 @@ module _ (reads : Bool) (store : Store) (levels : ℕ) (sheet : Page) where
   definition_fails stop w v items next place end kind body is kind_is body_is h =
       rw (is, ← kind_is, ← body_is)
       (fails_then stop v (read_define (evaluator reads store levels) kind body (at_line sheet place w)) _
-      (λ _ u. read_items_front reads store levels sheet next u) h)
+      (λ _ u. read_items_goes reads store levels sheet next u) h)
 
   pub definition_taken : (w v : World) (items next : Items) (place end : ℕ) (kind : Form) (body : Text) → items ≡ definition place end next
       → kind ≡ line_form (line_at sheet.lines place).text false → body ≡ body_at sheet (place + 1) end
@@ -175,7 +182,7 @@ module _ (reads : Bool) (store : Store) (levels : ℕ) (sheet : Page) where
   first_fails stop w v items place first others next is h =
       rw is
       (fails_then stop v (branch_holds (evaluator reads store levels) sheet place true w) _
-      (λ chosen u. grown_front {A = Unit {0}} u
+      (λ chosen u. grown {A = Unit {0}} u
       (then_do (cond chosen (read_items (evaluator reads store levels) sheet first) (read_branches (evaluator reads store levels) sheet others) u) (λ _ t. then_do (late_else sheet others t) (λ _. read_items (evaluator reads store levels) sheet next)))
       (after_first_related (evaluator reads store levels) (evaluator reads store (suc levels)) (one_more_level reads store levels) sheet chosen first others next u).0)
       h)
@@ -194,9 +201,9 @@ module _ (reads : Bool) (store : Store) (levels : ℕ) (sheet : Page) where
         let held : Early stop v (branch_holds (evaluator reads store levels) sheet place test w) = rw (tried.0, sym same) h in
         rw rest
         (fails_then {A = Unit {0}} {B = Unit {0}} stop v _ _
-        (λ _ u. read_items_front reads store levels sheet (left_at steps after) u)
+        (λ _ u. read_items_goes reads store levels sheet (left_at steps after) u)
         (fails_then {A = Bool} {B = Unit {0}} stop v (branch_holds (evaluator reads store levels) sheet place test w) _
-        (λ chosen u. grown_front {A = Unit {0}} u (cond chosen (read_items (evaluator reads store levels) sheet items) (read_branches (evaluator reads store levels) sheet others) u) (after_branch_related (evaluator reads store levels) (evaluator reads store (suc levels)) (one_more_level reads store levels) sheet chosen items others u).0)
+        (λ chosen u. grown {A = Unit {0}} u (cond chosen (read_items (evaluator reads store levels) sheet items) (read_branches (evaluator reads store levels) sheet others) u) (after_branch_related (evaluator reads store levels) (evaluator reads store (suc levels)) (one_more_level reads store levels) sheet chosen items others u).0)
         held))
 
     pub branch_fails : Tries (evaluator reads store levels) sheet steps at after w whole → at < after → slice_get steps at ≡ Some (step.Branch condition next more)
@@ -209,7 +216,7 @@ pub file_fails : (reads : Bool) (store : Store) (levels : ℕ) (stop : Stop) (w 
 unfolding read_first
 file_fails reads store levels stop w v name names h =
     fails_then stop v (read_bytes store name w) _
-    (λ found u. grown_front {A = Unit {0}} u (read_or (evaluator reads store levels) name found (read_first store (evaluator reads store levels) names) u) (read_or_related (evaluator reads store levels) (evaluator reads store (suc levels)) (one_more_level reads store levels) store name found (read_first store (evaluator reads store levels) names) (read_first store (evaluator reads store (suc levels)) names) u
+    (λ found u. grown {A = Unit {0}} u (read_or (evaluator reads store levels) name found (read_first store (evaluator reads store levels) names) u) (read_or_related (evaluator reads store levels) (evaluator reads store (suc levels)) (one_more_level reads store levels) store name found (read_first store (evaluator reads store levels) names) (read_first store (evaluator reads store (suc levels)) names) u
     (read_first_related (evaluator reads store levels) (evaluator reads store (suc levels)) (one_more_level reads store levels) store names u)).0) h
 
 pub file_at_fails : (reads : Bool) (store : Store) (levels : ℕ) (stop : Stop) (w v : World) (names : List (Bor Text)) (place : ℕ) (d : Bor Text) → place < length names

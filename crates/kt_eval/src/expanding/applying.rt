@@ -315,7 +315,7 @@ impl<'a, M: MacroScope, F: Files> Evaluation<'a, M, F> {
     }
 
     #[cycle(evaluate)]
-    #[tactic(auto, unfolding(crate::specs::expanding::Expansion::apply_warning))]
+    #[tactic(auto, using(crate::proofs::Steps::said_steps), unfolding(crate::specs::expanding::Expansion::apply_warning))]
     pub(crate) fn apply_warning(&mut self, below: u64, text: &[u8]) -> Result<Vec<u8>, Stop>
         ensures { Does (λ v. v.items) M.writable below (λ e. apply_warning e text.now) result self.old self.new }
     {
@@ -325,7 +325,7 @@ impl<'a, M: MacroScope, F: Files> Evaluation<'a, M, F> {
     }
 
     #[cycle(evaluate)]
-    #[tactic(auto, unfolding(crate::specs::expanding::Expansion::apply_info))]
+    #[tactic(auto, using(crate::proofs::Steps::said_steps), unfolding(crate::specs::expanding::Expansion::apply_info))]
     pub(crate) fn apply_info(&mut self, below: u64, text: &[u8]) -> Result<Vec<u8>, Stop>
         ensures { Does (λ v. v.items) M.writable below (λ e. apply_info e text.now) result self.old self.new }
     {

@@ -4,7 +4,7 @@ use Rattle.kt_eval.proofs.Common.{Text, Term, Stop, Nothing, Value, Whole, Store
 use Rattle.kt_eval.specs.inner.Plain.{put_by, left_by, with_term}
 use Rattle.kt_eval.proofs.lemmas.EarlyLemmas.{Early, fails_then, stands}
 use Rattle.kt_eval.proofs.lemmas.expanding.PlainLemmas.{term_put, term_left, term_whole}
-use Rattle.kt_eval.proofs.lemmas.StepLemmas.{each_term_front}
+use Rattle.kt_eval.proofs.Steps.{each_term_goes}
 
 then_again : {A B C : Type 0} (o : StepEnd World A) (f : A → B) (next : B → Step C)
     → then_do o (λ x. next (f x)) ≡ then_do (then_do o (λ x. done (f x))) next
@@ -61,7 +61,7 @@ module _ (reads : Bool) (store : Store) (below : ℕ) where
   term_fails stop out piece rest pieces w v cut h =
       rw cut (rw (each_is out piece pieces w)
       (fails_then stop v (with_term (evaluator reads store below) out piece w) (λ longer. each_term (evaluator reads store below) longer pieces)
-      (λ longer u. each_term_front reads store below longer pieces u) h))
+      (λ longer u. each_term_goes reads store below longer pieces u) h))
 
   pub term_gives : (out new : Text) (piece : Term) (rest pieces : List Term) (w v : World) → rest ≡ piece ∷ pieces
       → with_term (evaluator reads store below) out piece w ≡ Gave v new

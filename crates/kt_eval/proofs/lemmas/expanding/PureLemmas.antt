@@ -4,10 +4,11 @@ use Rattle.kt_eval.proofs.Common.{Text, Frame, Stop, Store, IsPrefix, Macros, Wo
 use Rattle.kt_rules.specs.declared.place.Place.{Place}
 use Rattle.kt_eval.specs.declared.stop.Stop.TheVariants as stops
 use Rattle.kt_eval.specs.expanding.Pure.{Says, expanded_pure}
+use Rattle.kt_eval.proofs.lemmas.TrailLemmas.{front_of}
 
 in_the_end : (w : World) (outcome : StepEnd World Text) → GoesOn w (left_of outcome) → IsPrefix w.said (left_of (leaving (λ w. w.said) outcome))
-in_the_end w (Gave v x) h = (h.0 told, h.1 told)
-in_the_end w (Stopped v x) h = (h.0 told, h.1 told)
+in_the_end w (Gave v x) h = front_of w.said v.said (h told)
+in_the_end w (Stopped v x) h = front_of w.said v.said (h told)
 
 -- the result of an expansion is how it ends
 gives_so : (result : Result (Vec ℕ Global) Stop) (w : World) (outcome : StepEnd World Text) → Gives (λ v. v.items) result w outcome
@@ -46,7 +47,7 @@ pub says_when : (limit : ℕ) (text : Text) (table : Macros) (automatic : Store)
 says_when limit text table automatic place before frames result w failed before' said' empty first last none b kept gives cut =
     rw (sym first, sym last) (record {
       gives = gives_so result w (expanded (evaluator false [] limit) text (frozen_world table automatic place before)) (rw empty at gives);
-      appends = (kept.0 told, kept.1 told);
+      appends = front_of before w.said (kept told);
       cut = cut_so result w (expanded (evaluator false [] limit) text (frozen_world table automatic place before)) (rw empty at cut);
       asks_nothing = none_failed result w.asked (rw none at b);
     })

@@ -3,10 +3,11 @@ use Rattle.std.proofs.Common.{arith, ◌≡◌, ℕ, List, [], Result, Ok, Err, 
 use Rattle.kt_eval.proofs.Common.{Text, Entry, Stop, Store, Macros, World, Frame, StepEnd, Gave, Stopped, Gives, IfCut, leaving, left_of, then_do, told, asked_for, GoesOn, evaluator, read_first}
 use Rattle.kt_eval.specs.declared.stop.Stop.TheVariants as stops
 use Rattle.kt_eval.specs.reading.Machine.{ComesBefore, Makefile, Trace, first_world, read_of, reading, trace_of, traced}
-use Rattle.kt_eval.proofs.lemmas.StepLemmas.{read_first_front}
+use Rattle.kt_eval.proofs.lemmas.TrailLemmas.{front_of}
+use Rattle.kt_eval.proofs.Steps.{read_first_goes}
 
 both_fronts : (v w : World) → GoesOn v w → ComesBefore (trace_of v) (trace_of w)
-both_fronts v w g = ((g.0 told, g.1 told), (g.0 asked_for, g.1 asked_for))
+both_fronts v w g = (front_of v.said w.said (g told), front_of v.asked w.asked (g asked_for))
 
 -- the end of a reading, from that of its lines
 abbrev pub ended : StepEnd World (Unit {0}) → StepEnd Trace Makefile
@@ -49,4 +50,4 @@ module _ (names : List Text) (limit : ℕ) (before : Makefile) (trace : Trace) (
 pub before_reading : (store : Store) (names : List Text) (limit : ℕ) (before : Makefile) (trace : Trace)
     → ComesBefore trace (left_of (reading store names limit before trace))
 before_reading store names limit before trace = in_the_end (first_world before trace)
-    (read_first store (evaluator true store limit) names (first_world before trace)) (read_first_front true store limit names (first_world before trace))
+    (read_first store (evaluator true store limit) names (first_world before trace)) (read_first_goes true store limit names (first_world before trace))

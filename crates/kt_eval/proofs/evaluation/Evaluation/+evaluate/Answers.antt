@@ -1,11 +1,11 @@
 use Rattle.std.proofs.Common.{◌≡◌, ◌∙◌, ap, arith, length, List, rules, subst, sym, IfErr, IfOk, Some, option_map, map}
 use Rattle.kt_eval.proofs.Common.{Text, left_at, token_of, expanded, Fails, Gave, IfCut, StepEnd, left_of, World, lookup, GoesOn, AgreeWith, Store, err_from_is_err_and, evaluator, read_items}
 use Rattle.kt_eval.specs.inner.Views.{compared_view}
-use Rattle.kt_eval.proofs.lemmas.EarlyLemmas.{Early, call_fails, close_fails, eval_fails, foreach_fails, word_fails, sheet_fails, equal_fails, argument_at_fails, argument_at_front, or_at_fails, and_at_fails, definition_fails, definition_taken, first_fails, branch_fails}
+use Rattle.kt_eval.proofs.lemmas.EarlyLemmas.{Early, does_early, call_fails, eval_fails, foreach_fails, word_fails, sheet_fails, equal_fails, argument_at_fails, argument_at_front, or_at_fails, and_at_fails, definition_fails, definition_taken, first_fails, branch_fails}
 use Rattle.kt_eval.specs.inner.Plain.{put_of}
 use Rattle.kt_eval.proofs.lemmas.expanding.AppendingLemmas.{put_gives, value_fails, value_front, value_gives, whole_gives, term_fails, term_gives}
 use Rattle.kt_eval.proofs.lemmas.expanding.PlainLemmas.{value_put, value_expanded}
-use Rattle.kt_eval.proofs.lemmas.StepLemmas.{call_by_name_front, rule_of_parts_front}
+use Rattle.kt_eval.proofs.Steps.{rule_of_parts_goes}
 use Rattle.kt_eval.proofs.lemmas.reading.CommentLemmas.{ahead_from}
 use Rattle.kt_eval.proofs.lemmas.reading.ReadingLemmas.{first_taken}
 use Rattle.kt_eval.proofs.evaluation.Evaluation.+evaluate.Goals as goal
@@ -33,28 +33,19 @@ put_term-returns-in_err-x-in-Value g t c =
     let p = err_from_is_err_and c.from_residual-in_err-x-in-Value.result c.from_residual-in_err-x-in-Value.ensures.1 in
     let h = rw c.as_slice.ensures at c.in_err-x-in-Value.ensures.gives in
     let k = rw c.as_slice.ensures at c.in_err-x-in-Value.ensures.cut in
-    let early = λ (store : Store) (agrees : AgreeWith store c.expand.new.self.answers).
+    does_early _ p.1 p.2 (λ store agrees.
     (value_fails g.M.MacroScope.writable store c.args.below c.in_err-x-in-Value.field-0.0 c.args.out.now.items c.in-Value.value (token_of c.args.term) c.args.self.now.world c.expand.new.self.world
-    (sym c.in-Value.is ∙ c.in_ok-put_plain.ensures.left) (h store agrees, k store agrees)) in
-    record {
-      gives = λ store agrees. rw (p.1, p.2) (early store agrees).0;
-      cut = λ store agrees. rw (p.1, p.2) (early store agrees).1;
-      kept = search rules;
-      blames = search rules;
-    }
+    (sym c.in-Value.is ∙ c.in_ok-put_plain.ensures.left) (h store agrees, k store agrees))) (search rules) (search rules)
 
 pub put_term-returns-in_err-extend_from_slice-in-Value : goal.put_term-returns-in_err-extend_from_slice-in-Value
 put_term-returns-in_err-extend_from_slice-in-Value g t c =
     let p = err_from_is_err_and c.from_residual-in_err-extend_from_slice-in-Value.result c.from_residual-in_err-extend_from_slice-in-Value.ensures.1 in
     let h = rw c.as_slice.ensures at c.in_ok-x-in-Value.ensures.gives in
-    record {
-      gives = λ store agrees. rw (p.1, p.2) tt;
-      cut = λ store agrees. rw (p.1, p.2)
-          (value_front g.M.MacroScope.writable store c.args.below c.args.out.now.items c.in_ok-x-in-Value.x.items c.in-Value.value (token_of c.args.term) c.args.self.now.world c.expand.new.self.world
-          (sym c.in-Value.is ∙ c.in_ok-put_plain.ensures.left) (h store agrees));
-      kept = search rules;
-      blames = search rules;
-    }
+    does_early _ p.1 p.2 (λ store agrees. (
+      tt,
+      (value_front g.M.MacroScope.writable store c.args.below c.args.out.now.items c.in_ok-x-in-Value.x.items c.in-Value.value (token_of c.args.term) c.args.self.now.world c.expand.new.self.world
+          (sym c.in-Value.is ∙ c.in_ok-put_plain.ensures.left) (h store agrees)),
+    )) (search rules) (search rules)
 
 pub put_term-returns-in_ok-extend_from_slice-in-Value : goal.put_term-returns-in_ok-extend_from_slice-in-Value
 put_term-returns-in_ok-extend_from_slice-in-Value g t c =
@@ -86,15 +77,9 @@ expand_here-returns-in_err-put_term g t c =
     let p = err_from_is_err_and c.from_residual-in_err-put_term.result c.from_residual-in_err-put_term.ensures.1 in
     let h = c.in_err-put_term.ensures.gives in
     let k = c.in_err-put_term.ensures.cut in
-    let early = λ (store : Store) (agrees : AgreeWith store c.put_term.new.self.answers).
+    does_early _ p.1 p.2 (λ store agrees.
     (subst (λ (o : StepEnd World Text). Early c.in_err-put_term.field-0.0 c.put_term.new.self.world o) (c.terms.invariant.rest store (omega (arith, c.in_err-put_term.ensures.kept.0 store)))
-    (term_fails g.M.MacroScope.writable store c.args.below c.in_err-put_term.field-0.0 c.terms.out.items (token_of c.in-Some.term) c.terms.rest c.next.new.self c.terms.self.world c.put_term.new.self.world c.in-Some.ensures.steps (h store agrees, k store agrees))) in
-    record {
-      gives = λ store agrees. rw (p.1, p.2) (early store agrees).0;
-      cut = λ store agrees. rw (p.1, p.2) (early store agrees).1;
-      kept = search rules;
-      blames = search rules;
-    }
+    (term_fails g.M.MacroScope.writable store c.args.below c.in_err-put_term.field-0.0 c.terms.out.items (token_of c.in-Some.term) c.terms.rest c.next.new.self c.terms.self.world c.put_term.new.self.world c.in-Some.ensures.steps (h store agrees, k store agrees)))) (search rules) (search rules)
 
 pub expand_here-terms-preserved : goal.expand_here-terms-preserved
 expand_here-terms-preserved g t c =
@@ -136,71 +121,28 @@ value_of-returns-in-Some g t c =
 pub apply_foreach-returns-in_err-expanded : goal.apply_foreach-returns-in_err-expanded
 apply_foreach-returns-in_err-expanded g t c =
     let p = err_from_is_err_and c.from_residual.result c.from_residual.ensures.1 in
-    let early = λ (store : Store) (agrees : AgreeWith store c.expand.new.self.answers).
-    (foreach_fails g.M.MacroScope.writable store c.args.below c.in_err-expanded.field-0.0 c.args.self.now.world c.expand.new.self.world c.args.variable.now c.args.list.now c.args.body.now (c.in_err-expanded.ensures.gives store agrees, c.in_err-expanded.ensures.cut store agrees)) in
-    record {
-      gives = λ store agrees. rw (p.1, p.2) (early store agrees).0;
-      cut = λ store agrees. rw (p.1, p.2) (early store agrees).1;
-      kept = search rules;
-      blames = search rules;
-    }
+    does_early _ p.1 p.2 (λ store agrees.
+    (foreach_fails g.M.MacroScope.writable store c.args.below c.in_err-expanded.field-0.0 c.args.self.now.world c.expand.new.self.world c.args.variable.now c.args.list.now c.args.body.now (c.in_err-expanded.ensures.gives store agrees, c.in_err-expanded.ensures.cut store agrees))) (search rules) (search rules)
 
 pub apply_eval-returns-in_err-x : goal.apply_eval-returns-in_err-x
 apply_eval-returns-in_err-x g t c =
     let p = err_from_is_err_and c.from_residual-in_err-x.result c.from_residual-in_err-x.ensures.1 in
-    let early = λ (store : Store) (agrees : AgreeWith store c.expand.new.self.answers).
-    (eval_fails g.M.MacroScope.writable store c.args.below c.in_err-x.field-0.0 c.args.self.now.world c.expand.new.self.world c.args.text.now (search rules) (c.in_err-x.ensures.gives store agrees, c.in_err-x.ensures.cut store agrees)) in
-    record {
-      gives = λ store agrees. rw (p.1, p.2) (early store agrees).0;
-      cut = λ store agrees. rw (p.1, p.2) (early store agrees).1;
-      kept = search rules;
-      blames = search rules;
-    }
-
-pub call_by_name-returns-in_err-copied : goal.call_by_name-returns-in_err-copied
-call_by_name-returns-in_err-copied g t c =
-    let p = err_from_is_err_and c.from_residual-in_err-copied.result c.from_residual-in_err-copied.ensures.1 in
-    record {
-      gives = λ store agrees. rw (p.1, p.2) tt;
-      cut = λ store agrees. rw (p.1, p.2)
-          (call_by_name_front g.M.MacroScope.writable store c.args.below c.args.name.now (map (λ a. a.now) c.args.texts.now) c.args.self.now.world);
-      kept = search rules;
-      blames = search rules;
-    }
-
-pub call_by_name-returns-in_err-push : goal.call_by_name-returns-in_err-push
-call_by_name-returns-in_err-push g t c =
-    let p = err_from_is_err_and c.from_residual-in_err-push.result c.from_residual-in_err-push.ensures.1 in
-    record {
-      gives = λ store agrees. rw (p.1, p.2) tt;
-      cut = λ store agrees. rw (p.1, p.2)
-          (call_by_name_front g.M.MacroScope.writable store c.args.below c.args.name.now (map (λ a. a.now) c.args.texts.now) c.args.self.now.world);
-      kept = search rules;
-      blames = search rules;
-    }
+    does_early _ p.1 p.2 (λ store agrees.
+    (eval_fails g.M.MacroScope.writable store c.args.below c.in_err-x.field-0.0 c.args.self.now.world c.expand.new.self.world c.args.text.now (search rules) (c.in_err-x.ensures.gives store agrees, c.in_err-x.ensures.cut store agrees))) (search rules) (search rules)
 
 pub call_by_name-returns-in_err-arguments : goal.call_by_name-returns-in_err-arguments
 call_by_name-returns-in_err-arguments g t c =
     let p = err_from_is_err_and c.from_residual-in_err-arguments.result c.from_residual-in_err-arguments.ensures.1 in
-    let early = λ (store : Store) (agrees : AgreeWith store c.each_argument.new.self.answers).
-    (call_fails g.M.MacroScope.writable store c.args.below c.in_err-arguments.field-0.0 c.args.self.now.world c.each_argument.new.self.world c.args.name.now c.push.new.self.items (map (λ a. a.now) c.args.texts.now) (search rules) (search rules) (c.in_err-arguments.ensures.gives store agrees, c.in_err-arguments.ensures.cut store agrees)) in
-    record {
-      gives = λ store agrees. rw (p.1, p.2) (early store agrees).0;
-      cut = λ store agrees. rw (p.1, p.2) (early store agrees).1;
-      kept = search rules;
-      blames = search rules;
-    }
+    does_early _ p.1 p.2 (λ store agrees.
+    (call_fails g.M.MacroScope.writable store c.args.below c.in_err-arguments.field-0.0 c.args.self.now.world c.each_argument.new.self.world c.args.name.now c.push.new.self.items (map (λ a. a.now) c.args.texts.now) (search rules) (search rules) (c.in_err-arguments.ensures.gives store agrees, c.in_err-arguments.ensures.cut store agrees))) (search rules) (search rules)
 
 pub read_rule-returns-in_err-head : goal.read_rule-returns-in_err-head
 read_rule-returns-in_err-head g t c =
     let p = err_from_is_err_and c.from_residual.result c.from_residual.ensures.1 in
-    record {
-      gives = λ store agrees. rw (p.1, p.2) tt;
-      cut = λ store agrees. rw (p.1, p.2)
-          (rule_of_parts_front g.M.MacroScope.writable store c.args.below (Some (record { head = c.args.head.now; recipe = option_map (λ text. text.now) c.args.recipe })) c.args.self.now.world);
-      kept = search rules;
-      blames = search rules;
-    }
+    does_early _ p.1 p.2 (λ store agrees. (
+      tt,
+      (rule_of_parts_goes g.M.MacroScope.writable store c.args.below (Some (record { head = c.args.head.now; recipe = option_map (λ text. text.now) c.args.recipe })) c.args.self.now.world),
+    )) (search rules) (search rules)
 
 pub expanded_equal-returns-in_err-x : goal.expanded_equal-returns-in_err-x
 expanded_equal-returns-in_err-x g t c =
@@ -219,110 +161,62 @@ each_argument-returns-in_err-x g t c =
     let p = err_from_is_err_and c.from_residual.result c.from_residual.ensures.1 in
     let h = c.in_err-x.ensures.gives in
     let k = c.in_err-x.ensures.cut in
-    let early = λ (store : Store) (agrees : AgreeWith store c.expand.new.self.answers).
+    does_early _ p.1 p.2 (λ store agrees.
     (subst (λ (o : StepEnd World (List Text)). Early c.in_err-x.field-0.0 c.expand.new.self.world o) (c.arguments.invariant.rest store (omega (arith, c.in_err-x.ensures.kept.0 store)))
-    (argument_at_fails g.M.MacroScope.writable store c.args.below c.in_err-x.field-0.0 c.arguments.self.world c.expand.new.self.world c.arguments.out.items c.args.texts.now c.arguments.place _ c.arguments-test.true (h store agrees, k store agrees))) in
-    record {
-      gives = λ store agrees. rw (p.1, p.2) (early store agrees).0;
-      cut = λ store agrees. rw (p.1, p.2) (early store agrees).1;
-      kept = search rules;
-      blames = search rules;
-    }
+    (argument_at_fails g.M.MacroScope.writable store c.args.below c.in_err-x.field-0.0 c.arguments.self.world c.expand.new.self.world c.arguments.out.items c.args.texts.now c.arguments.place _ c.arguments-test.true (h store agrees, k store agrees)))) (search rules) (search rules)
 
 pub each_argument-returns-in_err-from_vec : goal.each_argument-returns-in_err-from_vec
 each_argument-returns-in_err-from_vec g t c =
     let p = err_from_is_err_and c.from_residual-in_err-from_vec.result c.from_residual-in_err-from_vec.ensures.1 in
     let h = c.in_ok-x.ensures.gives in
-    record {
-      gives = λ store agrees. rw (p.1, p.2) tt;
-      cut = λ store agrees. rw (p.1, p.2)
-          (subst (λ (o : StepEnd World (List Text)). GoesOn c.expand.new.self.world (left_of o)) (c.arguments.invariant.rest store (omega (arith, c.in_ok-x.ensures.kept.0 store)))
-          (argument_at_front g.M.MacroScope.writable store c.args.below c.arguments.self.world c.expand.new.self.world c.arguments.out.items c.args.texts.now c.arguments.place _ _ c.arguments-test.true (h store agrees)));
-      kept = search rules;
-      blames = search rules;
-    }
+    does_early _ p.1 p.2 (λ store agrees. (
+      tt,
+      (subst (λ (o : StepEnd World (List Text)). GoesOn c.expand.new.self.world (left_of o)) (c.arguments.invariant.rest store (omega (arith, c.in_ok-x.ensures.kept.0 store)))
+          (argument_at_front g.M.MacroScope.writable store c.args.below c.arguments.self.world c.expand.new.self.world c.arguments.out.items c.args.texts.now c.arguments.place _ _ c.arguments-test.true (h store agrees))),
+    )) (search rules) (search rules)
 
 pub each_argument-returns-in_err-push : goal.each_argument-returns-in_err-push
 each_argument-returns-in_err-push g t c =
     let p = err_from_is_err_and c.from_residual-in_err-push.result c.from_residual-in_err-push.ensures.1 in
     let h = c.in_ok-x.ensures.gives in
-    record {
-      gives = λ store agrees. rw (p.1, p.2) tt;
-      cut = λ store agrees. rw (p.1, p.2)
-          (subst (λ (o : StepEnd World (List Text)). GoesOn c.expand.new.self.world (left_of o)) (c.arguments.invariant.rest store (omega (arith, c.in_ok-x.ensures.kept.0 store)))
-          (argument_at_front g.M.MacroScope.writable store c.args.below c.arguments.self.world c.expand.new.self.world c.arguments.out.items c.args.texts.now c.arguments.place _ _ c.arguments-test.true (h store agrees)));
-      kept = search rules;
-      blames = search rules;
-    }
+    does_early _ p.1 p.2 (λ store agrees. (
+      tt,
+      (subst (λ (o : StepEnd World (List Text)). GoesOn c.expand.new.self.world (left_of o)) (c.arguments.invariant.rest store (omega (arith, c.in_ok-x.ensures.kept.0 store)))
+          (argument_at_front g.M.MacroScope.writable store c.args.below c.arguments.self.world c.expand.new.self.world c.arguments.out.items c.args.texts.now c.arguments.place _ _ c.arguments-test.true (h store agrees))),
+    )) (search rules) (search rules)
 
 pub each_word-returns-in_err-x : goal.each_word-returns-in_err-x
 each_word-returns-in_err-x g t c =
     let p = err_from_is_err_and c.from_residual-in_err-x.result c.from_residual-in_err-x.ensures.1 in
     let h = rw c.in_ok-bind.ensures.done at c.in_err-x.ensures.gives in
     let k = rw c.in_ok-bind.ensures.done at c.in_err-x.ensures.cut in
-    let early = λ (store : Store) (agrees : AgreeWith store c.expand.new.self.answers).
+    does_early _ p.1 p.2 (λ store agrees.
     (subst (λ (o : StepEnd World Text). Early c.in_err-x.field-0.0 c.expand.new.self.world o) (c.words.invariant.rest store (omega (arith, rw c.in_ok-bind.ensures.done at (c.in_err-x.ensures.kept.0 store))))
-    (word_fails g.M.MacroScope.writable store c.args.below c.in_err-x.field-0.0 c.words.self.world c.expand.new.self.world c.args.name.now c.args.body.now c.words.out.items c.words.separator.now _ _ c.in-Some.word.now c.words.rest c.next.new.self c.in-Some.ensures.steps (search rules) (search rules) (h store agrees, k store agrees))) in
-    record {
-      gives = λ store agrees. rw (p.1, p.2) (early store agrees).0;
-      cut = λ store agrees. rw (p.1, p.2) (early store agrees).1;
-      kept = search rules;
-      blames = search rules;
-    }
+    (word_fails g.M.MacroScope.writable store c.args.below c.in_err-x.field-0.0 c.words.self.world c.expand.new.self.world c.args.name.now c.args.body.now c.words.out.items c.words.separator.now _ _ c.in-Some.word.now c.words.rest c.next.new.self c.in-Some.ensures.steps (search rules) (search rules) (h store agrees, k store agrees)))) (search rules) (search rules)
 
 pub read_page-returns-in_err-read_items : goal.read_page-returns-in_err-read_items
 read_page-returns-in_err-read_items g t c =
     let p = err_from_is_err_and c.from_residual.result c.from_residual.ensures.1 in
-    let early = λ (store : Store) (agrees : AgreeWith store c.read_items.new.self.answers).
-    (sheet_fails g.M.MacroScope.writable store c.args.below c.args.page.now c.in_err-read_items.field-0.0 c.args.self.now.world c.read_items.new.self.world (c.in_err-read_items.ensures.gives store agrees, c.in_err-read_items.ensures.cut store agrees)) in
-    record {
-      gives = λ store agrees. rw (p.1, p.2) (early store agrees).0;
-      cut = λ store agrees. rw (p.1, p.2) (early store agrees).1;
-      kept = search rules;
-      blames = search rules;
-    }
-
-pub read_page-returns-in_err-close_rule : goal.read_page-returns-in_err-close_rule
-read_page-returns-in_err-close_rule g t c =
-    let p = err_from_is_err_and c.from_residual-in_err-close_rule.result c.from_residual-in_err-close_rule.ensures.1 in
-    let early = λ (store : Store) (agrees : AgreeWith store c.close_rule.new.self.answers).
-    (close_fails g.M.MacroScope.writable store c.args.below c.args.page.now c.in_err-close_rule.field-0.0 c.args.self.now.world c.read_items.new.self.world c.close_rule.new.self.world _ (c.in_ok-read_items.ensures.gives store (omega (arith, c.in_err-close_rule.ensures.kept.0 store))) (c.in_err-close_rule.ensures.gives, c.in_err-close_rule.ensures.cut)) in
-    record {
-      gives = λ store agrees. rw (p.1, p.2) (early store agrees).0;
-      cut = λ store agrees. rw (p.1, p.2) (early store agrees).1;
-      kept = search rules;
-      blames = search rules;
-    }
+    does_early _ p.1 p.2 (λ store agrees.
+    (sheet_fails g.M.MacroScope.writable store c.args.below c.args.page.now c.in_err-read_items.field-0.0 c.args.self.now.world c.read_items.new.self.world (c.in_err-read_items.ensures.gives store agrees, c.in_err-read_items.ensures.cut store agrees))) (search rules) (search rules)
 
 pub apply_or-returns-in_err-x : goal.apply_or-returns-in_err-x
 apply_or-returns-in_err-x g t c =
     let p = err_from_is_err_and c.from_residual.result c.from_residual.ensures.1 in
     let h = rw c.stripped.ensures at c.in_err-x.ensures.gives in
     let k = rw c.stripped.ensures at c.in_err-x.ensures.cut in
-    let early = λ (store : Store) (agrees : AgreeWith store c.expand.new.self.answers).
+    does_early _ p.1 p.2 (λ store agrees.
     (subst (λ (o : StepEnd World Text). Early c.in_err-x.field-0.0 c.expand.new.self.world o) (c.arguments.invariant.rest store (omega (arith, c.in_err-x.ensures.kept.0 store)))
-    (or_at_fails g.M.MacroScope.writable store c.args.below c.in_err-x.field-0.0 c.arguments.self.world c.expand.new.self.world c.args.texts.now c.arguments.place _ c.arguments-test.true (h store agrees, k store agrees))) in
-    record {
-      gives = λ store agrees. rw (p.1, p.2) (early store agrees).0;
-      cut = λ store agrees. rw (p.1, p.2) (early store agrees).1;
-      kept = search rules;
-      blames = search rules;
-    }
+    (or_at_fails g.M.MacroScope.writable store c.args.below c.in_err-x.field-0.0 c.arguments.self.world c.expand.new.self.world c.args.texts.now c.arguments.place _ c.arguments-test.true (h store agrees, k store agrees)))) (search rules) (search rules)
 
 pub apply_and-returns-in_err-x : goal.apply_and-returns-in_err-x
 apply_and-returns-in_err-x g t c =
     let p = err_from_is_err_and c.from_residual.result c.from_residual.ensures.1 in
     let h = rw c.stripped.ensures at c.in_err-x.ensures.gives in
     let k = rw c.stripped.ensures at c.in_err-x.ensures.cut in
-    let early = λ (store : Store) (agrees : AgreeWith store c.expand.new.self.answers).
+    does_early _ p.1 p.2 (λ store agrees.
     (subst (λ (o : StepEnd World Text). Early c.in_err-x.field-0.0 c.expand.new.self.world o) (c.arguments.invariant.rest store (omega (arith, c.in_err-x.ensures.kept.0 store)))
-    (and_at_fails g.M.MacroScope.writable store c.args.below c.in_err-x.field-0.0 c.arguments.self.world c.expand.new.self.world c.args.texts.now c.arguments.place _ c.arguments-test.true (h store agrees, k store agrees))) in
-    record {
-      gives = λ store agrees. rw (p.1, p.2) (early store agrees).0;
-      cut = λ store agrees. rw (p.1, p.2) (early store agrees).1;
-      kept = search rules;
-      blames = search rules;
-    }
+    (and_at_fails g.M.MacroScope.writable store c.args.below c.in_err-x.field-0.0 c.arguments.self.world c.expand.new.self.world c.args.texts.now c.arguments.place _ c.arguments-test.true (h store agrees, k store agrees)))) (search rules) (search rules)
 
 pub read_conditional-returns-in_err-branch_holds-clause-fails : goal.read_conditional-returns-in_err-branch_holds-clause-fails
 read_conditional-returns-in_err-branch_holds-clause-fails g t c = λ store agrees.
@@ -379,16 +273,6 @@ read_conditional-returns-in_err-branch_holds-2-clause-cut g t c = λ store agree
     rw (p.1, p.2)
     (branch_fails g.M.MacroScope.writable store c.args.below c.args.page.now c.args.page.now.blocks.steps c.branches.at c.args.after c.branches.self.world _ c.in_Some-condition.condition c.in_Some-condition.next c.in_Some-condition.ensures.some.0 c.in_err-branch_holds-2.field-0.0 c.branch_holds-in_Some-condition.new.self.world
     (c.branches.invariant.rest store (omega (arith, c.in_err-branch_holds-2.ensures.kept.0 store))) c.in_Some-condition.ensures.before c.in_Some-condition.ensures.some.1 (h store agrees, k store agrees)).1
-
-pub read_items-lines-init : goal.read_items-lines-init
-read_items-lines-init g t c =
-    let e = λ (store : Store). evaluator g.M.MacroScope.writable store c.args.below in
-    record {
-      kept = search rules;
-      unfailed = search rules;
-      within = c.first-place.ensures.within;
-      rest = λ store agrees. ap (λ items. read_items (e store) c.args.page.now items c.args.self.now.world) c.first-place.ensures.whole;
-    }
 
 pub are_equal-returns-in-Some : goal.are_equal-returns-in-Some
 are_equal-returns-in-Some g t c = record {

@@ -2,6 +2,7 @@ use Rattle.kt_eval.proofs.Common.{map, refl, rules, AgreeWith, told, asked_for}
 use Rattle.kt_eval.specs.reading.Machine.{read_of, traced}
 use Rattle.kt_eval.proofs.lemmas.reading.MachineLemmas.{cut_when, reads_when}
 use Rattle.kt_eval.proofs.lemmas.expanding.PureLemmas.{front_by}
+use Rattle.kt_eval.proofs.lemmas.TrailLemmas.{front_of}
 use Rattle.kt_eval.proofs.reading.machine.read_once.Goals as goal
 
 pub returns-clause-reads : goal.returns-clause-reads
@@ -22,9 +23,9 @@ returns-clause-cut g c = λ store agrees.
 pub returns-clause-said : goal.returns-clause-said
 returns-clause-said g c =
     let kept = c.read_first-result.ensures.kept.3 in
-    front_by c.args.messages.items c.read_first-result.new.self.world.said _ _ refl (search rules) (kept.0 told, kept.1 told)
+    front_by c.args.messages.items c.read_first-result.new.self.world.said _ _ refl (search rules) (front_of _ _ (kept told))
 
 pub returns-clause-asked : goal.returns-clause-asked
 returns-clause-asked g c =
     let kept = c.read_first-result.ensures.kept.3 in
-    front_by (g.F.Files.seen c.args.files.now).names c.read_first-result.new.self.world.asked _ _ refl (search rules) (kept.0 asked_for, kept.1 asked_for)
+    front_by (g.F.Files.seen c.args.files.now).names c.read_first-result.new.self.world.asked _ _ refl (search rules) (front_of _ _ (kept asked_for))
