@@ -37,10 +37,14 @@ TOP = Path(__file__).resolve().parent.parent
 sys.path.insert(0, str(TOP / "share/kati"))
 
 from kati_tools.base import programs, words  # noqa: E402
-from kati_tools.build import calls_of_recipes  # noqa: E402
+from kati_tools.build import calls_of_recipes, ninja_text  # noqa: E402
 
 SAME, TOLD, UNTOLD, NOT_COMPARED, DIFFERS = 0, 1, 2, 3, 5
 MARK = "KATI_RECORDED"
+# So often includes may have to be made before the translation stays.
+ROUNDS = 9
+# The file that ninja runs; and what a file of kati-build says of names that may be absent.
+RECORDED, PRESENT = "build.kati/recorded.ninja", re.compile(r"^build .*: phony$", re.MULTILINE)
 # The shell in the way. What it hands on is as it was, but for a mark by which those below it write nothing.
 RECORDER = """\
 #!{python} -IS
@@ -158,21 +162,39 @@ class Recording:
 
     def by_ninja(self):
         """The commands of ninja's build of the port, and whether kati-build says that they are make's, without calls
-        that the recipe's own shell runs."""
-        recorder = Recorder(self.room / "ninja", self.asked.shell, False)
+        that the recipe's own shell runs. Where a file makes nothing but includes, what it has is recorded, and then
+        that of the translation by them, until it stays."""
+        recorder, text, is_said = Recorder(self.room / "ninja", self.asked.shell, False), None, True
         self.anew()
+        for _ in range(ROUNDS):
+            is_said = self.is_translated_as_make() and is_said
+            before, text = text, (self.tree / "build.kati/translated.ninja").read_text(errors="surrogateescape")
+            if text == before:
+                break
+            self.run_recorded(text, recorder)
+        return recorder.commands(), is_said
+
+    def is_translated_as_make(self):
+        """Translates; answers whether kati-build says that its commands are make's."""
         kati = ["--kati", self.asked.kati] if self.asked.kati else []
         status = run([sys.executable, TOP / "tools/kati-build", "--port", "--no-ninja", *kati, *self.given], self.tree,
                      self.log)
         if status not in (0, DIFFERS):
             raise self.failed("kati-build --port")
-        is_said = status == 0 and calls_of_recipes.RUNS not in self.log.read_text(errors="surrogateescape")
-        text = (self.tree / "build.kati/translated.ninja").read_text(errors="surrogateescape")
+        return status == 0 and calls_of_recipes.RUNS not in self.log.read_text(errors="surrogateescape")
+
+    def run_recorded(self, text, recorder):
+        """Has ninja run a translation in which a recorder stands in the shell's place: first what makes the includes on
+        which the file of kati-build depends, as that has it, and then the rest."""
+        top = (self.tree / "build.ninja").read_text(errors="surrogateescape").replace(" $\n    ", " ")
+        made = {name for one in ninja_text.statements(text) for name in one.outputs}
+        includes = [name for one in ninja_text.statements(top) if "build.ninja" in one.outputs for name in one.inputs
+                    if name in made]
         text = re.sub(rf"(?<![\w/]){re.escape(self.asked.shell)}(?= -)", str(recorder.path), text)
-        (self.tree / "build.kati/recorded.ninja").write_text(text, errors="surrogateescape")
-        if run([programs.need("ninja"), "-f", "build.kati/recorded.ninja"], self.tree, self.log):
-            raise self.failed("ninja")
-        return recorder.commands(), is_said
+        (self.tree / RECORDED).write_text("\n".join([*PRESENT.findall(top), text]), errors="surrogateescape")
+        for names in ([includes] if includes else []) + [[]]:
+            if run([programs.need("ninja"), "-f", RECORDED, *names], self.tree, self.log):
+                raise self.failed("ninja")
 
 
 def told(mark, command, others):

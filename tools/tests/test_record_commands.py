@@ -22,6 +22,11 @@ class Recording(Tree):
         self.assertEqual(self.record(".", status=0), "same: 3 commands\n")
         self.assertEqual(sorted(path.name for path in self.top.iterdir()), ["Makefile", "in"])
 
+    def test_what_makes_includes_and_what_is_made_by_them(self):
+        self.put_all({"Makefile": "all: out\ninclude a.mk\na.mk: a.in\n\tcat a.in > $@\nb.mk: b.in\n\tcat b.in > $@\n"
+                                  "out: ; echo $(A) $(B) > $@\n", "a.in": "A = 1\ninclude b.mk\n", "b.in": "B = 2\n"})
+        self.assertEqual(self.record(".", status=0), "same: 3 commands\n")
+
     def test_another_text_that_is_told(self):
         self.put_all({"sub/x.mk": "all: ; @echo $(A) '$(.VARIABLES)' > out\n"})
         said = self.record("-f", "x.mk", "--most", "1", "sub", "A=1", status=1)
