@@ -29,6 +29,10 @@ CONSTRUCTS = {
                       "$(if $(filter 4,$(.SHELLSTATUS)),,$(error no))\n"
                       "all: ; echo $(A) $(B) $(C) $(D) > out\n", "c": "c\n"},
          ["B := $(V_B)", "# $(.SHELLSTATUS) reads c ", "\nV_B := 3\n"]),
+    "a goal behind an empty .DEFAULT_GOAL":
+        ({"Makefile": "state: ; echo 1 > state\n.DEFAULT_GOAL := $(NULL)\nout: ; echo $(shell echo 1) > out\n"
+                      "other: ; echo > other\n"},
+         ["\n.DEFAULT_GOAL = out\n"]),
     "a static pattern that is expanded twice":
         ({"Makefile": "F_a = 1\nall: x/a.o x/b.o\n.SECONDEXPANSION:\nP = x/%.o\n"
                       "x/a.o x/b.o: $(P): %.c | $$(@D)/.d\n\techo $(F_$*) $* $< > $@\nx/.d: ; mkdir x; touch $@\n",

@@ -136,16 +136,29 @@ class Dependencies(Tree):
                 for name in ("gen.mk", "out"):
                     (self.top / name).unlink()
 
+    def test_an_include_whose_recipe_has_what_kati_refuses_and_no_goal_needs(self):
+        for rule in ("gen.mk: gen.in\n", "%.mk: %.in $(wildcard *.ins)\n"):
+            with self.subTest(rule):
+                self.put_all({"Makefile": f"NAME = $(shell echo GEN)\nall: out\ninclude gen.mk\n{rule}"
+                                          "\tsed 's/^/$(NAME)=/' $< > $@\nout: ; echo $(GEN) > $@\n", "gen.in": "a\n"})
+                self.assertNotIn("makes no include", self.build())
+                self.put("gen.in", "b\n")
+                self.ninja()
+                self.assertEqual(self.read("out"), "b\n")
+                self.assert_quiet()
+
     def test_a_makefile_that_make_writes_anew(self):
-        text = ("V := $(shell echo 1)\nall: out\nMakefile: Makefile.in\n\tcp Makefile.in Makefile\n"
-                "out:\n\techo {} $(V) > out\n")
-        self.put_all({"Makefile": text.format("one"), "Makefile.in": text.format("one")})
-        self.build()
-        self.ninja()
-        self.put("Makefile.in", text.format("two"))
-        self.ninja()
-        self.assertEqual((self.read("out"), self.read("Makefile")), ("two 1\n", text.format("two")))
-        self.assert_quiet()
+        for value, copied in ((":= $(shell echo 1)", "Makefile.in"), ("= 1", "$(shell echo Makefile).in")):
+            with self.subTest(copied):
+                text = (f"V {value}\nall: out\nMakefile: Makefile.in\n\tcp {copied} Makefile\n"
+                        "out:\n\techo {} $(V) > out\n")
+                self.put_all({"Makefile": text.format("one"), "Makefile.in": text.format("one")})
+                self.build()
+                self.ninja()
+                self.put("Makefile.in", text.format("two"))
+                self.ninja()
+                self.assertEqual((self.read("out"), self.read("Makefile")), ("two 1\n", text.format("two")))
+                self.assert_quiet()
 
     def test_dependencies_that_kati_refuses_are_told(self):
         self.put_all({"Makefile": "S := $(shell echo main)\nprog: $(S).o\n\tcat $^ > $@\nmain.o: ; echo > $@\n"

@@ -4,9 +4,13 @@ import contextlib
 import os
 import shutil
 
-from ..base import words
+from ..base import files, words
+from ..base.programs import bytes_of
 from ..build import translating
 from . import frozen_values
+
+# A makefile that needs what is to be made, and its goal.
+NEEDING, NEEDED = "needing.mk", "_kati_port_needs_"
 
 
 def words_for_kati(port):
@@ -55,6 +59,18 @@ def translate(port, is_hiding=True):
             if is_first and not is_new and list_anew(port):
                 found = translated(translator, port)
         return found
+
+
+def translate_for(port, names):
+    """What kati says where these names are to be made, by the list of the last translation, which stays."""
+    room = os.path.join(port.room, "kati-needing")
+    os.makedirs(room, exist_ok=True)
+    asked = asked_of_kati(port)
+    needing = os.path.join(room, NEEDING)
+    files.write(needing, bytes_of(f"include {asked.makefile}\n.PHONY: {NEEDED}\n{NEEDED}: {' '.join(names)}\n"))
+    asked.makefile, asked.words = needing, [NEEDED, *words_for_kati(port)]
+    with hiding(port):
+        return translating.Translator(asked, room).with_list(port.listing, port.dropped)
 
 
 def translated(translator, port):

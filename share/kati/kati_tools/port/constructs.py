@@ -4,10 +4,10 @@ Most is mended where kati has a fault, by the fault's number; the rest before ka
 makefile and means something else by it than make."""
 from typing import Callable, Mapping, NamedTuple
 
-from . import (default_rule, dependency_includes, double_colons, environment_names, folder_search, inner_makes,
-    literal_percents, made_folders, made_values, mending, mending_appends, mending_exports, mending_lines,
-    mending_shell, of_the_run, recipe_prefix, second_expansion, shared_includes, shell_flags, shell_writes,
-    suffix_names, suffix_needs, taken_away, taken_back, target_macros, value_texts, written_out)
+from . import (default_goal, default_rule, dependency_includes, double_colons, environment_names, folder_search,
+    inner_makes, literal_percents, made_folders, made_values, mending, mending_appends, mending_exports,
+    mending_lines, mending_shell, of_the_run, recipe_prefix, second_expansion, shared_includes, shell_flags,
+    shell_writes, suffix_names, suffix_needs, taken_away, taken_back, target_macros, value_texts, written_out)
 
 
 class Construct(NamedTuple):
@@ -45,6 +45,8 @@ CONSTRUCTS = (
     Construct("`X:: y` without a recipe, which make makes by an implicit rule", mender=double_colons.DoubleColons),
     Construct("`.o: ; mkdir .o`, where the goals need a file or folder of that name", mender=suffix_names.SuffixNames),
     Construct("`.c.o: defs.h` with a recipe", mender=suffix_needs.SuffixNeeds),
+    Construct("an empty `.DEFAULT_GOAL`, behind which make takes the next target for the goal",
+              mender=default_goal.DefaultGoal),
     Construct("`.DEFAULT`", {"E22": mending.default}, mender=default_rule.DefaultRule),
     Construct("`debug: CFLAGS += -g`, where the goals don't need `debug`", {"E23": mending.target_macro},
               mender=target_macros.TargetMacros),
@@ -88,8 +90,9 @@ MENDERS = tuple(dict.fromkeys(one.mender for one in CONSTRUCTS if one.mender))
 TOGETHER = (target_macros.TargetMacros, made_values.MadeValues, inner_makes.InnerMakes, shell_flags.ShellFlags)
 SETTLED = tuple(dict.fromkeys(TOGETHER if one in TOGETHER else (one,) for one in MENDERS))
 # In the order in which it stands at the end of the makefile.
-AT_THE_END = (folder_search.Search, target_macros.TargetMacros, mending_exports.Exports, shell_flags.ShellFlags,
-              mending_shell.ShellTexts, taken_back.TakenBack, made_folders.MadeFolders, taken_away.TakenAway)
+AT_THE_END = (default_goal.DefaultGoal, folder_search.Search, target_macros.TargetMacros, mending_exports.Exports,
+              shell_flags.ShellFlags, mending_shell.ShellTexts, taken_back.TakenBack, made_folders.MadeFolders,
+              taken_away.TakenAway)
 
 
 def give_menders(port):

@@ -32,6 +32,7 @@ KINDS = {
     "suffix name": "a file or folder that is named as a suffix: for kati a rule of its own",
     "made folder": "a folder that mkdir makes: for kati before what lies in it, as Ninja makes it there otherwise",
     "taken away": "what another recipe takes away first: for kati it hangs on that one, so that it is made anew",
+    "default goal": "an empty .DEFAULT_GOAL, behind which the next target is make's goal: for kati that one",
     ".DEFAULT": ".DEFAULT: a rule for the names that it makes",
     "second expansion": ".SECONDEXPANSION: each target's prerequisites as make has them",
 }

@@ -7,7 +7,7 @@ makes of a makefile is asked before anything is changed (first_look.py). What me
 import os
 import re
 
-from . import asking_kati, constructs, first_look, mending_alike, mending_exports, other_goals, saving
+from . import asking_kati, constructs, first_look, making_makefiles, mending_alike, mending_exports, other_goals, saving
 from .stuck import Stuck, last_line
 from ..base.programs import Stop
 
@@ -38,13 +38,27 @@ def mend(port, translation):
     found = list(FAULT.finditer(translation.said))
     if not found:
         raise Stuck(last_line(translation.said) or f"kati ended with status {translation.status}")
-    fault, before = Fault(port, found[-1]), state(port)
-    if not any(one(port, fault) and state(port) != before for one in constructs.menders_of(fault)):
-        if port.mender(mending_exports.Exports).lessen():
-            return
+    fault = Fault(port, found[-1])
+    if not is_mended(port, fault) and not port.mender(mending_exports.Exports).lessen():
         raise Stuck(fault.told(), fault)
+
+
+def is_mended(port, fault):
+    """Mends what a fault names, and what is alike; answers whether that changes something."""
+    before = state(port)
+    if not any(one(port, fault) and state(port) != before for one in constructs.menders_of(fault)):
+        return False
     other_goals.note(port, fault)
     mending_alike.mend(port, [fault.number])
+    return True
+
+
+def is_making_mended(port, translation):
+    """The same for a fault that kati has in what makes makefiles, beside a translation for the goals; one that can't be
+    mended stays, and kati-build tells of it."""
+    found = making_makefiles.fault(port, translation)
+    told = list(FAULT.finditer(found.said)) if found else []
+    return bool(told) and is_mended(port, Fault(port, told[-1]))
 
 
 def state(port):
@@ -63,7 +77,8 @@ def rewrite(port):
         translation = asking_kati.translate(port)
         if translation.status:
             mend(port, translation)
-        elif not constructs.settle(port, translation) and not asking_kati.has_other_list(port):
+        elif not (constructs.settle(port, translation) or asking_kati.has_other_list(port)
+                  or is_making_mended(port, translation)):
             constructs.end(port)
             saving.save(port)
             return translation
