@@ -55,7 +55,7 @@ def parts_of(text):
     """The macros and the pattern rules of a makefile, or of what make -p prints."""
     macros, rules, recipe = {}, {}, []
     for line in text.split("\n"):
-        macro = re.fullmatch(r"([A-Za-z_.]+) :?= ?(.*)", line)
+        macro = re.fullmatch(r"([A-Za-z0-9_.]+) :?= ?(.*)", line)
         rule = re.fullmatch(r"(%[^:]*): *(%.*)", line)
         if macro:
             macros[macro[1]] = macro[2]

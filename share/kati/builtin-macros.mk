@@ -1,5 +1,6 @@
-# The macros that make has by itself, for C, C++, assembler, lex and yacc. kati has none: include this file before a
-# makefile, and builtin-rules.mk after it. Each may be assigned anew by the makefile or on the command line.
+# The macros that make has by itself. kati has none: include this file before a makefile, and builtin-rules.mk, which has
+# the rules for C, C++, assembler, lex and yacc, after it. Each may be assigned anew by the makefile or on the command
+# line.
 
 AR = ar
 ARFLAGS = rv
@@ -32,3 +33,31 @@ LINK.o = $(CC) $(LDFLAGS) $(TARGET_ARCH)
 PREPROCESS.S = $(CC) -E $(CPPFLAGS)
 LEX.l = $(LEX) $(LFLAGS) -t
 YACC.y = $(YACC) $(YFLAGS)
+
+# Of languages whose rules aren't there: makefiles name them.
+CO = co
+CTANGLE = ctangle
+CWEAVE = cweave
+F77 = $(FC)
+F77FLAGS = $(FFLAGS)
+FC = f77
+GET = get
+LINT = lint
+M2C = m2c
+MAKEINFO = makeinfo
+OBJC = cc
+PC = pc
+TANGLE = tangle
+TEX = tex
+TEXI2DVI = texi2dvi
+WEAVE = weave
+COMPILE.F = $(FC) $(FFLAGS) $(CPPFLAGS) $(TARGET_ARCH) -c
+LINK.F = $(FC) $(FFLAGS) $(CPPFLAGS) $(LDFLAGS) $(TARGET_ARCH)
+COMPILE.f = $(FC) $(FFLAGS) $(TARGET_ARCH) -c
+LINK.f = $(FC) $(FFLAGS) $(LDFLAGS) $(TARGET_ARCH)
+COMPILE.m = $(OBJC) $(OBJCFLAGS) $(CPPFLAGS) $(TARGET_ARCH) -c
+LINK.m = $(OBJC) $(OBJCFLAGS) $(CPPFLAGS) $(LDFLAGS) $(TARGET_ARCH)
+COMPILE.p = $(PC) $(PFLAGS) $(CPPFLAGS) $(TARGET_ARCH) -c
+LINK.p = $(PC) $(PFLAGS) $(CPPFLAGS) $(LDFLAGS) $(TARGET_ARCH)
+COMPILE.r = $(FC) $(FFLAGS) $(RFLAGS) $(TARGET_ARCH) -c
+LINK.r = $(FC) $(FFLAGS) $(RFLAGS) $(LDFLAGS) $(TARGET_ARCH)

@@ -41,6 +41,12 @@ class Builtin(Tree):
                 self.assertIn("mine a.c", by_make)
                 self.assertCountEqual(by_kati, by_make)
 
+    def test_macros_of_languages_without_rules(self):
+        by_make, by_kati = self.commands(
+            "FC ?= no\nFFLAGS = -g\nall: a.o\n\techo $(FC) $(F77) $(MAKEINFO) $(LINK.f) $(OBJC) a\n")
+        self.assertIn("echo f77 f77 makeinfo f77 -g   cc a", by_make)
+        self.assertCountEqual(by_kati, by_make)
+
     def test_own_macros_count(self):
         by_make, by_kati = self.commands("CC ?= no\nCFLAGS += -g\nCOMPILE.c += -Wall\nall: a.o\n")
         self.assertEqual(by_make, ["cc -g   -c -Wall -o a.o a.c"])
