@@ -1,12 +1,13 @@
 """A percent sign that a backslash quotes in what patsubst puts in the place of a pattern, as `$(S:%=\\%)`: a word
-stands there for both programs, which becomes a percent sign behind that."""
+stands there for both programs, which becomes a percent sign behind that. So does one for a backslash that is quoted
+before the sign, as `$(S:%=\\\\%)`."""
 import re
 
 from ..makefile import references
 from . import mending
 
-WORD = "KATI_PERCENT"
-QUOTED, PATTERN = re.compile(r"(?<!\\)\\%"), re.compile(r"(?<!\\)%")
+WORD, BACKSLASH = "KATI_PERCENT", "KATI_BACKSLASH"
+QUOTED, SIGN = "\\%", re.compile(r"(\\*)%")
 
 
 def replaced_at(reference):
@@ -23,20 +24,31 @@ def replaced_at(reference):
 def mended(reference):
     """The text that both programs take for a reference; None of one that has no such sign."""
     at = replaced_at(reference)
-    if at is None or not QUOTED.search(reference.whole[slice(*at)]):
+    if at is None or QUOTED not in reference.whole[slice(*at)]:
         return None
     text = without_quoted(reference.whole[slice(*at)], bool(reference.substitution) and "%" not in
                           reference.substitution[0])
     whole = reference.whole[reference.start:at[0]] + text + reference.whole[at[1]:reference.end]
-    return f"$(subst {WORD},%,{whole})"
+    whole = f"$(subst {BACKSLASH},\\,{whole})" if BACKSLASH in text else whole
+    return f"$(subst {WORD},%,{whole})" if WORD in text else whole
 
 
-def without_quoted(text, is_suffix):
-    """Such a text without quoted signs. Behind the first one that isn't quoted, as the one that stands before a suffix
-    of its own, the backslash stays, as make has it."""
-    first = PATTERN.search(text)
-    at = 0 if is_suffix else first.start() if first else len(text)
-    return QUOTED.sub(WORD, text[:at]) + QUOTED.sub(rf"\\{WORD}", text[at:])
+def without_quoted(text, has_stem):
+    """Such a text without backslashes before percent signs. As make has it, half of them stay before those that aren't
+    behind the stem's place, which is the first one before which their number is even; where there `has_stem` already,
+    as with a suffix, and behind that place, all do."""
+    found, end = [], 0
+    for one in SIGN.finditer(text):
+        marks, before = one.group(1), text[end:one.start()]
+        end, half = one.end(), len(marks) // 2
+        if has_stem:
+            found += [before, marks + WORD if marks else "%"]
+        elif len(marks) % 2:
+            found += [before, marks[:half] + WORD]
+        else:
+            found += [before, BACKSLASH * half + "%"]
+            has_stem = True
+    return "".join([*found, text[end:]])
 
 
 def mend(port, fault):
