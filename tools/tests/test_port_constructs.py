@@ -94,7 +94,8 @@ CONSTRUCTS = {
                       "\techo '$(value X)' '$(value Y)' $(X) '$(words $(value X))' > out\n"},
          ["echo '$(V_X_2)' '$(value Y)' $(X) '$(words $(V_X_2))' > out\n", "V_X_2 := $$(shell echo hi) \\# there\n"]),
     "backslashes before a pattern's place":
-        ({"Makefile": "S = a.c b\nall:\n\techo '$(S:%=\\\\%) $(patsubst %.c,\\\\\\\\%.o\\%,$(S)) $(S:.c=\\\\%)' > out\n"},
+        ({"Makefile": "S = a.c b\nall:\n\techo '$(S:%=\\\\%)"
+                      " $(patsubst %.c,\\\\\\\\%.o\\%,$(S)) $(S:.c=\\\\%)' > out\n"},
          ["$(subst KATI_BACKSLASH,\\,$(S:%=KATI_BACKSLASH%))", "$(subst KATI_PERCENT,%,$(S:.c=\\\\KATI_PERCENT))"]),
     "a quoted percent sign":
         ({"Makefile": "S = a.c b.c\nP = $(patsubst %.c,\\%%.o,$(S))\n"
