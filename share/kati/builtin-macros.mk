@@ -1,6 +1,6 @@
-# The macros that make has by itself. kati has none: include this file before a makefile, and builtin-rules.mk, which has
-# the rules for C, C++, assembler, lex and yacc, after it. Each may be assigned anew by the makefile or on the command
-# line.
+# The macros that make has by itself. kati has none: include this file before a makefile, and builtin-rules.mk, which
+# has the rules for C, C++, assembler, lex and yacc, after it. Each may be assigned anew by the makefile or on the
+# command line.
 
 AR = ar
 ARFLAGS = rv
