@@ -3,9 +3,10 @@
 
     scripts/check_builtin.py [--kati PROGRAM]
 
-Each macro of builtin-macros.mk must have the value that `make -p` tells, each rule of builtin-rules.mk its recipe,
-and no rule of the languages that they are for may be absent: C, C++, assembler, lex, yacc and shell scripts. Then
-make and kati are asked for the commands of a small tree of such sources. Blanks at the ends of a command don't count.
+Each macro of builtin-macros.mk must have the value that `make -p` tells, and none of make's usual ones may be absent
+but those that tell of its run. Each rule of builtin-rules.mk must have make's recipe, and no rule of the languages that
+they are for may be absent: C, C++, assembler, lex, yacc and shell scripts. Then make and kati are asked for the
+commands of a small tree of such sources. Blanks at the ends of a command don't count.
 
 examples:
   scripts/check_builtin.py
@@ -34,6 +35,9 @@ TREE = ["one.c", "two.cc", "three.C", "four.cpp", "five.s", "six.S", "seven.y", 
         "eleven.S", "part.c", "thirteen.l", "fourteen.S", "fifteen.C", "sixteen.cpp", "seventeen.s", "eighteen.sh"]
 GOALS = ["one.o", "two.o", "three.o", "four.o", "five.o", "six.o", "seven.o", "eight.o", "nine", "ten", "eleven",
          "twelve", "seven", "thirteen.c", "fourteen.s", "fifteen", "sixteen", "seventeen", "eighteen"]
+# The macros that tell of make's run, or of what kati hasn't; and a macro that make has by itself, as it prints it.
+OF_THE_RUN = {"MAKE", "MAKE_COMMAND", "MAKE_HOST", "MAKE_VERSION", "MAKEFILES", "CHECKOUT,v", "SUFFIXES"}
+USUAL = re.compile(r"^# default\n([^.\s][^\s:=]*) :?= (?=\S)", re.MULTILINE)
 # Rules without recipes, and values for macros that make leaves empty.
 MAKEFILE = "twelve: twelve.o part.o\ntwelve.o: one.c\n\tcp one.o twelve.o\none.o: one.h\none.h: ; touch one.h\n" \
     "CFLAGS = -Wall\nCPPFLAGS = -DX\nCXXFLAGS = -g\nLDFLAGS = -s\nLDLIBS = -lm\nASFLAGS = -g\nYFLAGS = -d\n" \
@@ -46,9 +50,10 @@ def run_make(words, **rest):
 
 
 def told_by_make():
-    """The macros and the rules that `make -p` tells, a rule by its target and prerequisites."""
+    """The macros and the rules that `make -p` tells, a rule by its target and prerequisites; and the names of those
+    macros that makefiles may mean."""
     _, out, _ = run_make(["-p", "-f", os.devnull])
-    return parts_of(out.split("# Implicit Rules")[0])[0], parts_of(out)[1]
+    return parts_of(out.split("# Implicit Rules")[0])[0], parts_of(out)[1], set(USUAL.findall(out)) - OF_THE_RUN
 
 
 def parts_of(text):
@@ -76,9 +81,10 @@ def is_ours(rule):
 
 def differences_of_texts():
     """How the two files differ from what make tells."""
-    macros, rules = told_by_make()
+    macros, rules, usual = told_by_make()
     our_macros = parts_of(files.read(os.path.join(programs.SHARE, translating.MACROS)))[0]
     our_rules = parts_of(files.read(os.path.join(programs.SHARE, translating.RULES)))[1]
+    yield from (f"{name} is absent, and for make {macros.get(name)!r}" for name in sorted(usual - set(our_macros)))
     for name, value in our_macros.items():
         if macros.get(name) != value:
             yield f"{name} is {value!r}, and for make {macros.get(name)!r}"

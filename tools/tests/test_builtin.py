@@ -24,6 +24,15 @@ class Builtin(Tree):
                 ran = self.run_in("scripts/check_builtin.py", KATI=kati())
                 self.assertEqual(ran.status, 1)
 
+    def test_an_absent_macro_is_seen(self):
+        shutil.copytree(TOP / "share", self.top / "share")
+        (self.top / "scripts").mkdir()
+        shutil.copy(TOP / "scripts/check_builtin.py", self.top / "scripts")
+        macros = self.read("share/kati/builtin-macros.mk")
+        self.put("share/kati/builtin-macros.mk", macros.replace("MAKEINFO = makeinfo\n", ""))
+        ran = self.run_in("scripts/check_builtin.py", KATI=kati())
+        self.assertEqual((ran.status, ran.out.split("\n")[1]), (1, "MAKEINFO is absent, and for make 'makeinfo'"))
+
     def commands(self, makefile):
         """make's commands with its own rules, and those of kati-build --builtin."""
         self.write(Makefile=makefile, a_c="", b_y="")
