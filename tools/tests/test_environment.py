@@ -43,10 +43,13 @@ class Names(unittest.TestCase):
                              "C := $(A)\nA = 1\n": {"A"},
                              "PATH := /x:$(PATH)\n": {"PATH"},
                              "all: $(A:.c=.o) ${B}\n\techo $(call C,$(D)) $$E\n": {"A", "B", "C", "D"},
+                             "all: ; $(LINK.f) $(B)\n": {"B", "FC", "FFLAGS"},
+                             "FC = 1\nA = $(F77)\n": {"F77"},
                              "A = $(origin B) $(SHELL) $(CURDIR) $(MAKEFLAGS)\n": {"B"}}.items():
             found = environment_names.referred(lines(text), ())
             self.assertEqual(set(found) - (usual - wanted), wanted, text)
         self.assertIn("CFLAGS", usual)
+        self.assertNotIn("FC", usual)
 
     def test_names_that_commands_take(self):
         found = environment_names.referred(lines("A = 1\n"), ["echo $B ${C} $A '$1'"])

@@ -22,9 +22,29 @@ KEEPING = {"?=", "+="}
 
 @functools.lru_cache(None)
 def of_the_usual_rules():
-    """The names to which make's usual rules and macros refer."""
-    texts = [files.read(os.path.join(SHARE, name)) or "" for name in ("builtin-macros.mk", "builtin-rules.mk")]
-    return {name for text in texts for name in named_in(text) if not name.startswith("KATI_")}
+    """The names to which make's usual rules come."""
+    return come_to(name for name in named_in(usual("builtin-rules.mk")) if not name.startswith("KATI_"))
+
+
+@functools.lru_cache(None)
+def by_usual_macros():
+    """The names to which each of make's usual macros refers."""
+    lines = (line.partition(" = ") for line in usual("builtin-macros.mk").split("\n") if not line.startswith("#"))
+    return {name: named_in(value) for name, _, value in lines}
+
+
+def usual(name):
+    """The text of one of the makefiles that come with kati."""
+    return files.read(os.path.join(SHARE, name)) or ""
+
+
+def come_to(names):
+    """These names, and those that they come to by make's usual macros."""
+    found, left = set(), set(names)
+    while left:
+        found |= left
+        left = {name for one in left for name in by_usual_macros().get(one, ())} - found
+    return found
 
 
 @functools.lru_cache(1 << 16)
@@ -91,7 +111,7 @@ def hanging(lines):
         found |= referred_by(line) - settled
         name, operator = assigned_by(line)
         settled |= {name} if operator and operator not in KEEPING and not conditions.is_any() else set()
-    return found | (of_the_usual_rules() - settled)
+    return found | (come_to(found | of_the_usual_rules()) - settled)
 
 
 def referred(lines, commands):
