@@ -58,7 +58,8 @@ def is_making_mended(port, translation):
     mended stays, and kati-build tells of it."""
     found = making_makefiles.fault(port, translation)
     told = list(FAULT.finditer(found.said)) if found else []
-    return bool(told) and is_mended(port, Fault(port, told[-1]))
+    fault = Fault(port, told[-1]) if told else None
+    return fault is not None and fault.number in making_makefiles.MENDED and is_mended(port, fault)
 
 
 def state(port):
