@@ -36,7 +36,7 @@ TREE = ["one.c", "two.cc", "three.C", "four.cpp", "five.s", "six.S", "seven.y", 
 GOALS = ["one.o", "two.o", "three.o", "four.o", "five.o", "six.o", "seven.o", "eight.o", "nine", "ten", "eleven",
          "twelve", "seven", "thirteen.c", "fourteen.s", "fifteen", "sixteen", "seventeen", "eighteen"]
 # The macros that tell of make's run, or of what kati hasn't; and a macro that make has by itself, as it prints it.
-OF_THE_RUN = {"MAKE", "MAKE_COMMAND", "MAKE_HOST", "MAKE_VERSION", "MAKEFILES", "CHECKOUT,v", "SUFFIXES"}
+OF_THE_RUN = {"MAKE", "MAKE_COMMAND", "MAKE_HOST", "MAKE_VERSION", "MAKEFILES", "SHELL", "CHECKOUT,v", "SUFFIXES"}
 USUAL = re.compile(r"^# default\n([^.\s][^\s:=]*) :?= (?=\S)", re.MULTILINE)
 # Rules without recipes, and values for macros that make leaves empty.
 MAKEFILE = "twelve: twelve.o part.o\ntwelve.o: one.c\n\tcp one.o twelve.o\none.o: one.h\none.h: ; touch one.h\n" \
