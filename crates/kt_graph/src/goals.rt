@@ -9,7 +9,7 @@ use std::alloc::{AllocError, Global};
 
 /// The goals that the words of a command line name, each once (GNU make manual, "Arguments to
 /// Specify the Goals").
-#[tactic(auto, unfolding(crate::proofs::GoalLemmas::goals_open))]
+#[tactic(auto, using(crate::proofs::GoalLemmas::word_more), unfolding(crate::proofs::GoalLemmas::goals_open))]
 pub fn named_goals(alloc: Global, words: &[Name]) -> Result<Vec<Name>, AllocError>
     ensures { IfOk result (λ goals. goals.items ≡ named_goals words.now) }
 {

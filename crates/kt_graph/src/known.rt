@@ -86,6 +86,7 @@ impl<'a> Known<'a> {
 }
 
 // Marks the ends of a book's names.
+#[tactic(auto, using(crate::proofs::lemmas::EndMarkLemmas::ends_kept))]
 fn mark_named(ends: &mut EndMarks, book: &BookNames<'_>)
     ensures kept { KeepsEnds ends.old.marks.items ends.new.marks.items }
     ensures marked { AreMarked ends.new.marks.items book.now }

@@ -63,6 +63,7 @@ impl Lists {
     }
 
     /// The number of a list, if it has one. Takes no memory.
+    #[tactic(auto, using(crate::proofs::ListLemmas::number_if))]
     pub fn number_of(&self, list: &[u32]) -> Option<u32>
         ensures place { result ≡ place_of self.now list.now }
         ensures found { is_some result ≡ is_among self.now list.now }
@@ -72,6 +73,7 @@ impl Lists {
 
     /// The number of a list, which gets the next one if it has none. An `Err` is out of memory, and leaves the lists as
     /// they were.
+    #[tactic(auto, using(crate::proofs::ListLemmas::among, crate::proofs::ListLemmas::stays))]
     pub fn add(&mut self, list: &[u32]) -> Result<u32, AllocError>
         ensures numbered { IfOk result (λ number. Some number ≡ place_of self.new list.now) }
         ensures added { OnOk result (self.new ≡ with_name self.old list.now) }
@@ -91,7 +93,7 @@ impl Lists {
 }
 
 // The hash of a list.
-#[tactic(auto, unfolding(crate::specs::inner::Hashes::list_hash))]
+#[tactic(auto, using(crate::proofs::HashLemmas::two_hashed), unfolding(crate::specs::inner::Hashes::list_hash))]
 fn hash_of(list: &[u32]) -> u32
     ensures { result ≡ list_hash list.now }
 {

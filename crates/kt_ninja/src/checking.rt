@@ -74,6 +74,7 @@ fn is_written_command(command: Option<&[u8]>) -> bool
 }
 
 /// The first of the names that can't be written.
+#[tactic(auto, using(crate::proofs::Places::found_here, crate::proofs::Places::found_later))]
 fn first_bad<'a, N: NamesView<'a>>(names: &N) -> Option<&'a [u8]>
     ensures { option_map (λ name. name.now) result ≡ find (λ n. not (is_name n)) (N.names names.now) }
 {
@@ -99,6 +100,7 @@ fn has_no_output<'a, V: PlanView<'a>>(view: &'a V, statement: usize) -> bool
     view.names(PlanNames::Outputs(statement)).len() == 0
 }
 
+#[tactic(auto, using(crate::proofs::Places::place_later))]
 fn first_without_output<'a, V: PlanView<'a>>(view: &'a V) -> Option<usize>
     ensures { result ≡ position_from (λ s. is_empty s.outs) 0 (V.plan view.now).statements }
 {
@@ -111,6 +113,7 @@ fn first_without_output<'a, V: PlanView<'a>>(view: &'a V) -> Option<usize>
 }
 
 /// Whether the name is among so many of a list.
+#[tactic(auto, using(crate::proofs::Places::passes_here, crate::proofs::Places::passes_none))]
 fn holds<'a, N: NamesView<'a>>(names: &N, count: usize, name: &[u8]) -> bool
     requires { count ≤ length (N.names names.now) }
     ensures { result ≡ is_among (take count (N.names names.now)) name.now }
@@ -132,6 +135,7 @@ fn is_made_at<'a, V: PlanView<'a>>(view: &'a V, statement: usize, name: &[u8]) -
 }
 
 /// Whether one of so many statements makes the name.
+#[tactic(auto, using(crate::proofs::Places::passes_here, crate::proofs::Places::passes_none))]
 fn is_made_by<'a, V: PlanView<'a>>(view: &'a V, count: usize, name: &[u8]) -> bool
     requires { count ≤ length (V.plan view.now).statements }
     ensures { result ≡ list_any (λ s. is_among s.outs name.now) (take count (V.plan view.now).statements) }
@@ -195,6 +199,7 @@ pub fn texts_can_be_written<'a, V: PlanView<'a>>(view: &'a V) -> Result<(), Unwr
     first_bad_text(view)
 }
 
+#[tactic(auto, using(crate::proofs::Troubles::obstacles_here))]
 fn first_bad_text<'a, V: PlanView<'a>>(view: &'a V) -> Result<(), Unwritable<'a>>
     ensures { obstacle_in result ≡ obstacle_of_statements 0 (V.plan view.now).statements }
 {
@@ -223,6 +228,7 @@ fn is_repeated<'a, V: PlanView<'a>>(
 }
 
 /// The first of the names that is an output of one of so many statements, or stands before it among them.
+#[tactic(auto, using(crate::proofs::Troubles::repeats_here, crate::proofs::Troubles::repeats_later))]
 fn repeated_among<'a, V: PlanView<'a>>(
     view: &'a V,
     statement: usize,
@@ -263,6 +269,7 @@ fn first_repeated<'a, V: PlanView<'a>>(view: &'a V) -> Option<&'a [u8]>
 }
 
 /// The first of the names that is no output.
+#[tactic(auto, using(std::proofs::lemmas::List::take_all, crate::proofs::Places::found_here))]
 fn not_made_among<'a, V: PlanView<'a>>(view: &'a V, names: &V::Names) -> Option<&'a [u8]>
     ensures { option_map (λ name. name.now) result
         ≡ not_made (outputs (V.plan view.now).statements) (V.Names.names names.now) }

@@ -40,6 +40,7 @@ pub struct WriteFault;
 /// Writes all of the piece, by as many calls as that takes, and none for an empty piece.
 ///
 /// A fault is not tried again; what the sink took up to it is a prefix of the piece.
+#[tactic(auto, using(crate::proofs::Growth::front_of_rest, std::proofs::lemmas::List::take_rest))]
 pub fn put<W: Sink>(sink: &mut W, piece: &[u8]) -> Result<(), WriteFault>
     ensures ok { OnOk result (Takes (W.seen sink.old) (W.seen sink.new) piece.now) }
     ensures fault { OnErr result (GrowsByFront (W.seen sink.old) (W.seen sink.new) piece.now) }

@@ -30,6 +30,7 @@ fn line_length(text: &[u8]) -> usize
     memchr(b'\n', text).unwrap_or(text.len())
 }
 
+#[tactic(auto, using(crate::proofs::JoinedLemmas::lines_cut, crate::proofs::JoinedLemmas::lines_none))]
 fn first_line(text: &[u8]) -> FileLine<'_>
     requires { 0 < length text.now }
     ensures cut { file_lines text.now ≡ file_line result ∷ file_lines result.after.now }

@@ -85,6 +85,7 @@ fn line_binding(alloc: Global, text: &[u8]) -> Result<Binding<'_>, PartFault>
 }
 
 // Adds a line to a block, and returns whether the block is closed after it.
+#[tactic(auto, using(crate::proofs::ReaderLemmas::blank_adds, crate::proofs::ReaderLemmas::comment_adds))]
 fn add_line<'t>(
     alloc: Global,
     closed: bool,
@@ -314,6 +315,7 @@ fn read_parts<'t>(alloc: Global, parts: &'t [JoinedLine<'t>]) -> Result<State<'t
 }
 
 // All lines of the file.
+#[tactic(auto, using(crate::proofs::ReaderLemmas::none_before))]
 fn read_lines<'t>(alloc: Global, lines: &'t [JoinedLine<'t>]) -> Result<State<'t>, ReadFault>
     ensures { MatchResult result (λ state. read_parts nothing_read (all_parts (cut_lines lines.now))
         ≡ Ok state) (Misreads (read_parts nothing_read (all_parts (cut_lines lines.now)))) }

@@ -195,6 +195,7 @@ impl<'t> PendingStatement<'t> {
     }
 
     // The statement of the plan, by the variables that the file leaves.
+    #[tactic(auto, using(crate::proofs::StateLemmas::statement_told))]
     fn into_statement(self, alloc: Global, file: &Scope) -> Result<Statement, AllocError>
         ensures { IfOk result (λ s. s ≡ statement_of_pending file.now self.entry) }
     {

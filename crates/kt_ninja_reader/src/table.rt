@@ -48,7 +48,7 @@ impl<V: Drop> Table<V> {
     }
 
     // Puts the value at the name, in place of what was there.
-    #[tactic(auto, using(crate::proofs::TableLemmas::put_in_entries))]
+    #[tactic(auto, using(crate::proofs::TableLemmas::put_in_entries, crate::proofs::TableLemmas::put_in_entries))]
     pub(crate) fn put(&mut self, name: Text, value: V) -> Result<(), AllocError>
         ensures { OnOk result (self.new ≡ put_in self.old name value) }
     {

@@ -238,6 +238,7 @@ impl Book {
     /// The pattern rules that have a recipe and that no later one repeats, in order, each suffix rule
     /// in its place (GNU make manual, "Pattern Rules", "Canceling Implicit Rules", "Old-Fashioned
     /// Suffix Rules").
+    #[tactic(auto, using(crate::proofs::PatternLemmas::patterns_kept))]
     pub fn patterns(&self) -> Result<Vec<Pattern<'_>>, AllocError>
         ensures { IfOk result (λ patterns. patterns.items ≡ patterns_of self.now) }
     {

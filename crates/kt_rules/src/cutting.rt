@@ -17,6 +17,7 @@ pub(crate) enum Cut {
 }
 
 // The text before the first unquoted colon, and the text after it. The first colon is mostly unquoted.
+#[tactic(auto, using(std::proofs::lemmas::List::take_rest, crate::proofs::BackslashLemmas::first_colon))]
 pub(crate) fn colon_cut(text: &[u8]) -> Option<(&[u8], &[u8])>
     ensures { option_map (λ cut. (cut.0.now, cut.1.now)) result ≡ colon_cut text.now }
 {

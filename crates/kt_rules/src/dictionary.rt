@@ -83,6 +83,7 @@ impl Dictionary {
     }
 
     /// Whether a name has this number, told without hashing.
+    #[tactic(auto, using(crate::proofs::NoteLemmas::place_at))]
     pub(crate) fn has_number(&self, name: &[u8], number: usize) -> bool
         ensures { IsTrue result → place_of self.now.0 name.now ≡ Some number }
     {

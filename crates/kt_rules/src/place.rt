@@ -29,6 +29,7 @@ impl Place {
     }
 
     /// Appends `FILE:LINE`. If memory runs out, a prefix of it may have been appended.
+    #[tactic(auto, using(kt_list::proofs::general::Results::on_err))]
     pub fn append_to(&self, text: &mut Vec<u8>) -> Result<(), AllocError>
         ensures appended { OnOk result (text.new.items ≡ text.old.items ++ place_text self.now) }
         ensures refused { OnErr result (HasBegun (place_text self.now) text.old.items text.new.items) }

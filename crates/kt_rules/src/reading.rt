@@ -30,6 +30,7 @@ use std::alloc::{AllocError, Global};
 /// patterns, or with a static pattern and a target that is a pattern itself (5); names that kati doesn't accept (20,
 /// 22); a bad static pattern, or a target that it doesn't match (21); a group of special targets or patterns, with two
 /// colons or with a static pattern (35).
+#[tactic(auto, using(crate::proofs::ReadingLemmas::blank_rule))]
 pub fn read_rule(
     alloc: Global,
     text: &[u8],

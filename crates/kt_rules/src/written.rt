@@ -6,6 +6,7 @@ use crate::cutting::{Cut, cut_place};
 use kt_text::{stripped_start, trailing_separators};
 
 /// The first word of a text that is cut at unquoted separators, and the text after it.
+#[tactic(auto, using(std::proofs::lemmas::Bool::Decides::nat_tests, crate::proofs::WrittenLemmas::first_written))]
 pub(crate) fn first_word(text: &[u8]) -> Option<(&[u8], &[u8])>
     ensures { MatchOption result (written_words text.now ≡ [])
         (λ cut. written_words text.now ≡ cut.0.now ∷ written_words cut.1.now) }

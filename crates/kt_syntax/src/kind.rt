@@ -34,6 +34,7 @@ pub fn classify<'t>(line: &'t LineText<'_>, tab: bool) -> Form<'t>
 }
 
 /// The kind of a text whose continuations are condensed, as that of a line is.
+#[tactic(auto, using(crate::proofs::BlankLemmas::comment_is_blank))]
 pub fn classify_text(text: &[u8], tab: bool) -> Form<'_>
     ensures { line_form_view result ≡ form_of text.now tab }
 {
@@ -49,6 +50,7 @@ pub fn classify_text(text: &[u8], tab: bool) -> Form<'_>
 /// Whether a line is empty or begins with its comment, before which not even a blank stands: such a line is blank.
 ///
 /// Few other lines are, and it takes one look. GNU make manual, "What Makefiles Contain".
+#[tactic(auto, using(crate::proofs::BlankLemmas::comment_line))]
 pub fn begins_comment(line: &[u8]) -> bool
     ensures value { result ≡ begins_comment line.now }
     ensures kind { result ≡ true → line_form line.now false ≡ blank }
@@ -95,6 +97,7 @@ pub(crate) struct Parts {
 }
 
 // The parts of the assignment whose name begins at a place. Each operator ends in an equals sign.
+#[tactic(auto, using(crate::proofs::Unsigned::no_assignment))]
 pub(crate) fn assignment(text: &[u8], begin: usize, end: usize) -> Option<Parts>
     requires order { begin ≤ end }
     requires within { end ≤ length text.now }
@@ -191,7 +194,7 @@ pub(crate) fn operator_of(text: &[u8]) -> Option<(Operator, usize)>
 }
 
 // The kind of a line by its first word.
-#[tactic(auto, unfolding(crate::specs::Kinds::worded))]
+#[tactic(auto, using(crate::proofs::Kinding::worded_by), unfolding(crate::specs::Kinds::worded))]
 fn worded(text: &[u8], begin: usize, end: usize, tab: bool) -> Form<'_>
     requires order { begin ≤ end }
     requires within { end ≤ length text.now }

@@ -42,6 +42,7 @@ fn marks_of(alloc: Global, lines: &[Line]) -> Result<Vec<LineMark>, AllocError>
 }
 
 /// The same by the marks of these lines, as `line_marks` gives them.
+#[tactic(auto, using(crate::proofs::Sound::tree_is_of, crate::proofs::WholeTree::whole_tree_is_left))]
 pub fn marked_blocks(alloc: Global, text: &[u8], lines: &[LineMark]) -> Result<Blocks, AllocError>
     requires { AreInOrder (length text.now) lines.now }
     ensures flat { IfOk result (λ blocks. blocks ≡ blocks_of (heads_of text.now lines.now)) }
@@ -95,6 +96,7 @@ fn next_part(
 }
 
 // The steps of lines with these parts, found from the last line to the first.
+#[tactic(auto, using(crate::proofs::StepListLemmas::ordinary_before))]
 fn steps(alloc: Global, mut parts: Vec<BlockPart>) -> Result<StepList, AllocError>
     ensures { IfOk result (λ steps. steps ≡ steps_from 0 parts.items) }
 {

@@ -87,6 +87,7 @@ fn line_role(alloc: Global, line: &[u8]) -> Result<Role, AllocError>
 }
 
 // The role of a text that begins with no tab. Behind its blanks it begins as the whole line has to.
+#[tactic(auto, using(crate::proofs::RoleLemmas::text_role))]
 fn role_of(text: &[u8]) -> Role
     ensures { result ≡ role_of (form_of text.now false) }
 {

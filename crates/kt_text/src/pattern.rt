@@ -42,7 +42,7 @@ fn stem_place(front: &[u8], back: &[u8], word: &[u8]) -> Option<Range<usize>>
 }
 
 // What stands before the first percent sign and after it.
-#[tactic(auto, using(crate::proofs::MatchLemmas::match_facts))]
+#[tactic(auto, using(crate::proofs::MatchLemmas::match_facts, crate::proofs::MatchLemmas::no_percent_found))]
 pub(crate) fn cut_pattern(pattern: &[u8]) -> Option<(&[u8], &[u8])>
     ensures { MatchOption result (has_percent pattern.now ≡ false)
         (λ parts. (has_percent pattern.now ≡ true) × (parts.0.now ≡ pattern_front pattern.now)

@@ -40,6 +40,7 @@ pub(crate) fn first_circular(
 }
 
 // For each vertex, the number of edges to it from remaining vertices, after each vertex without any was removed.
+#[tactic(auto, using(crate::proofs::lemmas::faults::ArrivalLemmas::begun))]
 fn arrivals_left(alloc: Global, edges: &Edges<'_>) -> Result<Vec<u32>, AllocError>
     ensures { IfOk result (λ counts. LeavesCircular edges.now counts.items) }
 {
@@ -154,6 +155,7 @@ fn is_none_left(counts: &[u32]) -> bool
 }
 
 // The vertices that remain in both directions.
+#[tactic(auto, using(crate::proofs::lemmas::faults::ArrivalLemmas::held_more))]
 fn left_in_both(
     alloc: Global,
     arrivals: &[u32],
@@ -196,6 +198,7 @@ impl LeftVertices {
     }
 
     // The first vertex of an order that leads back to itself.
+    #[tactic(auto, using(std::proofs::lemmas::List::take_all, crate::proofs::lemmas::faults::CircleLemmas::first_at))]
     fn first_back(&self, edges: &Edges<'_>, order: &[u32]) -> Result<Option<usize>, AllocError>
         requires { HoldsCircular edges.now self.now.held.items }
         ensures { IfOk result (λ found. MatchOption found (All
@@ -222,6 +225,7 @@ impl LeftVertices {
     }
 
     // Searches among the remaining vertices: a cycle has no others.
+    #[tactic(auto, using(crate::proofs::lemmas::faults::CircleLemmas::searches_on))]
     fn leads_back(&self, edges: &Edges<'_>, vertex: usize) -> Result<bool, AllocError>
         requires { HoldsCircular edges.now self.now.held.items }
         ensures { IfOk result (λ leads. IsTrue leads ↔ LeadsBack edges.now vertex) }

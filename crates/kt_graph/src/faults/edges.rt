@@ -57,6 +57,7 @@ impl<'n> Edges<'n> {
     }
 
     /// The vertices that a vertex leads to, in two parts.
+    #[tactic(auto, using(crate::proofs::lemmas::faults::EdgeLemmas::row_after))]
     pub(crate) fn next(&self, vertex: usize) -> (&[u32], &[u32])
         ensures { result.0.now ++ result.1.now ≡ next_of self.now vertex }
     {
@@ -66,8 +67,8 @@ impl<'n> Edges<'n> {
         (row_at(self.rows.as_slice(), vertex - self.nodes.len()), &[])
     }
 
-    /// The same edges reversed: a row for each vertex, and no nodes. A vertex beyond 4,294,967,295 is refused as if memory
-    /// were.
+    /// The same edges reversed: a row for each vertex, and no nodes. A vertex beyond 4,294,967,295 is refused as if
+    /// memory were.
     pub(crate) fn reversed<'e>(&self, none: &'e StoredNodes<'e>) -> Result<Edges<'e>, AllocError>
         requires within { LeadToVertices self.now }
         requires none { none.now ≡ [] }
@@ -110,6 +111,7 @@ fn one_at(numbers: &[u32], place: usize) -> &[u32]
 
 // The vertices of a number of makings, which are after those of names. Beyond 4,294,967,295 they are refused as if
 // memory were.
+#[tactic(auto, using(crate::proofs::lemmas::faults::EdgeLemmas::numbers_more))]
 fn making_numbers(alloc: Global, names: usize, count: usize) -> Result<Vec<u32>, AllocError>
     ensures { IfOk result (λ numbers. numbers.items ≡ numbers_after names count) }
 {
@@ -121,6 +123,7 @@ fn making_numbers(alloc: Global, names: usize, count: usize) -> Result<Vec<u32>,
 }
 
 // For each making, what its names need. What all names of a group need isn't added for each of them.
+#[tactic(auto, using(std::proofs::lemmas::List::take_all))]
 fn making_rows(
     alloc: Global,
     nodes: &StoredNodes,
@@ -135,6 +138,7 @@ fn making_rows(
     Ok(rows)
 }
 
+#[tactic(auto, using(crate::proofs::lemmas::faults::EdgeLemmas::edges_again))]
 fn add_new(rows: &mut Vec<Vec<u32>>, nodes: &StoredNodes, number: usize) -> Result<(), AllocError>
     ensures { OnOk result (AddsNode nodes.now number (rows_held rows.old.items) (rows_held rows.new.items)) }
 {

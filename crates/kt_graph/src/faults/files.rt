@@ -104,6 +104,7 @@ impl FileSpellings {
         self.add_file(Name::from(file))
     }
 
+    #[tactic(auto, using(crate::proofs::lemmas::faults::FileLemmas::held_after))]
     fn add_file(&mut self, file: Name) -> Result<(), AllocError>
         ensures { OnOk result ((other : Text) → held_for self.new.several.entries other
             ≡ (if bytes_eq other file then Some (is_some (held_for self.old.several.entries file))
@@ -115,6 +116,7 @@ impl FileSpellings {
     }
 
     /// The first made name whose file has another made name, too.
+    #[tactic(auto, using(crate::proofs::lemmas::faults::FileLemmas::found_first))]
     pub(crate) fn first_repeated<'g>(
         &self,
         nodes: Nodes<'g>,

@@ -42,6 +42,7 @@ pub(crate) fn add_to(rows: &mut Vec<Vec<u32>>, to: u32, froms: &[u32]) -> Result
 }
 
 /// Adds an edge.
+#[tactic(auto, using(crate::proofs::lemmas::faults::EdgeLemmas::rows_set))]
 pub(crate) fn add(rows: &mut Vec<Vec<u32>>, from: usize, to: u32) -> Result<(), AllocError>
     ensures { OnOk result (rows_held rows.new.items ≡ with_edge (rows_held rows.old.items) (from, to)) }
 {

@@ -13,6 +13,7 @@ use memchr::memchr;
 const LONG: usize = 32;
 
 /// Whether all components of a name are plain, so that it is the canonical spelling of its file. Takes no memory.
+#[tactic(auto, using(crate::proofs::lemmas::faults::SpellingLemmas::spelled_plainly))]
 pub(crate) fn is_canonical(name: &[u8]) -> bool
     ensures { result ≡ true → canon_of name.now ≡ name.now }
 {
@@ -38,6 +39,7 @@ fn has_names_only(text: &[u8]) -> bool
 }
 
 // The text before the first slash, and the text after it.
+#[tactic(auto, using(crate::proofs::lemmas::faults::SpellingLemmas::no_slash))]
 fn first_part(text: &[u8]) -> Option<(&[u8], &[u8])>
     ensures parts { MatchOption result (has_names_only text.now ≡ is_proper_component text.now)
         (λ cut. has_names_only text.now ≡ (is_proper_component cut.0.now && has_names_only cut.1.now)) }

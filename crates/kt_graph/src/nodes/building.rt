@@ -69,6 +69,7 @@ pub(crate) fn double_parts<'a>(
     Ok(parts)
 }
 
+#[tactic(auto, using(crate::proofs::lemmas::nodes::BuildingLemmas::joined_own))]
 fn double_part<'a>(
     alloc: Global,
     book: &'a Book,

@@ -162,6 +162,7 @@ impl<'a> Graph<'a> {
     }
 
     // The first name in byte order that depends on itself.
+    #[tactic(auto, using(crate::proofs::lemmas::nodes::WholeLemmas::needed_below))]
     fn circular(&self) -> Result<Option<&[u8]>, AllocError>
         ensures { IfOk result (λ found. (rules : List Entry) (known goals : List Text)
             → IsGraph rules known goals self.now
@@ -215,6 +216,7 @@ impl<'a> Graph<'a> {
     }
 
     // The first made name whose file has another made name, too.
+    #[tactic(auto, using(crate::proofs::lemmas::faults::TroubleLemmas::none_repeated))]
     fn first_repeated(&self) -> Result<Option<&[u8]>, AllocError>
         ensures { IfOk result (λ found. IsStrictlySortedBy (slice_cmp nat_cmp) (map (λ node. node.name) self.now)
             → option_map (λ name. name.now) found ≡ find (is_repeated (made_names self.now)) (made_names self.now)) }

@@ -92,6 +92,7 @@ impl<'a> GraphBuilder<'a> {
     }
 
     /// Builds the node of each reached name, and of the names that these need in turn.
+    #[tactic(auto, using(crate::proofs::lemmas::nodes::BuilderLemmas::fewer_left))]
     pub(crate) fn build_all(&mut self) -> Result<(), AllocError>
         requires over { IsOver self.old }
         requires none { self.old.nodes ≡ [] }
@@ -132,6 +133,7 @@ impl<'a> GraphBuilder<'a> {
     }
 
     // The same for a name that has these explicit rules. What the targets of one rule need is numbered once.
+    #[tactic(auto, using(crate::proofs::lemmas::nodes::OfLemmas::explicit_of))]
     fn build_from(
         &mut self,
         name: &ReachedName<'a>,
@@ -184,6 +186,7 @@ impl<'a> GraphBuilder<'a> {
     }
 
     // The node of a name with one rule, which needs what the last node does.
+    #[tactic(auto, using(crate::proofs::lemmas::nodes::LikeLemmas::last_alone))]
     fn node_like_last(&mut self, rule: TargetRule<'a>) -> Result<(), AllocError>
         requires { HasLastNeeds self.old (needs_for (rule_view rule).0 (rule_view rule).1) }
         ensures { OnOk result (BuildsNode self.old (sole_node (suffixes_of self.old.book.now)
@@ -303,6 +306,7 @@ impl<'a> GraphBuilder<'a> {
     }
 
     // Adds a leaf, which has the lists of the first one.
+    #[tactic(auto, using(crate::proofs::lemmas::nodes::StepLemmas::holds_first))]
     fn leaf_node(&mut self) -> Result<(), AllocError>
         requires { IsOver self.old }
         ensures { OnOk result ((name : Text) → BuildsNode self.old (plain_node

@@ -42,6 +42,7 @@ impl<'g> Model for Groups<'g> {
 
 impl<'g> Groups<'g> {
     /// The groups of the nodes of an order.
+    #[tactic(auto, using(crate::proofs::lemmas::nodes::GroupingLemmas::groups_are))]
     pub(crate) fn of(
         alloc: Global,
         table: &'g NodeTable<'g>,
@@ -102,6 +103,7 @@ fn are_members_alike(nodes: &StoredNodes, members: &[Vec<u32>], number: usize) -
 }
 
 // Whether these nodes hold their inputs together with one.
+#[tactic(auto, using(std::proofs::lemmas::List::take_all))]
 fn are_all_alike(nodes: &StoredNodes, one: usize, numbers: &[u32]) -> bool
     ensures { result ≡ true → AreAllAlike nodes.now one numbers.now }
 {
@@ -114,6 +116,7 @@ fn are_all_alike(nodes: &StoredNodes, one: usize, numbers: &[u32]) -> bool
 }
 
 // For each making, those of the numbers whose nodes it makes.
+#[tactic(auto, using(std::proofs::lemmas::List::take_all))]
 fn members_of(
     alloc: Global,
     nodes: &StoredNodes,
@@ -218,6 +221,7 @@ fn put_all<'g>(
     Ok(())
 }
 
+#[tactic(auto, using(crate::proofs::lemmas::nodes::StoredLemmas::stored_there))]
 fn put<'g>(
     table: &'g NodeTable<'g>,
     number: usize,

@@ -111,6 +111,7 @@ impl<'a> NameNumbers<'a> {
     }
 
     /// The number of a name, if it was reached.
+    #[tactic(auto, using(crate::proofs::lemmas::nodes::ReachedNames::placed_among))]
     pub(crate) fn number_of(&self, name: &[u8]) -> Option<usize>
         ensures place { result ≡ place_of self.now name.now }
         ensures found { is_some result ≡ is_among self.now name.now }
@@ -136,6 +137,7 @@ impl<'a> NameNumbers<'a> {
     }
 
     // The number of a name, which is reached from then on.
+    #[tactic(auto, using(crate::proofs::lemmas::nodes::ReachedNames::step_reached))]
     fn number(&mut self, name: &[u8]) -> Result<usize, AllocError>
         ensures numbered { IfOk result (λ number. slice_get self.new number ≡ Some name.now) }
         ensures reached { OnOk result (self.new ≡ with_name self.old name.now) }
@@ -305,6 +307,7 @@ fn note(tables: &Tables<'_>, others: &mut Names, name: &[u8]) -> Result<usize, A
     }
 }
 
+#[tactic(auto, using(kt_rules::proofs::NoteLemmas::place_at))]
 fn note_after(tables: &Tables<'_>, others: &mut Names, name: &[u8]) -> Result<usize, AllocError>
     ensures noted { IfOk result (λ number. option_map (λ place. length tables.now + place)
         (place_of others.new name.now) ≡ Some number) }

@@ -102,6 +102,7 @@ impl<'a> StoredNodes<'a> {
 
     /// Adds a node with one part at the end. Here and below, with more than 4,294,967,295 numbers or parts, the error
     /// is out of memory.
+    #[tactic(auto, using(crate::proofs::lemmas::nodes::StoredLemmas::nodes_push))]
     pub(crate) fn push(
         &mut self,
         alloc: Global,
@@ -119,6 +120,7 @@ impl<'a> StoredNodes<'a> {
 
     /// Adds a node with one part at the end, which needs what another such node does. Its rows are the other's: none is
     /// looked at.
+    #[tactic(auto, using(crate::proofs::lemmas::nodes::StoredLemmas::nodes_push))]
     pub(crate) fn push_like(
         &mut self,
         number: usize,
@@ -155,6 +157,7 @@ impl<'a> StoredNodes<'a> {
     }
 
     /// Adds a double-colon node at the end.
+    #[tactic(auto, using(crate::proofs::lemmas::nodes::StoredLemmas::nodes_push))]
     pub(crate) fn push_double(
         &mut self,
         alloc: Global,

@@ -74,6 +74,7 @@ impl<'a> Tables<'a> {
     }
 
     /// The number of a name, if it has one. Takes no memory.
+    #[tactic(auto, using(crate::proofs::lemmas::nodes::ReachedNames::place_first))]
     pub(crate) fn number_of(&self, name: &[u8]) -> Option<usize>
         ensures { result ≡ place_of self.now name.now }
     {

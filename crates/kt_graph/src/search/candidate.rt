@@ -50,6 +50,7 @@ impl Fit {
 /// Match").
 ///
 /// A pattern without a slash is matched against the part after the last slash.
+#[tactic(auto, using(crate::proofs::lemmas::search::FitLemmas::no_fit, std::proofs::lemmas::List::take_rest))]
 pub(crate) fn fit_of(pattern: &[u8], name: &[u8]) -> Option<Fit>
     ensures fit { option_map (fit_view name.now) result ≡ fit_of pattern.now name.now }
     ensures within { IfSome result (IsFitWithin name.now) }

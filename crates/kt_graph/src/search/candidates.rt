@@ -18,6 +18,7 @@ use std::alloc::{AllocError, Global};
 
 /// The candidates for a name, with or without a chain before it: the shortest stems first, and equal ones in order of
 /// definition (GNU make manual, "How Patterns Match").
+#[tactic(auto, using(crate::proofs::lemmas::search::CandidateLemmas::candidates_within))]
 pub(crate) fn candidates_for(
     alloc: Global,
     patterns: &Patterns,
@@ -62,6 +63,7 @@ fn of_numbers(
     Ok(candidates)
 }
 
+#[tactic(auto, using(crate::proofs::lemmas::search::EndLemmas::told_none))]
 fn candidate_numbered(patterns: &Patterns, number: usize, name: &[u8]) -> Option<Candidate>
     ensures candidate { found_view patterns.now name.now result ≡ candidate_numbered patterns.now name.now number }
     ensures within { IfSome result (λ candidate. (candidate.rule < length patterns.now)
@@ -81,6 +83,7 @@ fn add(candidates: &mut Vec<Candidate>, candidate: Option<Candidate>) -> Result<
 }
 
 // A rule as a candidate for a name: by the target with the shortest stem, and only if no prerequisite gets too long.
+#[tactic(auto, using(crate::proofs::lemmas::search::CandidateLemmas::none_matches))]
 fn candidate_of(number: usize, pattern: &Pattern, name: &[u8]) -> Option<Candidate>
     ensures candidate { option_map (candidate_at name.now pattern.now) result
         ≡ candidate_of number pattern.now name.now }

@@ -324,6 +324,7 @@ impl<'a> Chains<'a> {
         }
     }
 
+    #[tactic(auto, using(crate::proofs::lemmas::search::UnknownLemmas::unknown_both))]
     fn unknown_with(&self, stemming: Stemming, needs: &Needs) -> Result<Names, AllocError>
         ensures { IfOk result (λ unknown. unknown ≡ without_repeats (unknown_of self.now.known.now
             (all_needs (needs_with stemming.entry.directory.now stemming.entry.stem.now needs.now)))) }
@@ -334,6 +335,7 @@ impl<'a> Chains<'a> {
         Ok(unknown)
     }
 
+    #[tactic(auto, using(crate::proofs::lemmas::search::UnknownLemmas::unknown_step))]
     fn add_unknown(
         &self,
         stemming: Stemming,
@@ -350,6 +352,7 @@ impl<'a> Chains<'a> {
         Ok(())
     }
 
+    #[tactic(auto, using(crate::proofs::lemmas::search::UnknownLemmas::one_unknown))]
     fn add_if_unknown(&self, name: &[u8], unknown: &mut Names) -> Result<(), AllocError>
         ensures { OnOk result (unknown.new ≡ fold with_name unknown.old
             (unknown_of self.now.known.now (name.now ∷ []))) }
@@ -390,6 +393,7 @@ fn place_in(used: &[usize], rule: usize) -> usize
 }
 
 // A chain with one more rule.
+#[tactic(auto, using(crate::proofs::lemmas::search::AskingLemmas::put_between))]
 fn with_rule(alloc: Global, used: &[usize], rule: usize) -> Result<Vec<usize>, AllocError>
     ensures { IfOk result (λ chain. chain.items ≡ with_rule rule used.now) }
 {

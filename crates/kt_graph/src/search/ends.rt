@@ -29,6 +29,7 @@ impl TargetEnds {
     }
 
     /// Notes the number of a rule at the ends of its targets.
+    #[tactic(auto, using(std::proofs::lemmas::List::take_all))]
     pub(crate) fn note_targets(
         &mut self,
         targets: &[Target],

@@ -15,6 +15,7 @@ use kt_rules::{Name, Needs};
 use std::alloc::{AllocError, Global};
 
 /// Whether all of them are known. Stops at the first that isn't.
+#[tactic(auto, using(crate::proofs::lemmas::search::UnknownLemmas::known_first))]
 pub(crate) fn knows_all(
     alloc: Global,
     known: &Known<'_>,
@@ -70,6 +71,7 @@ fn knows(
 }
 
 // Whether a prerequisite may be known, told by what stands after its percent sign.
+#[tactic(auto, using(crate::proofs::lemmas::EndMarkLemmas::unknown_need))]
 fn may_be_known(known: &Known<'_>, name: &[u8]) -> bool
     ensures { result ≡ false
         → (directory stem : Text) → is_among known.now (needed_name directory stem name.now) ≡ false }

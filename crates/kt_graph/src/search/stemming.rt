@@ -60,6 +60,7 @@ impl<'n> Stemming<'n> {
     }
 
     // The length of a prerequisite, before a leading `./` is removed, or the greatest number if it overflows.
+    #[tactic(auto, using(crate::proofs::lemmas::search::NeedLemmas::cut_length))]
     fn len(self, name: &[u8]) -> usize
         ensures { result ≡ min (length (spelled_out self.entry.directory.now self.entry.stem.now name.now))
             (2 ^ 64 - 1) }

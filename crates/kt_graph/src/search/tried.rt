@@ -41,6 +41,7 @@ impl TriedQuestions {
     }
 
     /// The questions, in order.
+    #[tactic(auto, using(crate::proofs::lemmas::search::QuestionLemmas::told_once))]
     pub(crate) fn questions(&self) -> &[Question]
         ensures value { result.now ≡ self.now.questions.keys }
         ensures once { IsDistinct question_eq (map question_view result.now) }
@@ -65,6 +66,7 @@ impl TriedQuestions {
     }
 
     /// Adds a question, unless it is there. If memory runs out, it may be there without a place for its answer.
+    #[tactic(auto, using(crate::proofs::lemmas::search::PlacingLemmas::placed_before))]
     pub(crate) fn put(&mut self, question: Question) -> Result<QuestionPlace, AllocError>
         ensures placed { IfOk result (IsAnswerPlaced self.old self.new question) }
         ensures kept { KeepsAnswers self.old self.new }

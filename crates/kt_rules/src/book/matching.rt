@@ -166,6 +166,7 @@ fn with_percent(alloc: Global, suffix: &[u8]) -> Result<Vec<u8>, AllocError>
 }
 
 /// The pattern rules that have a recipe and that no later one repeats.
+#[tactic(auto, using(crate::proofs::PatternLemmas::sorted_more))]
 pub(crate) fn unrepeated<'a>(
     alloc: Global,
     patterns: Vec<Pattern<'a>>,

@@ -35,6 +35,7 @@ impl PatternSet {
     }
 
     /// Adds a pattern rule, and returns whether it repeats none of the others.
+    #[tactic(auto, using(crate::proofs::PatternLemmas::key_added))]
     pub(crate) fn insert(&mut self, pattern: &Pattern) -> Result<bool, AllocError>
         ensures told { IfOk result (λ is_new. is_new ≡ not (has_pattern self.old pattern.now)) }
         ensures added { OnOk result ((rule : Entry)

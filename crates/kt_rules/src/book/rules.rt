@@ -76,6 +76,7 @@ impl Rules {
     }
 
     /// The number of rules.
+    #[tactic(auto, using(crate::proofs::HeldLemmas::rules_many))]
     pub(crate) fn len(&self) -> usize
         ensures { result ≡ length self.now.1 }
     {
@@ -197,6 +198,7 @@ impl Rules {
     }
 
     /// Takes all rules out again but the first ones. Their names stay.
+    #[tactic(auto, using(crate::proofs::HeldLemmas::rules_first))]
     pub(crate) fn truncate(&mut self, len: usize)
         ensures names { self.new.0 ≡ self.old.0 }
         ensures rules { self.new.1 ≡ take len self.old.1 }
@@ -328,6 +330,7 @@ fn number_needs(
     }
 }
 
+#[tactic(auto, using(crate::proofs::DictionaryLemmas::list_stays))]
 fn number_lists(dictionary: &mut Dictionary, needs: &Needs) -> Result<NeedsNumbers, AllocError>
     ensures numbered { IfOk result (AreNeeds dictionary.new needs.now) }
     ensures grown { GrowsDictionary dictionary.old dictionary.new }

@@ -42,6 +42,7 @@ pub(crate) fn is_among(names: &Names, name: &[u8]) -> bool
 }
 
 // The same by comparing, the lengths first.
+#[tactic(auto, using(kt_list::proofs::NameLemmas::drop_named))]
 fn is_one_of(names: &Names, name: &[u8]) -> bool
     ensures { result ≡ is_among names.now name.now }
 {

@@ -64,6 +64,7 @@ pub(crate) fn first_end(suffixes: &Names, lengths: &[usize], name: &[u8]) -> Opt
 }
 
 // The number of the suffix of one length that the name ends with.
+#[tactic(auto, using(crate::proofs::SuffixLemmas::end_is))]
 fn end_of_length(suffixes: &Names, name: &[u8], len: usize) -> Option<usize>
     ensures { result ≡ end_of_length suffixes.now name.now len }
 {

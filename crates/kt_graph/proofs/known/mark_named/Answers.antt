@@ -1,9 +1,5 @@
-use Rattle.std.proofs.Common.{arith}
-use Rattle.kt_graph.proofs.lemmas.EndMarkLemmas.{book_marked, ends_kept}
+use Rattle.kt_graph.proofs.lemmas.EndMarkLemmas.{book_marked}
 use Rattle.kt_graph.proofs.known.mark_named.Goals as goal
-
-pub returns-clause-kept : goal.returns-clause-kept
-returns-clause-kept c = grind (arith, ends_kept)
 
 pub returns-clause-marked : goal.returns-clause-marked
 returns-clause-marked c =

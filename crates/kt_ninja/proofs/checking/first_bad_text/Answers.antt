@@ -1,10 +1,6 @@
-use Rattle.std.proofs.Common.{arith}
 use Rattle.kt_ninja.proofs.Common.{rules, at_place}
-use Rattle.kt_ninja.proofs.Troubles.{obstacles_here, obstacles_later}
+use Rattle.kt_ninja.proofs.Troubles.{obstacles_later}
 use Rattle.kt_ninja.proofs.checking.first_bad_text.Goals as goal
-
-pub returns-in-Err : goal.returns-in-Err
-returns-in-Err g c = grind (arith, obstacles_here)
 
 pub loop-statement-preserved : goal.loop-statement-preserved
 loop-statement-preserved g c =

@@ -1,11 +1,8 @@
-use Rattle.std.proofs.Common.{arith, ◌≡◌, ◌∙◌, ap, sym, rules, false, Option}
+use Rattle.std.proofs.Common.{◌≡◌, ◌∙◌, ap, sym, rules, false, Option}
 use Rattle.kt_ninja.proofs.Common.{is_among, Statement, at_place}
 use Rattle.kt_ninja.specs.View.{statement_names}
-use Rattle.kt_ninja.proofs.Places.{passes_here, passes_later, passes_none}
+use Rattle.kt_ninja.proofs.Places.{passes_later}
 use Rattle.kt_ninja.proofs.checking.is_made_by.Goals as goal
-
-pub returns-then-is_made_at : goal.returns-then-is_made_at
-returns-then-is_made_at g c = grind (arith, passes_here)
 
 pub loop-statement-preserved : goal.loop-statement-preserved
 loop-statement-preserved g c =
@@ -20,6 +17,3 @@ loop-statement-preserved g c =
       asks = passes_later (λ s. is_among s.outs name) c.args.count ss c.loop-statement.statement there.0
           (search rules) there.1 (sym made ∙ no) c.loop-statement.invariant.asks;
     }
-
-pub returns : goal.returns
-returns g c = grind (arith, passes_none)

@@ -14,6 +14,3 @@ loop-done-preserved g c = record {
   steady = c.in-Ok.ensures.holds (omega arith) ∙ c.loop-done.invariant.steady;
   empty = λ none. absurd (let bad : c.loop-done.done < length c.args.piece.now = c.loop-done-test.true in omega (arith, bad, ap length none));
 }
-
-pub returns-in-Err-clause-fault : goal.returns-in-Err-clause-fault
-returns-in-Err-clause-fault g c = grind (arith, front_of_rest, take_rest)

@@ -1,11 +1,8 @@
-use Rattle.std.proofs.Common.{arith, ◌∙◌, sym}
+use Rattle.std.proofs.Common.{◌∙◌, sym}
 use Rattle.kt_ninja_reader.proofs.Common.{err_from_is_err_and, build_of, paths_of}
-use Rattle.kt_ninja_reader.proofs.LineLemmas.{build_none, sides_read, sides_refused}
+use Rattle.kt_ninja_reader.proofs.LineLemmas.{sides_refused}
 use Rattle.kt_ninja_reader.proofs.PieceLemmas.{refuses_too}
 use Rattle.kt_ninja_reader.proofs.forms.build_of.Goals as goal
-
-pub returns-in_default : goal.returns-in_default
-returns-in_default c = grind (arith, build_none)
 
 pub returns-in_err-outs : goal.returns-in_err-outs
 returns-in_err-outs c =
@@ -15,6 +12,3 @@ returns-in_err-outs c =
     (refuses_too (paths_of c.in-Some.outs) (build_of c.args.line.now)
     (λ none. sides_refused c.args.line.now c.in-Some.outs c.in-Some.rest c.in_ok-sides.sides.items c.in_ok-sides.ensures both none)
     c.in_err-outs.field-0.0 c.in_err-outs.ensures)
-
-pub returns : goal.returns
-returns c = grind (arith, sides_read)

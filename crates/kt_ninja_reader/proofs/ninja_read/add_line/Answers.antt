@@ -2,14 +2,8 @@ use Rattle.std.proofs.Common.{arith, ◌≡◌, sym, ◌∙◌, ap, map, false}
 use Rattle.kt_ninja_reader.proofs.Common.{err_from_is_err_and, is_blank_line, is_comment, binding_view}
 use Rattle.kt_ninja_reader.specs.Reading.{line_binding}
 use Rattle.kt_ninja_reader.proofs.PieceLemmas.{refuses_too}
-use Rattle.kt_ninja_reader.proofs.ReaderLemmas.{binding_adds, binding_stops, blank_adds, closed_stops, comment_adds, told_more}
+use Rattle.kt_ninja_reader.proofs.ReaderLemmas.{binding_adds, binding_stops, closed_stops, told_more}
 use Rattle.kt_ninja_reader.proofs.ninja_read.add_line.Goals as goal
-
-pub returns-then-is_comment : goal.returns-then-is_comment
-returns-then-is_comment c = grind (arith, comment_adds)
-
-pub returns-then-is_blank : goal.returns-then-is_blank
-returns-then-is_blank c = grind (arith, blank_adds)
 
 pub returns-then-closed : goal.returns-then-closed
 returns-then-closed c = grind (arith, closed_stops)

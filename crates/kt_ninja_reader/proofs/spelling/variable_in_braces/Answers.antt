@@ -1,13 +1,9 @@
-use Rattle.std.proofs.Common.{arith}
 use Rattle.kt_ninja_reader.proofs.Common.{refl, ne_eqb}
-use Rattle.kt_ninja_reader.proofs.PieceLemmas.{brace_cut, brace_end, brace_empty, brace_other}
+use Rattle.kt_ninja_reader.proofs.PieceLemmas.{brace_cut, brace_empty, brace_other}
 use Rattle.kt_ninja_reader.proofs.spelling.variable_in_braces.Goals as goal
 
 pub returns-then-length-eq0 : goal.returns-then-length-eq0
 returns-then-length-eq0 c = brace_empty c.args.text.now c.long_name_length-length.result c.long_name_length-length.ensures.value c.if-length-eq0.true
-
-pub returns-in_err-byte : goal.returns-in_err-byte
-returns-in_err-byte c = grind (arith, brace_end)
 
 pub returns-then-byte-ne125 : goal.returns-then-byte-ne125
 returns-then-byte-ne125 c =

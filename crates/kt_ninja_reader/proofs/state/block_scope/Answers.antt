@@ -1,7 +1,7 @@
 use Rattle.std.proofs.Common.{arith}
-use Rattle.kt_ninja_reader.proofs.Common.{drop_all, err_from_is_err_and}
+use Rattle.kt_ninja_reader.proofs.Common.{err_from_is_err_and}
 use Rattle.kt_ninja_reader.proofs.PieceLemmas.{refuses_too}
-use Rattle.kt_ninja_reader.proofs.StateLemmas.{block_end, block_refused, block_taken, told_at}
+use Rattle.kt_ninja_reader.proofs.StateLemmas.{block_refused, block_taken, told_at}
 use Rattle.kt_ninja_reader.proofs.state.block_scope.Goals as goal
 
 pub returns-in_err-add_to_block : goal.returns-in_err-add_to_block
@@ -9,6 +9,3 @@ returns-in_err-add_to_block c = grind (arith, err_from_is_err_and, told_at, refu
 
 pub loop-binding-preserved : goal.loop-binding-preserved
 loop-binding-preserved c = grind (arith, told_at, block_taken)
-
-pub returns : goal.returns
-returns c = grind (arith, drop_all, block_end)

@@ -1,11 +1,8 @@
 use Rattle.std.proofs.Common.{arith, sym, ◌∙◌}
-use Rattle.kt_rules.proofs.ReadingLemmas.{told_fault, blank_rule, head_fault, line_tested}
+use Rattle.kt_rules.proofs.ReadingLemmas.{told_fault, head_fault, line_tested}
 use Rattle.kt_rules.proofs.SignLemmas.{signs_tell}
 use Rattle.kt_rules.specs.RuleLine.{head_view}
 use Rattle.kt_rules.proofs.reading.read_rule.Goals as goal
-
-pub returns-then-is_blank : goal.returns-then-is_blank
-returns-then-is_blank c = grind (arith, blank_rule)
 
 pub returns-in-Err : goal.returns-in-Err
 returns-in-Err c = grind (arith, told_fault, head_fault)

@@ -1,9 +1,6 @@
-use Rattle.std.proofs.Common.{arith, ◌∙◌, sym}
-use Rattle.kt_syntax.proofs.LeadingForms.{form_colon, form_worded}
+use Rattle.std.proofs.Common.{◌∙◌, sym}
+use Rattle.kt_syntax.proofs.LeadingForms.{form_worded}
 use Rattle.kt_syntax.proofs.front.unassigning_form.Goals as goal
-
-pub returns-then-begins_colon : goal.returns-then-begins_colon
-returns-then-begins_colon c = grind (arith, form_colon)
 
 pub returns : goal.returns
 returns c =

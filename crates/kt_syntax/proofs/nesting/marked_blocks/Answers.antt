@@ -4,18 +4,10 @@ use Rattle.kt_syntax.specs.Parts.{block_parts}
 use Rattle.kt_syntax.specs.Roles.{heads_of}
 use Rattle.kt_syntax.proofs.NestingLemmas.{length-parts}
 use Rattle.kt_syntax.proofs.ReadingOn.{length-steps, steps_are_readable}
-use Rattle.kt_syntax.proofs.Sound.{tree_is_of}
-use Rattle.kt_syntax.proofs.WholeTree.{whole_tree_is_left}
 use Rattle.kt_syntax.proofs.nesting.marked_blocks.Goals as goal
 
 pub new-requires : goal.new-requires
 new-requires c = rw (c.in_ok-steps.ensures, c.in_ok-parts.ensures.parts) (steps_are_readable (block_parts (heads_of c.args.text.now c.args.lines.now)))
 
-pub returns-clause-tree : goal.returns-clause-tree
-returns-clause-tree c = grind (arith, tree_is_of)
-
 pub returns-clause-lines : goal.returns-clause-lines
 returns-clause-lines c = grind (arith, length-steps, length-parts, length-map)
-
-pub returns-clause-whole : goal.returns-clause-whole
-returns-clause-whole c = grind (arith, whole_tree_is_left)

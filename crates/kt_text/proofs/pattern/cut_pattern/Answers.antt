@@ -3,9 +3,6 @@ use Rattle.std.proofs.lemmas.List.{take_rest}
 use Rattle.kt_text.proofs.MatchLemmas.{percent_found, no_percent_found}
 use Rattle.kt_text.proofs.pattern.cut_pattern.Goals as goal
 
-pub returns-in_err-percent : goal.returns-in_err-percent
-returns-in_err-percent c = grind (arith, no_percent_found)
-
 pub returns : goal.returns
 returns c =
     let parts = percent_found c.args.pattern.now c.in_ok-percent.percent c.in_ok-percent.ensures in

@@ -3,8 +3,5 @@ use Rattle.std.proofs.lemmas.Bool.Decides.{nat_tests}
 use Rattle.kt_text.proofs.WordLemmas.{first_word_cut, no_first_word}
 use Rattle.kt_text.proofs.word_runs.first_word.Goals as goal
 
-pub returns-then-is_empty : goal.returns-then-is_empty
-returns-then-is_empty c = grind (arith, no_first_word, nat_tests)
-
 pub returns : goal.returns
 returns c = grind (arith, length, take, nat_tests, first_word_cut)

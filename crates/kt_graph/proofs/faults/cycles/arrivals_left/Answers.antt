@@ -1,10 +1,7 @@
 use Rattle.std.proofs.Common.{◌+◌, ◌-◌, ◌<◌, arith}
 use Rattle.kt_graph.proofs.Common.{range_with_len, vertex_count}
-use Rattle.kt_graph.proofs.lemmas.faults.ArrivalLemmas.{begun, next_turn, turn_taken}
+use Rattle.kt_graph.proofs.lemmas.faults.ArrivalLemmas.{next_turn, turn_taken}
 use Rattle.kt_graph.proofs.faults.cycles.arrivals_left.Goals as goal
-
-pub loop-vertex-init : goal.loop-vertex-init
-loop-vertex-init c = grind (arith, begun)
 
 pub loop-vertex-preserved : goal.loop-vertex-preserved
 loop-vertex-preserved c =

@@ -1,5 +1,5 @@
-use Rattle.std.proofs.Common.{length, arith}
-use Rattle.kt_graph.proofs.Common.{take_all, rows_held}
+use Rattle.std.proofs.Common.{arith}
+use Rattle.kt_graph.proofs.Common.{rows_held}
 use Rattle.kt_graph.proofs.lemmas.faults.EdgeLemmas.{edges_none}
 use Rattle.kt_graph.proofs.faults.edges.making_rows.Goals as goal
 
@@ -9,6 +9,3 @@ loop-number-init c = edges_none c.args.count (rows_held c.in_ok-rows.rows.items)
 pub loop-number-preserved : goal.loop-number-preserved
 loop-number-preserved c =
     c.in_ok-add_new.ensures c.args.count (omega (arith, c.len-number-end.ensures.len)) c.loop-number.invariant
-
-pub returns : goal.returns
-returns c = grind (arith, length, take_all)

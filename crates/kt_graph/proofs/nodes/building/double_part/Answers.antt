@@ -1,4 +1,4 @@
-use Rattle.std.proofs.Common.{arith, ◌≡◌, ◌∙◌, ap, subst}
+use Rattle.std.proofs.Common.{◌≡◌, ◌∙◌, ap, subst}
 use Rattle.kt_graph.proofs.Common.{needs_for, rule_view, needs_view, needing_view, SaysNeeds, Part}
 use Rattle.kt_graph.proofs.lemmas.nodes.BuildingLemmas.{joined_own}
 use Rattle.kt_graph.proofs.nodes.building.double_part.Goals as goal
@@ -14,6 +14,3 @@ returns-clause-says c =
       stem = ap (λ (p : Part). p.stem) (c.in_ok-part.ensures needs);
       needs = subst (λ n. SaysNeeds c.number_needs.new.self n numbered.prerequisites.items numbered.order_only.items) told c.in_ok-number_needs.ensures.says;
     }
-
-pub returns-clause-reached : goal.returns-clause-reached
-returns-clause-reached c = grind (arith, joined_own)

@@ -1,10 +1,7 @@
 use Rattle.std.proofs.Common.{arith}
 use Rattle.kt_graph.proofs.Common.{slice_get_within}
-use Rattle.kt_graph.proofs.lemmas.search.EndLemmas.{told_none, told_numbered, within_numbered}
+use Rattle.kt_graph.proofs.lemmas.search.EndLemmas.{told_numbered, within_numbered}
 use Rattle.kt_graph.proofs.search.candidates.candidate_numbered.Goals as goal
-
-pub returns-in_err-pattern-clause-candidate : goal.returns-in_err-pattern-clause-candidate
-returns-in_err-pattern-clause-candidate c = grind (arith, told_none)
 
 pub returns-clause-candidate : goal.returns-clause-candidate
 returns-clause-candidate c = grind (arith, told_numbered)

@@ -1,9 +1,6 @@
-use Rattle.std.proofs.Common.{arith, true, false, sym, ◌∙◌}
-use Rattle.kt_graph.proofs.lemmas.search.CandidateLemmas.{none_matches, matches_unless}
+use Rattle.std.proofs.Common.{true, false, sym, ◌∙◌}
+use Rattle.kt_graph.proofs.lemmas.search.CandidateLemmas.{matches_unless}
 use Rattle.kt_graph.proofs.search.candidates.candidate_of.Goals as goal
-
-pub returns-in_err-candidate-clause-candidate : goal.returns-in_err-candidate-clause-candidate
-returns-in_err-candidate-clause-candidate c = grind (arith, none_matches)
 
 pub returns-then-keeps_short-clause-candidate : goal.returns-then-keeps_short-clause-candidate
 returns-then-keeps_short-clause-candidate c =

@@ -1,8 +1,8 @@
-use Rattle.std.proofs.Common.{◌≡◌, ◌∙◌, ◌++◌, ◌∷◌, [], List, ℕ, ap, arith, length, slice_get, sym}
+use Rattle.std.proofs.Common.{◌≡◌, ◌∙◌, ◌++◌, ◌∷◌, [], List, ℕ, ap, length, slice_get, sym}
 use Rattle.kt_list.specs.Names.{is_among, place_of, with_name}
 use Rattle.kt_list.specs.inner.Hashes.{list_hash}
 use Rattle.kt_list.proofs.general.Results.{on_err}
-use Rattle.kt_list.proofs.ListLemmas.{adds, among, lacking, last_pushed, number_is, one_more, placed, stays}
+use Rattle.kt_list.proofs.ListLemmas.{adds, lacking, last_pushed, number_is, one_more, placed}
 use Rattle.kt_list.proofs.lists.Lists.add.Goals as goal
 
 pub returns-in_err-number-in-None-clause-lacking : goal.returns-in_err-number-in-None-clause-lacking
@@ -30,9 +30,6 @@ returns-in-Some-clause-numbered c =
     ∙ number_is list_hash c.self.inside.lists c.self.inside.chains c.args.list.now c.self.invariant c.hash_of-hash.result c.hash_of-hash.ensures
     c.number_among.result c.number_among.ensures.found c.number_among.ensures.lacks
     ∙ ap (λ (all : List (List ℕ)). place_of all c.args.list.now) c.self.view_is
-
-pub returns-in-Some-clause-added : goal.returns-in-Some-clause-added
-returns-in-Some-clause-added c = grind (arith, among, stays)
 
 pub returns-in_ok-put-in-None-clause-numbered : goal.returns-in_ok-put-in-None-clause-numbered
 returns-in_ok-put-in-None-clause-numbered c =

@@ -1,4 +1,4 @@
-use Rattle.std.proofs.Common.{arith, ◌∙◌, List, ℕ, ap, is_some, sym}
+use Rattle.std.proofs.Common.{◌∙◌, List, ℕ, ap, is_some, sym}
 use Rattle.kt_list.specs.Names.{is_among, place_of}
 use Rattle.kt_list.specs.inner.Hashes.{name_hash}
 use Rattle.kt_list.proofs.ListLemmas.{number_if, number_is}
@@ -10,9 +10,6 @@ returns-in_err-number_among-clause-place c =
     ∙ number_is name_hash c.self.inside.names c.self.inside.chains c.args.name.now c.self.invariant c.hash_of.result c.hash_of.ensures
     c.number_among.result c.number_among.ensures.found c.number_among.ensures.lacks
     ∙ ap (λ (all : List (List ℕ)). place_of all c.args.name.now) c.self.view_is
-
-pub returns-in_err-number_among-clause-found : goal.returns-in_err-number_among-clause-found
-returns-in_err-number_among-clause-found c = grind (arith, number_if)
 
 pub returns-clause-place : goal.returns-clause-place
 returns-clause-place c =

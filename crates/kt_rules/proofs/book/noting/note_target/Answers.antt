@@ -1,7 +1,7 @@
-use Rattle.std.proofs.Common.{arith, ◌≡◌, ◌∙◌, ◌&&◌, ◌++◌, ◌∷◌, if◌then◌else◌, ℕ, nat_eq, List, [], Some, Bool, true, not, is_some, slice_get, sym, ap}
-use Rattle.kt_rules.proofs.Common.{Bor, named_at, name_at, on_err_weaker, on_ok_weaker, is_some-map, Text, Kind, RecipeLine, is_made, is_pattern, is_special, entry_view, numbered_target}
+use Rattle.std.proofs.Common.{◌≡◌, ◌∙◌, ◌&&◌, ◌++◌, ◌∷◌, if◌then◌else◌, ℕ, nat_eq, List, [], Some, Bool, true, not, is_some, slice_get, sym, ap}
+use Rattle.kt_rules.proofs.Common.{Bor, named_at, name_at, on_ok_weaker, is_some-map, Text, Kind, RecipeLine, is_made, is_pattern, is_special, entry_view, numbered_target}
 use Rattle.kt_rules.specs.inner.Lists.{list_at}
-use Rattle.kt_rules.proofs.NoteLemmas.{grew_at_names, target_noted}
+use Rattle.kt_rules.proofs.NoteLemmas.{target_noted}
 use Rattle.kt_rules.proofs.book.noting.note_target.Goals as goal
 
 pub returns-clause-targets_noted : goal.returns-clause-targets_noted
@@ -39,9 +39,3 @@ returns-clause-recipes_noted c =
     target_noted names rule target c.args.number c.args.spot (is_some rule.recipe) old new c.len-count.ensures.differ there made
     (λ other. step other ∙ ap (λ (b : Bool). list_at old other ++ (if b then (if nat_eq other c.args.number then c.args.spot ∷ [] else []) else [])) has))
     c.note.ensures.recipes_noted
-
-pub returns-clause-targets_refused : goal.returns-clause-targets_refused
-returns-clause-targets_refused c = grind (arith, on_err_weaker, grew_at_names)
-
-pub returns-clause-recipes_refused : goal.returns-clause-recipes_refused
-returns-clause-recipes_refused c = grind (arith, on_err_weaker, grew_at_names)

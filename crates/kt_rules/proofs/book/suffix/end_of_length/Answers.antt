@@ -1,9 +1,6 @@
 use Rattle.std.proofs.Common.{sym, arith}
-use Rattle.kt_rules.proofs.SuffixLemmas.{end_is, end_is_none}
+use Rattle.kt_rules.proofs.SuffixLemmas.{end_is_none}
 use Rattle.kt_rules.proofs.book.suffix.end_of_length.Goals as goal
 
 pub returns-then-len-name : goal.returns-then-len-name
 returns-then-len-name c = sym (end_is_none c.args.suffixes.now c.args.name.now c.args.len (omega arith))
-
-pub returns : goal.returns
-returns c = grind (arith, end_is)

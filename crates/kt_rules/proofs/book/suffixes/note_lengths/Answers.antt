@@ -1,7 +1,7 @@
 use Rattle.std.proofs.Common.{◌∙◌, ◌+◌, ◌<◌, ap, sym, subst, drop, length, arith}
 use Rattle.kt_list.proofs.NameLemmas.{name_or}
 use Rattle.kt_rules.proofs.Common.{KeepLengths, lengths_with}
-use Rattle.kt_rules.proofs.SuffixLemmas.{length_kept, lengths_at, lengths_end}
+use Rattle.kt_rules.proofs.SuffixLemmas.{length_kept, lengths_at}
 use Rattle.kt_rules.proofs.book.suffixes.note_lengths.Goals as goal
 
 pub loop-number-preserved : goal.loop-number-preserved
@@ -16,6 +16,3 @@ loop-number-preserved c =
       kept = subst (KeepLengths c.args.lengths.now.keys) (sym c.in_ok-insert.ensures.keys)
           (length_kept c.args.lengths.now.keys before (length name) c.loop-number.invariant.kept);
     }
-
-pub returns-clause-noted : goal.returns-clause-noted
-returns-clause-noted c = grind (arith, length, lengths_end)

@@ -1,6 +1,6 @@
-use Rattle.std.proofs.Common.{arith, ◌∙◌, ap, sym, subst, length}
+use Rattle.std.proofs.Common.{◌∙◌, ap, sym, subst, length}
 use Rattle.kt_rules.proofs.Common.{Text, KeepLengths, with_number, needed_view, names_view}
-use Rattle.kt_rules.proofs.SuffixLemmas.{length_kept, lengths_left, lengths_none}
+use Rattle.kt_rules.proofs.SuffixLemmas.{length_kept, lengths_left}
 use Rattle.kt_rules.proofs.book.suffixes.note_needed.Goals as goal
 
 pub loop-name-preserved-in_ok-insert : goal.loop-name-preserved-in_ok-insert
@@ -26,6 +26,3 @@ loop-name-preserved c =
       kept = subst (KeepLengths c.args.lengths.now.keys) (sym is)
           (length_kept c.args.lengths.now.keys before (length name) c.loop-name.invariant.kept);
     }
-
-pub returns-clause-noted : goal.returns-clause-noted
-returns-clause-noted c = grind (arith, lengths_none)

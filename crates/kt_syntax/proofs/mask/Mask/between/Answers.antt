@@ -1,14 +1,11 @@
 use Rattle.std.proofs.Common.{length, take, arith}
 use Rattle.kt_syntax.proofs.Common.{take_rest}
-use Rattle.kt_syntax.proofs.Masking.{one_taken, length-between}
+use Rattle.kt_syntax.proofs.Masking.{length-between}
 use Rattle.kt_syntax.proofs.OwnSymbols.{after_own}
 use Rattle.kt_syntax.proofs.mask.Mask.between.Goals as goal
 
 pub loop-place-init : goal.loop-place-init
 loop-place-init c = grind (arith, take_rest, after_own)
-
-pub loop-place-preserved : goal.loop-place-preserved
-loop-place-preserved c = grind (arith, one_taken, take)
 
 pub returns : goal.returns
 returns c = grind (arith, take, length, length-between)

@@ -3,9 +3,6 @@ use Rattle.kt_graph.proofs.Common.{Text, is_repeated}
 use Rattle.kt_graph.proofs.lemmas.faults.FileLemmas.{found_first}
 use Rattle.kt_graph.proofs.faults.files.FileSpellings.first_repeated.Goals as goal
 
-pub loop-node-preserved : goal.loop-node-preserved
-loop-node-preserved c = grind (arith, found_first)
-
 pub returns-then-branch : goal.returns-then-branch
 returns-then-branch c = λ names held.
     let left = c.in-Some.ensures.steps in

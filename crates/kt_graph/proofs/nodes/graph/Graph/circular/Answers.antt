@@ -1,11 +1,6 @@
-use Rattle.std.proofs.Common.{arith}
 use Rattle.kt_graph.proofs.Common.{sym, subst, MatchOption-at_none, MatchOption-at_some, IsGraph}
 use Rattle.kt_graph.proofs.lemmas.faults.CyclicLemmas.{first_cyclic, none_cyclic}
-use Rattle.kt_graph.proofs.lemmas.nodes.WholeLemmas.{needed_below}
 use Rattle.kt_graph.proofs.nodes.graph.Graph.circular.Goals as goal
-
-pub of-requires-clause-needed : goal.of-requires-clause-needed
-of-requires-clause-needed c = grind (arith, needed_below)
 
 pub returns-in-Some : goal.returns-in-Some
 returns-in-Some c = λ rules known goals graph.

@@ -1,6 +1,6 @@
-use Rattle.std.proofs.Common.{arith, ◌∙◌, ap, option_map, refl, sym}
+use Rattle.std.proofs.Common.{◌∙◌, ap, option_map, refl, sym}
 use Rattle.kt_graph.specs.inner.nodes.Reached.{reached_text}
-use Rattle.kt_graph.proofs.lemmas.nodes.BuilderLemmas.{all_done, begun, built_more, fewer_left, none_left, told_none}
+use Rattle.kt_graph.proofs.lemmas.nodes.BuilderLemmas.{all_done, begun, built_more, none_left, told_none}
 use Rattle.kt_graph.proofs.nodes.graph_builder.GraphBuilder.build_all.Goals as goal
 
 pub loop-rules-init : goal.loop-rules-init
@@ -28,12 +28,6 @@ pub loop-rules-preserved-in_ok-build-2 : goal.loop-rules-preserved-in_ok-build-2
 loop-rules-preserved-in_ok-build-2 c =
     built_more c.args.self.now c.loop-rules.self c.build.new.self (reached_text c.in-Some.name) c.loop-rules.invariant
     (sym c.in_ok-name.ensures.next ∙ ap (option_map reached_text) c.in-Some.is) c.in_ok-build.ensures
-
-pub loop-rules-smaller : goal.loop-rules-smaller
-loop-rules-smaller c = grind (arith, fewer_left)
-
-pub loop-rules-smaller-in_ok-build-2 : goal.loop-rules-smaller-in_ok-build-2
-loop-rules-smaller-in_ok-build-2 c = grind (arith, fewer_left)
 
 pub returns : goal.returns
 returns c = λ goals b.

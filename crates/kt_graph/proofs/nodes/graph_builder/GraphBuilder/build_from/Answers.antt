@@ -1,4 +1,4 @@
-use Rattle.std.proofs.Common.{arith, ◌≡◌, ◌∷◌, ◌∙◌, [], ap, map, subst, sym}
+use Rattle.std.proofs.Common.{◌≡◌, ◌∷◌, ◌∙◌, [], ap, map, subst, sym}
 use Rattle.kt_graph.proofs.Common.{All-head, AreOf, Entry, Target, on_ok_weaker, Text, rule_view, suffixes_of, BuildsNode, sole_node, reached_text, node_with}
 use Rattle.kt_graph.proofs.lemmas.nodes.InputLemmas.{one_alone}
 use Rattle.kt_graph.proofs.lemmas.nodes.LikeLemmas.{last_needs, sole_is}
@@ -27,6 +27,3 @@ returns-then-is_like_last c =
     (subst (λ (n : Text). BuildsNode builder (sole_node (suffixes_of book) n rule) new)
     (All-head (λ (made : Entry × Target). made.1.name ≡ name) rule [] (subst (AreOf name) only (explicit_of book name (map rule_view c.args.rules.now) c.requires.rules)))
     h)) c.node_like_last.ensures
-
-pub build_by-requires-clause-rules : goal.build_by-requires-clause-rules
-build_by-requires-clause-rules c = grind (arith, explicit_of)

@@ -1,10 +1,7 @@
-use Rattle.std.proofs.Common.{arith, ◌≡◌, ◌++◌, ◌∷◌, ◌-◌, [], length}
+use Rattle.std.proofs.Common.{◌≡◌, ◌++◌, ◌∷◌, ◌-◌, [], length}
 use Rattle.kt_graph.proofs.Common.{on_ok_weaker, option_map, rule_view, suffixes_of, Explicit, node_like, stored_at, instance_view}
-use Rattle.kt_graph.proofs.lemmas.nodes.LikeLemmas.{holds_like, last_alone}
+use Rattle.kt_graph.proofs.lemmas.nodes.LikeLemmas.{holds_like}
 use Rattle.kt_graph.proofs.nodes.graph_builder.GraphBuilder.node_like_last.Goals as goal
-
-pub push_like-requires : goal.push_like-requires
-push_like-requires c = grind (arith, last_alone)
 
 pub returns : goal.returns
 returns c =

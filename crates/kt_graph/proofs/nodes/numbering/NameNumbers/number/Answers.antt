@@ -1,5 +1,4 @@
-use Rattle.std.proofs.Common.{arith}
-use Rattle.kt_graph.proofs.lemmas.nodes.ReachedNames.{others_more, step_numbered, step_placed, step_reached}
+use Rattle.kt_graph.proofs.lemmas.nodes.ReachedNames.{others_more, step_numbered, step_placed}
 use Rattle.kt_graph.proofs.nodes.numbering.NameNumbers.number.Goals as goal
 
 pub invariant_of-self : goal.invariant_of-self
@@ -18,6 +17,3 @@ returns-clause-numbered c =
     let held = c.self.inside in
     step_numbered held.tables held.others c.note.new.others c.args.self.now c.note.ensures.grown held.reached c.reach.new.self c.args.name.now c.in_ok-number.number
     c.reach.result c.self.view_is c.self.invariant c.in_ok-number.ensures.noted c.reach.ensures.reached c.reach.ensures.refused
-
-pub returns-clause-reached : goal.returns-clause-reached
-returns-clause-reached c = grind (arith, step_reached)

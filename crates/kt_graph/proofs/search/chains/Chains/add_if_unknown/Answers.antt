@@ -3,8 +3,5 @@ use Rattle.kt_graph.proofs.Common.{on_ok_weaker}
 use Rattle.kt_graph.proofs.lemmas.search.UnknownLemmas.{one_unknown}
 use Rattle.kt_graph.proofs.search.chains.Chains.add_if_unknown.Goals as goal
 
-pub returns-then-contains : goal.returns-then-contains
-returns-then-contains c = grind (arith, one_unknown)
-
 pub returns : goal.returns
 returns c = grind (arith, on_ok_weaker, one_unknown)

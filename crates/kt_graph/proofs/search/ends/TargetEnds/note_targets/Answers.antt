@@ -1,5 +1,5 @@
 use Rattle.std.proofs.Common.{◌<◌, ◌∙◌, ap, length, subst, arith}
-use Rattle.kt_graph.proofs.Common.{take_all, Text, pattern_back, NotesEnd}
+use Rattle.kt_graph.proofs.Common.{Text, pattern_back, NotesEnd}
 use Rattle.kt_graph.proofs.lemmas.search.NotingLemmas.{none_noted, target_noted}
 use Rattle.kt_graph.proofs.search.ends.TargetEnds.note_targets.Goals as goal
 
@@ -13,6 +13,3 @@ loop-target-preserved c =
     target_noted c.args.self.now c.loop-target.self c.note.new.self c.args.targets.now c.args.number i c.target-item.result within
     c.target-item.is c.loop-target.invariant
     (subst (λ (end : Text). NotesEnd c.loop-target.self c.note.new.self end c.args.number) (c.end_of.ensures ∙ ap pattern_back c.as_slice.ensures) c.in_ok-note.ensures)
-
-pub returns : goal.returns
-returns c = grind (arith, take_all)

@@ -1,6 +1,6 @@
-use Rattle.std.proofs.Common.{arith, ◌≡◌, ◌<◌, Some, true, length, refl, sym, subst}
-use Rattle.kt_rules.proofs.Common.{with_item, slice_get_within, on_ok_weaker, place_of, number_found, Marks}
-use Rattle.kt_rules.proofs.MarkLemmas.{number_marked, other_marked}
+use Rattle.std.proofs.Common.{◌≡◌, ◌<◌, Some, true, length, refl, sym, subst}
+use Rattle.kt_rules.proofs.Common.{with_item, slice_get_within, place_of, number_found, Marks}
+use Rattle.kt_rules.proofs.MarkLemmas.{number_marked}
 use Rattle.kt_rules.proofs.book.book_names.Marks.mark_name.Goals as goal
 
 pub returns-in-Some-clause-marked : goal.returns-in-Some-clause-marked
@@ -13,6 +13,3 @@ returns-in-Some-clause-marked c =
     = subst (λ n. number < n) (sym c.requires) (slice_get_within names number c.args.name.now (number_found names c.args.name.now number at)) in
     let new : Marks = record { alloc = old.alloc; numbers = with_item old.numbers number true; others = old.others } in
     number_marked names old new c.args.name.now number at within refl refl
-
-pub returns-in-None-clause-marked : goal.returns-in-None-clause-marked
-returns-in-None-clause-marked c = grind (arith, on_ok_weaker, other_marked)

@@ -1,10 +1,7 @@
-use Rattle.std.proofs.Common.{arith, ◌∙◌, ap, not}
-use Rattle.kt_rules.proofs.PatternLemmas.{key_added, key_known}
+use Rattle.std.proofs.Common.{◌∙◌, ap, not}
+use Rattle.kt_rules.proofs.PatternLemmas.{key_known}
 use Rattle.kt_rules.proofs.book.pattern_set.PatternSet.insert.Goals as goal
 
 pub returns-clause-told : goal.returns-clause-told
 returns-clause-told c =
     c.in_ok-is_new.ensures.added ∙ ap not (key_known c.args.pattern.now c.in_ok-key.key c.args.self.now.keys.keys c.in_ok-key.ensures)
-
-pub returns-clause-added : goal.returns-clause-added
-returns-clause-added c = grind (arith, key_added)

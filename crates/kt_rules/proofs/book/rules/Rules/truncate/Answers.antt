@@ -1,9 +1,5 @@
-use Rattle.std.proofs.Common.{arith, take}
-use Rattle.kt_rules.proofs.HeldLemmas.{first_held, rules_first}
+use Rattle.kt_rules.proofs.HeldLemmas.{first_held}
 use Rattle.kt_rules.proofs.book.rules.Rules.truncate.Goals as goal
-
-pub returns-clause-rules : goal.returns-clause-rules
-returns-clause-rules c = grind (arith, rules_first, take)
 
 pub invariant_of-self : goal.invariant_of-self
 invariant_of-self c =

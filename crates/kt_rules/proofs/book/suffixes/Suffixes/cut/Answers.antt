@@ -1,10 +1,7 @@
-use Rattle.std.proofs.Common.{arith, ◌≡◌, ◌∙◌, ap}
+use Rattle.std.proofs.Common.{◌≡◌, ◌∙◌, ap}
 use Rattle.kt_rules.proofs.Common.{first_cut, suffix_cut}
 use Rattle.kt_rules.proofs.SuffixLemmas.{all_cuts, cut_within}
 use Rattle.kt_rules.proofs.book.suffixes.Suffixes.cut.Goals as goal
-
-pub returns-clause-cut : goal.returns-clause-cut
-returns-clause-cut c = grind (arith, all_cuts)
 
 pub returns-clause-within : goal.returns-clause-within
 returns-clause-within c =
