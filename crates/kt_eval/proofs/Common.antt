@@ -55,3 +55,7 @@ unfoldable pub use Rattle.std.specs.Fmt.{digits}
 pub use Rattle.std.specs.List.{after_first, before_first, onto_first, position_or_len}
 pub use Rattle.std.specs.Str.{IsUtf8, bytes_eq, is_utf8}
 pub use Rattle.kt_eval.specs.Prelude.{AgreeWith, All, Answer, AnswersGrow, AsksNothing, Assigning, Braces, Byte, Contains, Deferred, Entry, Fault, Flavour, Form, FoundValue, Function, Gave, Gives, GoesOn, IfCut, Immediate, IsBalanced, IsPrefix, Keeps, Macro, Macros, Mark, Parentheses, Step, StepEnd, Stop, Stopped, Store, Term, Text, World, [], arity, assignment, bind, defers, directive, dollar, escapes, expands, fault_at, found_of, frozen_world, join_with_byte, keeps, leaving, left_of, list_all, list_any, literal, look, message_place, plain_of, reference, rule_of, say, set_by_makefile, set_rule, slice_get, slice_range, stop, stripped, text_function_name, unbind, unclosed}
+unfoldable pub use Rattle.kt_eval.specs.files.Including.{each_include, include_line}
+unfoldable pub use Rattle.kt_eval.specs.macros.Assignments.{assign_line, assign_named, body_text}
+unfoldable pub use Rattle.kt_eval.specs.reading.Conditionals.{are_equal, else_holds, is_defined}
+unfoldable pub use Rattle.kt_eval.specs.reading.Rules.{rule_of_parts}

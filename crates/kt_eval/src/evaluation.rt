@@ -432,7 +432,7 @@ impl<'a, M: MacroScope, F: Files> Evaluation<'a, M, F> {
 
     // Reads the bytes of a file, if it exists. The name is copied first, so that a failure of the device isn't reported
     // as out of memory.
-    #[tactic(auto, using(crate::proofs::Steps::read_bytes_steps), unfolding(crate::specs::reading::Reading::read_bytes))]
+    #[tactic(auto, using(crate::proofs::Steps::read_bytes_steps), unfolding(crate::proofs::Common::read_bytes))]
     pub(crate) fn read_bytes(&mut self, name: &str) -> Result<Option<Vec<u8>>, Stop>
         ensures gives { (store : Store) → AgreeWith store self.new.answers → Gives (λ found. option_map
             (λ v. v.items) found) result self.new.world (read_bytes store name.now self.old.world) }

@@ -257,7 +257,7 @@ impl<'a, M: MacroScope, F: Files> Evaluation<'a, M, F> {
     }
 
     #[cycle(evaluate)]
-    #[tactic(auto, using(crate::proofs::Steps::branch_holds_goes), unfolding(crate::specs::reading::Reading::branch_holds))]
+    #[tactic(auto, using(crate::proofs::Steps::branch_holds_goes), unfolding(crate::proofs::Common::branch_holds))]
     pub(crate) fn branch_holds(
         &mut self,
         below: u64,
@@ -379,7 +379,7 @@ impl<'a, M: MacroScope, F: Files> Evaluation<'a, M, F> {
     }
 
     #[cycle(evaluate)]
-    #[tactic(auto, using(crate::proofs::Steps::include_line_goes), unfolding(crate::specs::reading::Reading::read_include))]
+    #[tactic(auto, using(crate::proofs::Steps::include_line_goes), unfolding(crate::proofs::Common::read_include))]
     pub(crate) fn read_include(
         &mut self,
         below: u64,
@@ -444,7 +444,7 @@ impl<'a, M: MacroScope, F: Files> Evaluation<'a, M, F> {
 
     // A rule line, from its parts.
     #[cycle(evaluate)]
-    #[tactic(auto, using(crate::proofs::Steps::read_rule_steps), unfolding(crate::specs::reading::Rules::rule_of_parts))]
+    #[tactic(auto, using(crate::proofs::Steps::read_rule_steps), unfolding(crate::proofs::Common::rule_of_parts))]
     pub(crate) fn read_rule(
         &mut self,
         below: u64,

@@ -87,7 +87,7 @@ impl<'a, M: MacroScope, F: Files> Evaluation<'a, M, F> {
 
     // A text function. Too few arguments are refused before any of them is expanded.
     #[cycle(evaluate)]
-    #[tactic(auto, using(crate::proofs::Steps::accepted_goes), unfolding(crate::specs::expanding::Expansion::apply_text))]
+    #[tactic(auto, using(crate::proofs::Steps::accepted_goes), unfolding(crate::proofs::Common::apply_text))]
     pub(crate) fn apply_text(
         &mut self,
         below: u64,
@@ -107,7 +107,7 @@ impl<'a, M: MacroScope, F: Files> Evaluation<'a, M, F> {
 
     // Expands each argument in turn, and adds it to those given.
     #[cycle(evaluate)]
-    #[tactic(auto, using(crate::proofs::Steps::each_argument_goes), unfolding(crate::specs::expanding::Expansion::each_argument))]
+    #[tactic(auto, using(crate::proofs::Steps::each_argument_goes), unfolding(crate::proofs::Common::each_argument))]
     pub(crate) fn each_argument(
         &mut self,
         below: u64,
@@ -167,7 +167,7 @@ impl<'a, M: MacroScope, F: Files> Evaluation<'a, M, F> {
     }
 
     #[cycle(evaluate)]
-    #[tactic(auto, using(crate::proofs::Steps::apply_and_goes), unfolding(crate::specs::expanding::Expansion::apply_and))]
+    #[tactic(auto, using(crate::proofs::Steps::apply_and_goes), unfolding(crate::proofs::Common::apply_and))]
     pub(crate) fn apply_and(&mut self, below: u64, texts: &[&[u8]]) -> Result<Vec<u8>, Stop>
         ensures { Does (λ v. v.items) M.writable below
             (λ e. apply_and e (map (λ a. a.now) texts.now)) result self.old self.new }
@@ -184,7 +184,7 @@ impl<'a, M: MacroScope, F: Files> Evaluation<'a, M, F> {
     }
 
     #[cycle(evaluate)]
-    #[tactic(auto, using(crate::proofs::Steps::apply_foreach_steps), unfolding(crate::specs::expanding::Expansion::apply_foreach))]
+    #[tactic(auto, using(crate::proofs::Steps::apply_foreach_steps), unfolding(crate::proofs::Common::apply_foreach))]
     pub(crate) fn apply_foreach(
         &mut self,
         below: u64,
@@ -203,7 +203,7 @@ impl<'a, M: MacroScope, F: Files> Evaluation<'a, M, F> {
 
     // Expands the body for each word in turn.
     #[cycle(evaluate)]
-    #[tactic(auto, using(crate::proofs::Steps::each_word_goes), unfolding(crate::specs::expanding::Expansion::each_word))]
+    #[tactic(auto, using(crate::proofs::Steps::each_word_goes), unfolding(crate::proofs::Common::each_word))]
     pub(crate) fn each_word(
         &mut self,
         below: u64,
@@ -230,7 +230,7 @@ impl<'a, M: MacroScope, F: Files> Evaluation<'a, M, F> {
     }
 
     #[cycle(evaluate)]
-    #[tactic(auto, using(crate::proofs::Steps::call_by_name_goes), unfolding(crate::specs::expanding::Expansion::apply_call))]
+    #[tactic(auto, using(crate::proofs::Steps::call_by_name_goes), unfolding(crate::proofs::Common::apply_call))]
     pub(crate) fn apply_call(&mut self, below: u64, texts: &[&[u8]]) -> Result<Vec<u8>, Stop>
         ensures { Does (λ v. v.items) M.writable below
             (λ e. apply_call e (map (λ a. a.now) texts.now)) result self.old self.new }
@@ -243,7 +243,7 @@ impl<'a, M: MacroScope, F: Files> Evaluation<'a, M, F> {
     }
 
     #[cycle(evaluate)]
-    #[tactic(auto, using(crate::proofs::Steps::call_by_name_steps), unfolding(crate::specs::expanding::Expansion::call_by_name))]
+    #[tactic(auto, using(crate::proofs::Steps::call_by_name_steps), unfolding(crate::proofs::Common::call_by_name))]
     pub(crate) fn call_by_name(
         &mut self,
         below: u64,
@@ -293,7 +293,7 @@ impl<'a, M: MacroScope, F: Files> Evaluation<'a, M, F> {
     }
 
     #[cycle(evaluate)]
-    #[tactic(auto, using(crate::proofs::Steps::apply_eval_steps), unfolding(crate::specs::expanding::Expansion::apply_eval))]
+    #[tactic(auto, using(crate::proofs::Steps::apply_eval_steps), unfolding(crate::proofs::Common::apply_eval))]
     pub(crate) fn apply_eval(&mut self, below: u64, text: &[u8]) -> Result<Vec<u8>, Stop>
         ensures { Does (λ v. v.items) M.writable below (λ e. apply_eval e text.now) result self.old self.new }
     {
@@ -315,7 +315,7 @@ impl<'a, M: MacroScope, F: Files> Evaluation<'a, M, F> {
     }
 
     #[cycle(evaluate)]
-    #[tactic(auto, using(crate::proofs::Steps::said_steps), unfolding(crate::specs::expanding::Expansion::apply_warning))]
+    #[tactic(auto, using(crate::proofs::Steps::said_steps), unfolding(crate::proofs::Common::apply_warning))]
     pub(crate) fn apply_warning(&mut self, below: u64, text: &[u8]) -> Result<Vec<u8>, Stop>
         ensures { Does (λ v. v.items) M.writable below (λ e. apply_warning e text.now) result self.old self.new }
     {

@@ -140,7 +140,7 @@ impl<'a, M: MacroScope, F: Files> Evaluation<'a, M, F> {
     }
 
     #[cycle(evaluate)]
-    #[tactic(auto, using(crate::proofs::Steps::value_named_steps), unfolding(crate::specs::expanding::Expansion::value_named))]
+    #[tactic(auto, using(crate::proofs::Steps::value_named_steps), unfolding(crate::proofs::Common::value_named))]
     pub(crate) fn value_named(&mut self, below: u64, body: &[u8]) -> Result<Vec<u8>, Stop>
         ensures { Does (λ v. v.items) M.writable below
             (λ e. value_named e (naming_of body.now)) result self.old self.new }

@@ -56,7 +56,7 @@ fn has_wildcard(name: &[u8]) -> bool
 
 impl<'a, M: MacroScope, F: Files> Evaluation<'a, M, F> {
     #[cycle(evaluate)]
-    #[tactic(auto, using(crate::proofs::Steps::each_include_goes), unfolding(crate::specs::files::Including::include_line))]
+    #[tactic(auto, using(crate::proofs::Steps::each_include_goes), unfolding(crate::proofs::Common::include_line))]
     pub(crate) fn include_line(
         &mut self,
         below: u64,
@@ -71,7 +71,7 @@ impl<'a, M: MacroScope, F: Files> Evaluation<'a, M, F> {
     }
 
     #[cycle(evaluate)]
-    #[tactic(auto, using(crate::proofs::Steps::each_include_goes), unfolding(crate::specs::files::Including::each_include))]
+    #[tactic(auto, using(crate::proofs::Steps::each_include_goes), unfolding(crate::proofs::Common::each_include))]
     pub(crate) fn each_include(
         &mut self,
         below: u64,
@@ -123,7 +123,7 @@ impl<'a, M: MacroScope, F: Files> Evaluation<'a, M, F> {
     }
 
     #[cycle(evaluate)]
-    #[tactic(auto, using(crate::proofs::Steps::read_included_goes), unfolding(crate::specs::reading::Reading::included))]
+    #[tactic(auto, using(crate::proofs::Steps::read_included_goes), unfolding(crate::proofs::Common::included))]
     pub(crate) fn included(&mut self, below: u64, optional: bool, name: &str) -> Result<(), Stop>
         requires { M.writable ≡ true }
         ensures { DoesIn (λ u. u) M.writable below

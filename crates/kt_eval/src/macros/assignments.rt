@@ -66,7 +66,7 @@ impl<'a, M: MacroScope, F: Files> Evaluation<'a, M, F> {
     }
 
     #[cycle(evaluate)]
-    #[tactic(auto, using(crate::proofs::Steps::assign_goes), unfolding(crate::specs::macros::Assignments::assign_named))]
+    #[tactic(auto, using(crate::proofs::Steps::assign_goes), unfolding(crate::proofs::Common::assign_named))]
     pub(crate) fn assign_named(
         &mut self,
         below: u64,
@@ -87,7 +87,7 @@ impl<'a, M: MacroScope, F: Files> Evaluation<'a, M, F> {
 
     // `!=` is refused before the name is expanded.
     #[cycle(evaluate)]
-    #[tactic(auto, using(crate::proofs::Steps::assign_named_goes), unfolding(crate::specs::macros::Assignments::assign_line))]
+    #[tactic(auto, using(crate::proofs::Steps::assign_named_goes), unfolding(crate::proofs::Common::assign_line))]
     pub(crate) fn assign_line(
         &mut self,
         below: u64,

@@ -51,7 +51,7 @@ impl<'a, M: MacroScope, F: Files> Evaluation<'a, M, F> {
     }
 
     #[cycle(evaluate)]
-    #[tactic(auto, using(crate::proofs::Steps::is_set_goes), unfolding(crate::specs::reading::Conditionals::is_defined))]
+    #[tactic(auto, using(crate::proofs::Steps::is_set_goes), unfolding(crate::proofs::Common::is_defined))]
     pub(crate) fn is_defined(&mut self, below: u64, text: &[u8]) -> Result<bool, Stop>
         requires { M.writable ≡ true }
         ensures { Does (λ b. b) M.writable below (λ e. is_defined e text.now) result self.old self.new }
@@ -79,7 +79,7 @@ impl<'a, M: MacroScope, F: Files> Evaluation<'a, M, F> {
 
     // The same for any texts, by a text of its own for each that has a dollar.
     #[cycle(evaluate)]
-    #[tactic(auto, using(crate::proofs::Steps::expanded_goes), unfolding(crate::specs::reading::Conditionals::are_equal))]
+    #[tactic(auto, using(crate::proofs::Steps::expanded_goes), unfolding(crate::proofs::Common::are_equal))]
     pub(crate) fn expanded_equal(
         &mut self,
         below: u64,
@@ -145,7 +145,7 @@ impl<'a, M: MacroScope, F: Files> Evaluation<'a, M, F> {
 
     // An `else` without a condition is always taken.
     #[cycle(evaluate)]
-    #[tactic(auto, using(crate::proofs::Steps::text_holds_goes), unfolding(crate::specs::reading::Conditionals::else_holds))]
+    #[tactic(auto, using(crate::proofs::Steps::text_holds_goes), unfolding(crate::proofs::Common::else_holds))]
     pub(crate) fn else_holds(
         &mut self,
         below: u64,

@@ -226,7 +226,7 @@ impl<'a> Page<'a> {
     }
 
     // The lines from one place up to another, as the value of a define.
-    #[tactic(auto, using(crate::proofs::BodyLemmas::body_lines), unfolding(crate::specs::macros::Assignments::body_text))]
+    #[tactic(auto, using(crate::proofs::BodyLemmas::body_lines), unfolding(crate::proofs::Common::body_text))]
     pub(crate) fn body(
         &self,
         alloc: Global,
