@@ -1,11 +1,6 @@
 -- `new` makes a value of no bytes, at the empty list.
 use Rattle.std.proofs.Common.{[], ◌∷◌, refl}
-use Rattle.kt_history.proofs.Common.{Args, Calls, Clauses, Ended, Fn, Fun, Is, Logic, Loops, Meets, Memory}
-use Rattle.kt_history.proofs.Common.{RattleType, Routine, SProp, Stays, Tables, Ura, Val, WpFn, WpFn-mono, a_type}
-use Rattle.kt_history.proofs.Common.{agg, alive, alloc_all, and_then, closing, ends_at, ent, enter, entered, free_all}
-use Rattle.kt_history.proofs.Common.{get, inst_fn, layouts, look_at, makes, no_more, nothing, owned, owns, param}
-use Rattle.kt_history.proofs.Common.{pass_all, returns, says, sets, tables, tables_of, triple_of, types_at}
-use Rattle.kt_history.proofs.Common.{walk_Meets, walk_of}
+use Rattle.kt_history.proofs.Common.{Args, Calls, Clauses, Ended, Fn, Fun, Is, Logic, Loops, Meets, Memory, RattleType, Routine, SProp, Stays, Tables, Ura, Val, WpFn, WpFn-mono, a_type, agg, alive, alloc_all, and_then, closing, ends_at, ent, enter, entered, free_all, get, inst_fn, layouts, look_at, makes, no_more, nothing, owned, owns, param, pass_all, returns, says, sets, tables, tables_of, triple_of, types_at, walk_Meets, walk_of}
 use types.Kit.{‵, raw, ◌⊛◌, ◌$◌, ◌∵◌, !, qed, move, keep, split, fjoin, suffices, done}
 use Rattle.std.specs.contracts.marker.PhantomData as Mark
 use Rattle.kt_history.proofs.Walks.{none, one, one_made}

@@ -1,12 +1,6 @@
 -- `with` makes a value of no bytes, at the list that its clause names.
 use Rattle.std.proofs.Common.{ℕ, List, [], ◌∷◌, ◌++◌, ◌<◌, ◌^◌, length, refl}
-use Rattle.kt_history.proofs.Common.{AllGo, Args, Calls, Clauses, Ended, Fn, Fun, Goes-none_ref, Goes-none_slice, Is}
-use Rattle.kt_history.proofs.Common.{Logic, Loops, Meets, Memory, RattleType, Routine, SProp, Stays, Tables, Ura, Val}
-use Rattle.kt_history.proofs.Common.{Walks, WpFn, WpFn-mono, a_type, agg, alive, alloc_all, and_then, closing}
-use Rattle.kt_history.proofs.Common.{ends_at, ent, enter, entered, free_all, fst∗, get, inst_fn, layouts, look_at}
-use Rattle.kt_history.proofs.Common.{makes, named, no_more, nothing, on_entry, owned, owns, param, pass_all, plain}
-use Rattle.kt_history.proofs.Common.{returns, says, sets, stay_none_ref, stay_none_slice, tables, tables_of}
-use Rattle.kt_history.proofs.Common.{triple_of, types_at, via, vptr, walk_Meets, walk_of, walked}
+use Rattle.kt_history.proofs.Common.{AllGo, Args, Calls, Clauses, Ended, Fn, Fun, Goes-none_ref, Goes-none_slice, Is, Logic, Loops, Meets, Memory, RattleType, Routine, SProp, Stays, Tables, Ura, Val, Walks, WpFn, WpFn-mono, a_type, agg, alive, alloc_all, and_then, closing, ends_at, ent, enter, entered, free_all, fst∗, get, inst_fn, layouts, look_at, makes, named, no_more, nothing, on_entry, owned, owns, param, pass_all, plain, returns, says, sets, stay_none_ref, stay_none_slice, tables, tables_of, triple_of, types_at, via, vptr, walk_Meets, walk_of, walked}
 use base.Fml.{Fml}
 use contract.Lifetimes.{AllOutlive, Lfts, Shares}
 use types.Kit.{‵, raw, ◌$◌, ◌∵◌, !, qed, move, fjoin, suffices, done}
