@@ -13,7 +13,7 @@ head_same x y xs ys p = cc (p.1 (suc zero) (omega arith))
 none_first : (ys : List Text) → IsPrefix {A = Text} [] ys
 none_first ys = (omega arith, λ count le. let none : count ≡ zero = omega (arith, le) in rw none refl)
 
--- a list with more behind it has no more of them
+-- a longer list with the same beginning has no more of them
 pub fewer : (texts xs ys : List Text) → IsPrefix xs ys → astray texts ys ≤ astray texts xs
 unfolding astray
 fewer [] xs ys p = omega arith
@@ -43,7 +43,7 @@ found (x ∷ xs) (y ∷ ys) h =
     let e : x ≡ y = grind (arith, bytes_eq-Decides, h) in
     (omega (arith, p.0), as_far x y xs ys e p)
 
--- a list that has no fewer of any texts begins with the other one
+-- a list in which no more of any texts stand astray begins with the other one
 pub front_of : (xs ys : List Text) → ((texts : List Text) → astray texts ys ≤ astray texts xs) → IsPrefix xs ys
 front_of xs ys h = found xs ys (omega (arith, h xs, none_astray xs))
 
