@@ -74,13 +74,23 @@ class Building(Tree):
     def test_wrong_usage_and_absent_programs(self):
         self.write(Makefile="all: ; true\n")
         self.assertEqual(self.tool("kati-build", "--no-such-option").status, 64)
-        ran = self.tool("kati-build", "-j4")
+        ran = self.tool("kati-build", "-k4")
         self.assertEqual(ran.status, 64)
-        self.assertTrue(ran.said.endswith("unrecognized arguments: -j4; ninja's own stand after --\n"), ran.said)
+        self.assertTrue(ran.said.endswith("unrecognized arguments: -k4; ninja's own stand after --\n"), ran.said)
+        for words in (["-jx"], ["-j"], ["-j", "-1"]):
+            self.assertEqual(self.tool("kati-build", *words).status, 64, words)
         self.assertEqual(self.tool("kati-build", "--depth", "0").status, 64)
         self.assertEqual(self.tool("kati-build", "--kati", "no/such/program").status, 3)
         self.assertEqual(self.tool("kati-build", "--files-from", "no/such/list").status, 3)
         self.assertEqual(self.tool("kati-build", NINJA="no/such/ninja").status, 3)
+
+    def test_a_number_of_jobs_is_ninjas(self):
+        self.write(Makefile="all: ; true\n", shown='#!/bin/sh\necho "$*"\n')
+        (self.top / "shown").chmod(0o755)
+        for words, wanted in (["-j4"], "-j4"), (["-j", "2", "all", "--", "-v"], "-j2 -v"), (["--", "-j3"], "-j3"):
+            with self.subTest(words):
+                said = self.build(*words, NINJA=str(self.top / "shown"))
+                self.assertTrue(said.rstrip().endswith(f" {wanted}"), said)
 
     def test_a_file_of_another_program_stays(self):
         self.write(Makefile="all: ; echo all\n", build_ninja="rule r\n command = echo\nbuild all: r\n")

@@ -251,6 +251,13 @@ class Porting(Tree):
         self.assertEqual([one for one in self.port(1, "a.mk", "b.mk") if "takes" in one or "first" in one],
                          ["kati takes a.mk", "kati's first fault: b.mk:1: *** refused function shell [E16]"])
 
+    def test_without_a_name_it_is_what_make_reads(self):
+        for name in ("Makefile", "makefile", "GNUmakefile"):
+            self.put(name, f"all: ; echo {name}\n")
+            self.assertEqual(self.port(0)[-1], f"kati takes {name}")
+            self.assertEqual(self.port(0, "X=1")[-1], f"kati takes {name}")
+            self.assertEqual(self.run_in("make", "all").out.split()[-1], name)
+
     def test_wrong_usage_and_absent_files(self):
         self.assertEqual(self.tool("kati-port").status, 64)
         self.assertEqual(self.tool("kati-port", "A=b").status, 64)

@@ -302,6 +302,23 @@ class OwnFiles(Ported):
         self.assertEqual(self.tool("kati-build", "--remove").said,
                          "kati-build: nothing is here that kati-build wrote\n")
 
+    def test_commands_for_editors_are_taken_away_where_they_are_its_own(self):
+        kept = "build.kati build.ninja"
+        for later, removed in ((lambda: None, f"compile_commands.json {kept}"),
+                               (lambda: self.tool("kati-build", "--port"), f"compile_commands.json {kept}"),
+                               (lambda: self.put("compile_commands.json", "[{}]\n"), kept)):
+            self.assertEqual(self.tool("kati-build", "--port", "--compile-commands").status, 0)
+            later()
+            self.assertEqual(sorted(self.tool("kati-build", "--remove").said.split()[2:]), sorted(removed.split()))
+
+    def test_those_for_a_build_elsewhere_are_taken_away_too(self):
+        words = ["--port", "-o", "sub/x.ninja"]
+        (self.top / "sub").mkdir()
+        self.assertEqual(self.tool("kati-build", *words, "--compile-commands").status, 0)
+        self.assertIn("compile_commands.json", files_of(self.top))
+        self.assertEqual(self.tool("kati-build", "--remove", "-o", "sub/x.ninja").status, 0)
+        self.assertNotIn("compile_commands.json", files_of(self.top))
+
     def test_only_what_is_its_own_is_taken_away(self):
         shutil.rmtree(self.top)
         self.put_all({"build.ninja": "# mine\n", "build.kati/mine": "", "other/lock": "",

@@ -445,6 +445,14 @@ class Writing(PortedTree):
             self.assertEqual(self.tool("kati-port", mode, "-f", "absent.mk").status, 3)
             self.assertEqual(self.tool("kati-port", mode, "-f", "other.mk", "-f", "other.mk").status, 64)
 
+    def test_without_a_name_it_is_the_makefile_that_make_reads(self):
+        for words in ([], ["X=2"]):
+            with self.subTest(words):
+                self.put_all({"Makefile": "N := $(shell echo 1)\nall: ; echo $(N) $(X)\n"})
+                ran = self.tool("kati-port", "--write", *words)
+                self.assertEqual(ran.status, 0, ran.all)
+                self.assertIn(" ".join(["kati-build --builtin", *words, "builds it\n"]), ran.out)
+
     def test_an_interrupt_changes_nothing(self):
         self.put_all({"Makefile": "X := $(shell touch started; sleep 600)\nall: ; echo $(X)\n"})
         before = self.made()

@@ -36,6 +36,7 @@ complete -c kati-build -l port -d 'builds by any GNU makefile, which stays as it
 complete -c kati-build -l values -d 'asks make again for what the machine tells'
 complete -c kati-build -s o -r -F -d 'the Ninja file'
 complete -c kati-build -l deps -d 'header dependencies of -MD and -MMD'
+complete -c kati-build -s j -x -d 'how many commands ninja runs at once'
 complete -c kati-build -l no-ninja -d 'translates, and runs no ninja'
 complete -c kati-build -l remove -d 'takes away all that kati-build has written'
 complete -c kati-build -l as-made -d 'takes what stands here as make has made it'

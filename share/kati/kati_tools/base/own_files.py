@@ -17,6 +17,8 @@ ASIDE = "aside"
 BEGUN, VERSION, FORM = ".begun", "version", "2\n"
 # What a shell does to see whether anything is new.
 LOOK = ".look"
+# The sum of the compile_commands.json that stands beside the folder, where kati-build has written it.
+COMMANDS = "compile_commands.sum"
 FIRST_LINE = "# Written by kati-build, which writes it anew when the makefile changes.\n"
 
 

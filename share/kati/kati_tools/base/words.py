@@ -82,6 +82,13 @@ def add_kati_words(parser):
                        help="what to make; a macro that overrides the makefile's assignments")
 
 
+def count(word):
+    """The number that a word is, in digits alone; for argparse."""
+    if not (word.isascii() and word.isdigit()):
+        raise argparse.ArgumentTypeError(f"not a number: {word}")
+    return int(word)
+
+
 def macros_of(words):
     """The words that are macros."""
     return [word for word in words if "=" in word]

@@ -50,6 +50,11 @@ def default_makefile():
     return next((name for name in ("makefile", "Makefile") if os.path.isfile(name)), None)
 
 
+def makes_makefile():
+    """The makefile that make reads without -f, or None."""
+    return "GNUmakefile" if os.path.isfile("GNUmakefile") else default_makefile()
+
+
 def lister(asked, output=None, room=None):
     """What lists the files that exist, for a makefile and the words of its command line."""
     return sources.Lister(asked.files_from, output, room, asked.makefile or default_makefile(), macros_of(asked.words))

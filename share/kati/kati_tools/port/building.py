@@ -95,7 +95,7 @@ examples:
   kati-build all CC=clang                builds `all` by clang
   kati-build --deps 'CFLAGS=-O2 -MMD'    with header dependencies, which the compiler writes for -MMD
   kati-build --port --as-made            goes on where make left off
-  kati-build --builtin -- -j4 -v         with make's usual rules; ninja runs four jobs, shows commands
+  kati-build --builtin -j4 -- -v         with make's usual rules; ninja runs four jobs, shows commands
   kati-build -o clean.ninja clean        another file for another goal, so that build.ninja stays
   kati-build --remove                    takes away what kati-build wrote; what was built stays
 
@@ -117,7 +117,7 @@ def parser():
     """The command line of kati-build."""
     made = words.Parser(prog="kati-build", description=ABOUT, epilog=MORE, hint="; ninja's own stand after --",
                         usage="kati-build [--port] [--values] [--files-from git|find|FILE] [--deps] [--builtin]\n"
-                              "                  [-o FILE] [--no-ninja] [--as-made] [--compile-commands]\n"
+                              "                  [-o FILE] [-j N] [--no-ninja] [--as-made] [--compile-commands]\n"
                               "                  [--kati PROGRAM] [--kati-asked PROGRAM] [KATI WORDS]\n"
                               "                  [-- NINJA WORDS]\n"
                               "       kati-build --remove [-o FILE]")
@@ -132,6 +132,8 @@ def parser():
     words.add_builtin(made)
     made.add_argument("-o", dest="output", metavar="FILE", default="build.ninja",
                       help="the Ninja file; build.ninja without it")
+    made.add_argument("-j", dest="jobs", type=words.count, metavar="N",
+                      help="how many commands ninja runs at once, as by -jN after --")
     made.add_argument("--no-ninja", action="store_true", help="translates, and doesn't run ninja")
     made.add_argument("--remove", action="store_true",
                       help="takes away all that kati-build has written in this folder, or that of FILE, and does no "
@@ -175,7 +177,8 @@ def command(line):
     """The exit status of the command for the words of its command line."""
     at = line.index("--") if "--" in line else len(line)
     asked = parser().parse_intermixed_args(line[:at])
-    asked.jobs = ninja_words.jobs(line[at + 1:])
+    for_ninja = [*([] if asked.jobs is None else [f"-j{asked.jobs}"]), *line[at + 1:]]
+    asked.jobs = ninja_words.jobs(for_ninja)
     if asked.port:
         asked.builtin = asked.deps = True
         # The makefile that make would read.
@@ -185,7 +188,7 @@ def command(line):
     # Loaded here, since it takes time, and the help needs none of it.
     from ..base import interrupting
     interrupting.end_as_interrupted()
-    return build(asked, line[at + 1:])
+    return build(asked, for_ninja)
 
 
 def main(line):

@@ -77,9 +77,9 @@ def parser():
     """The command line of kati-port."""
     made = words.Parser(prog="kati-port", description=ABOUT, epilog=MORE,
                         usage="kati-port [--macros] [--builtin] [--files-from git|find|FILE] [--kati PROGRAM]\n"
-                              "                 [-f] MAKEFILE.. [NAME=VALUE]..\n"
+                              "                 [[-f] MAKEFILE..] [NAME=VALUE]..\n"
                               "       kati-port --write [--diff] [--files-from ..] [--kati PROGRAM]\n"
-                              "                 [-f] MAKEFILE [GOAL|NAME=VALUE]..\n"
+                              "                 [[-f] MAKEFILE] [GOAL|NAME=VALUE]..\n"
                               "       kati-port --values [[-f] MAKEFILE] [GOAL|NAME=VALUE]..")
     made.add_argument("--write", action="store_true",
                       help="rewrites the makefile and its includes until kati takes them, for these goals and macros, "
@@ -97,7 +97,8 @@ def parser():
     made.add_argument("-f", dest="makefiles", metavar="FILE", action="append", default=[],
                       help="the makefile, as make and kati-build take it; it stands before the other words then")
     made.add_argument("words", nargs="*", metavar="MAKEFILE|GOAL|NAME=VALUE",
-                      help="a makefile; a goal; a macro that is given to kati")
+                      help="a makefile, and without one that which make reads; behind it, with --write, a goal; a "
+                           "macro that is given to kati")
     return made
 
 
@@ -170,11 +171,21 @@ def ask_macros(makefile, macros):
     write_text("".join(f"{word}\n" for word in macro_values.words(makefile, list(dict.fromkeys(names)), macros)))
 
 
+def makes_makefile():
+    """The makefile that make reads here."""
+    found = translating.makes_makefile()
+    if found is None:
+        raise Stop("no makefile is here: name one", words.WRONG_USAGE)
+    return found
+
+
 def run_port(asked):
     """Answers the exit status."""
     if len(asked.makefiles) > 1:
         raise Stop("one makefile stands after -f", words.WRONG_USAGE)
     asked.words = [*asked.makefiles, *asked.words]
+    if not (asked.values or words.goals_of(asked.words)):
+        asked.words.insert(0, makes_makefile())
     for makefile in words.goals_of(asked.words[:1] if asked.write or asked.diff or asked.values else asked.words):
         translating.refuse_passing(makefile)
     if asked.write or asked.diff or asked.values:
@@ -183,8 +194,6 @@ def run_port(asked):
         does = write_command.run if asked.write or asked.diff else write_command.run_values
         return does(asked)
     macros, makefiles = words.macros_of(asked.words), words.goals_of(asked.words)
-    if not makefiles:
-        raise Stop("name a makefile", words.WRONG_USAGE)
     if asked.macros:
         for makefile in makefiles:
             ask_macros(makefile, macros)

@@ -272,7 +272,7 @@ class Build:
             files.keep(self.names, "".join(f"{name}\n" for name in found.asked), self.room)
         if self.asked.compile_commands and not self.is_first:
             from ..build import compile_commands
-            files.keep(compile_commands.NAME, compile_commands.text(found.statements), self.room)
+            compile_commands.keep(found.statements, self.room)
         if is_new:
             self.begin_anew()
             files.put_to_last(self.staged(content, content.data), self.translated)

@@ -1,13 +1,11 @@
 """kati-build --remove: takes away what kati-build has written."""
 import os
-import re
 
 from ..base import files, one_at_a_time, own_files, words
 from ..base.programs import Stop, say
+from ..build import compile_commands
 
 TOOL = "kati-build"
-COMPILE_COMMANDS = "compile_commands.json"
-WRITES_COMMANDS = re.compile(r"^ command = .* --compile-commands(?: |$)", re.MULTILINE)
 
 
 class Written:
@@ -23,10 +21,11 @@ class Written:
 
     def names(self):
         """The names of what is there."""
-        output = [self.output] if self.is_output() else []
-        has_commands = output and WRITES_COMMANDS.search(files.read(self.output))
-        commands = [os.path.join(self.folder, COMPILE_COMMANDS)] if has_commands else []
-        return [*(name for name in commands if os.path.isfile(name)), *output, self.room]
+        # For editors it wrote where it was run, which may be another folder than that of the Ninja file.
+        beside = {os.path.abspath(name): name
+                  for name in (compile_commands.NAME, os.path.join(self.folder, compile_commands.NAME))}
+        commands = [name for name in beside.values() if compile_commands.is_own(name, self.room)]
+        return [*commands, *([self.output] if self.is_output() else []), self.room]
 
     def remove(self, say_waiting):
         """Takes it away, alone in the folder; answers the names. The Ninja file goes first: nothing leads then to what

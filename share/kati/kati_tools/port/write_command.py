@@ -152,11 +152,10 @@ def write(asked):
 
 def run(given):
     """--write and --diff for the words of the command line."""
-    makefiles = given.words[:1]
-    if not makefiles or "=" in makefiles[0]:
+    if "=" in given.words[0]:
         raise Stop("name a makefile, and then goals and macros", words.WRONG_USAGE)
     files_from = given.files_from if given.files_from in ("git", "find") else os.path.abspath(given.files_from)
-    asked = argparse.Namespace(makefile=words.from_here(makefiles[0]), goals=words.goals_of(given.words[1:]),
+    asked = argparse.Namespace(makefile=words.from_here(given.words[0]), goals=words.goals_of(given.words[1:]),
                                kati=given.kati, macros=words.macros_of(given.words), diff=given.diff, depth=None,
                                has_deps=False, for_build=False, files_from=files_from,
                                known=other_goals.Known())
