@@ -333,6 +333,13 @@ class Building(Tree):
         self.assertEqual(self.tool("kati-build", "--no-ninja").status, 0)
         self.assertIn("same: 1 file came into being\n", self.run_in(self.tool_path("kati-compare"), "--build").out)
 
+    def test_a_build_in_copies_is_told(self):
+        self.write(Makefile="out: ; pwd > out\n")
+        why = "kati-compare: built in copies of this folder: the environment has KATI_COPIES\n"
+        for copies, said in (("", ""), ("1", why)):
+            ran = self.tool("kati-compare", "--build", KATI_COPIES=copies)
+            self.assertEqual((ran.status, ran.said), (0, said), ran.all)
+
     def test_words_for_kati_alone(self):
         self.write(Makefile="ifdef MAKE_VERSION\nA := $(shell echo one)\nendif\nout: ; echo $(A) > out\n")
         self.assertEqual(self.compared(0, "A=one", "--words-for-kati"),

@@ -15,6 +15,7 @@ MANUAL = include_trees.tree(include_forms.LISTED)
 USING = "include v.mk\nout: ; echo $(V) > out\n"
 MANY = os.environ.get("KATI_INCLUDES")
 TRIED = ("manual by include", "depend by -include", "two levels", "forced") if MANY else ("depend by -include",)
+SOURCES = 500 if MANY else 20
 
 
 @needs("kati", "kati-asked", "make", "ninja", "gcc")
@@ -176,14 +177,13 @@ for name, scenario in {**include_trees.TREES, **include_forms.FORMS}.items():
 
 
 @needs("kati", "kati-asked", "make", "ninja", "gcc")
-@unittest.skipUnless(MANY, "of KATI_INCLUDES")
 class Large(Tree):
-    """Five hundred sources."""
+    """Many sources."""
 
     def test_what_runs(self):
         files = {"Makefile": include_trees.makefile(include_trees.MANUAL.replace("INC", "-include")),
                  "kati-values.mk": include_trees.VALUES, "common.h": "#define C 0\n"}
-        for number in range(500):
+        for number in range(SOURCES):
             body = "int main(void){return 0;}\n" if number == 0 else ""
             files[f"s{number}.c"] = (f'#include "common.h"\n#include "s{number}.h"\n'
                                      f"int f{number}(void){{return C+S{number};}}\n{body}")

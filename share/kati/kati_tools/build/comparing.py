@@ -37,7 +37,8 @@ what is said:
                         exports, as `export A` under `ifdef MAKE_VERSION`, and those that kati has
                         by SHELL. Where make exports all, those count that lines with `export` name,
                         and that commands, scripts or inner makefiles ask for
-  With --build, a line with ! is a file that has other bytes.
+  With --build, a line with ! is a file that has other bytes; where both had to be built in copies
+  of the folder, a line on standard error says why.
 
 how make is asked:
   make -n -B -r -R -f SUFFIXES -f - GOALS MACROS SHELL=noop < MAKEFILE
@@ -188,6 +189,8 @@ def compare_builds(asked, translation, room):
     """Builds both ways, and tells whether the same files came into being; answers whether they did."""
     given = words.goals_of(asked.words) if asked.words_for_kati else asked.words
     by_make, by_ninja = scratch_builds.both(asked.makefile, given, translation, room)
+    if by_make.why:
+        say(TOOL, f"built in copies of this folder: {by_make.why}")
     lines = list(scratch_builds.told(by_make, by_ninja))
     if lines:
         write_text("".join(f"{line}\n" for line in lines) + "the builds differ\n")

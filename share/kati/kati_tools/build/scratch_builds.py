@@ -42,10 +42,11 @@ def contents(paths, folder):
 
 
 class InCopy:
-    """A build in a scratch copy; what it makes is what is in it then, or beside it, where a build may make `../x`."""
+    """A build in a scratch copy, and why it is there; what it makes is what is in it then, or beside it, where a build
+    may make `../x`."""
 
-    def __init__(self, copy):
-        self.copy, self.folder, self.before = copy, copy.folder, {}
+    def __init__(self, copy, why):
+        self.copy, self.folder, self.why, self.before = copy, copy.folder, why, {}
 
     def now(self):
         """What is there now."""
@@ -67,7 +68,7 @@ class Over:
     """A build in place; what it makes is what was written over the folders."""
 
     def __init__(self, place):
-        self.place, self.folder = place, place.real
+        self.place, self.folder, self.why = place, place.real, None
 
     def begin(self):
         """There is nothing to look at."""
@@ -93,8 +94,8 @@ def aged(folder, translation):
 
 
 class Built:
-    """A build's status and the end of what it said, and the files that came into being or changed, or were made
-    anew."""
+    """A build's status and the end of what it said, the files that came into being or changed, or were made anew, and
+    why it was in a copy, where it was."""
 
     def __init__(self, name, words, place, translation):
         old = aged(place.folder, translation)
@@ -103,7 +104,7 @@ class Built:
                              stdin=subprocess.DEVNULL, stdout=subprocess.PIPE, stderr=subprocess.STDOUT)
         self.status = ran.returncode
         self.said = end_of(text_of(ran.stdout))
-        self.files = place.made(old)
+        self.files, self.why = place.made(old), place.why
 
 
 def built(name, words, makefile, translation, room):
@@ -116,7 +117,7 @@ def built(name, words, makefile, translation, room):
     scratch_copy.top_of(makefile)
     return in_place.in_place_or(
         lambda: in_place.InPlace(place, above.texts_of(makefile), True).laid_over(), lambda found: build(Over(found)),
-        lambda why: build(InCopy(scratch_copy.WholeCopy(makefile, os.path.join(room, "copy")))))
+        lambda why: build(InCopy(scratch_copy.WholeCopy(makefile, os.path.join(room, "copy")), why)))
 
 
 def both(makefile, words, translation, room):
