@@ -89,6 +89,11 @@ CONSTRUCTS = {
         ({"Makefile": "W = $(wildcard w/*)\nall: a b c\na b c:\n\techo $(W) $(wildcard $(@D)/$@.d/*) > $@\n",
           **{f"{folder}/{number}": "" for folder in ("w", "a.d", "c.d") for number in range(25)}, "b.d/1": ""},
          ["W = $(V_W)\n", "V_wildcard_.-b := ./b.d/1\n"]),
+    "which prerequisites are there, asked by a macro that is called":
+        ({"Makefile": "new = $(filter-out F,$(wildcard $^))\n"
+                      "made = $(if $(strip $(new)),echo $(1) $(new) > $@,echo $(1) > $@)\n"
+                      "all: a b\na: in F\n\t$(call made,1)\nb: to F\n\t$(call made,2)\nF:\n", "in": "", "to": ""},
+         ["\nV_new = $(V_new_$@)\n", "\nV_new_b := to\n"]),
     "the text of a macro that is mended":
         ({"Makefile": "X = $(shell echo hi) \\# there\nY = y $(X)\nall:\n"
                       "\techo '$(value X)' '$(value Y)' $(X) '$(words $(value X))' > out\n"},

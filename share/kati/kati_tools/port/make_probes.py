@@ -14,6 +14,8 @@ from ..make.make_run import ANSWER, END, answered
 from . import read_lines
 
 AUTOMATIC = {mark + part for mark in "@<^+?*|%" for part in ("", "D", "F")}
+# Those of them that may have several words.
+LISTS = {mark + part for mark in "^+?|" for part in ("", "D", "F")}
 # Macros of make's own that are empty for kati, and that no assignment can give it: the list of makefiles grows, each
 # call of a shell leaves its status, and by the version the makefile tells the two apart.
 OF_MAKE = {"MAKEFILE_LIST", ".SHELLSTATUS", "MAKE_VERSION"}
@@ -37,12 +39,15 @@ class Asking(NamedTuple):
 ASKED = (Asking("wildcard", "", 1_000_000, "$(strip "), Asking("shell", "", 2_000_000, "$(subst ,,"),
          Asking("realpath", "", 3_000_000, "$(strip "), Asking("file", "<", 4_000_000, "$(subst ,,"))
 WILD = re.compile(r"[*?\[]")
+# What can tell the values of a table apart: it stands in the names of macros.
+KEY = re.compile(r"[\w./+@-]+")
 # A probe tells its number, what the value depends on, and the value.
 TELLS = f"$(info {ANSWER}$1 $3|$2{END})"
 NUMBER_SIGN = "kati_number_sign := \\#\n"
 PROBE = f"kati_probe = {TELLS}$2\n{NUMBER_SIGN}"
-# What stands in what a probe tells before the target; and in the place of a value of many words, which come again a
-# thousand times: that it is the one that it told last, or that it has several lines, as no value that is frozen.
+# What stands in what a probe tells before what it depends on by the target; and in the place of a value of many words,
+# which come again a thousand times: that it is the one that it told last, or that it has several lines, as no value
+# that is frozen.
 TARGET, SAME, LINES = "@@at:", "@@same@@", "@@lines@@"
 # No macro with a dot in its name is exported with all others.
 LONG = f"""\
@@ -116,12 +121,19 @@ def bound_names(text, span):
     return found
 
 
-def key_of(line, span):
+def telling(line, span):
     """The references in a reference that tell one use of its line from another: arguments of a `call`, what a loop
-    binds, and automatic macros; as a text, empty where it means the same everywhere."""
+    binds, and automatic macros."""
     inner, bound = references.references(line.text[span[0]:span[1]]), bound_names(line.text, span)
-    found = [one for form in (is_numbered, is_automatic, lambda one: one.name in bound) for one in inner if form(one)]
-    return "-".join(dict.fromkeys(one.text if one.substitution is None else f"$({one.name})" for one in found))
+    return [one for form in (is_numbered, is_automatic, lambda one: one.name in bound) for one in inner if form(one)]
+
+
+def key_of(line, span, is_by_target=False):
+    """These as a text, empty where it means the same everywhere; where targets are to be told apart with the target at
+    its end, beside which lists of prerequisites tell nothing more."""
+    found = [one for one in telling(line, span) if not (is_by_target and one.name in {*LISTS, "@"})]
+    texts = [one.text if one.substitution is None else f"$({one.name})" for one in found]
+    return "-".join(dict.fromkeys(texts + ["$@"] * is_by_target))
 
 
 def is_read_late(line):
@@ -132,15 +144,15 @@ def is_read_late(line):
 
 
 def asked_key(line, span):
-    """What a probe is to tell before a value: as `key_of`, with the target where there may be one."""
-    return key_of(line, span) + (f"{TARGET}$@" if is_read_late(line) else "")
+    """What a probe is to tell before a value: as `key_of`, also by the target where there may be one."""
+    return key_of(line, span) + (TARGET + key_of(line, span, True) if is_read_late(line) else "")
 
 
 def told_key(told, is_by_target):
     """What tells one use from another, of what a probe told before the value; the target counts where it is what
     settles the value."""
-    found, _, target = told.partition(TARGET)
-    return found if not is_by_target else f"{found}-{target}" if found else target
+    found, _, by_target = told.partition(TARGET)
+    return by_target if is_by_target else found
 
 
 class Call:
@@ -279,7 +291,8 @@ class Probes:
 
     def still_unsettled_calls(self):
         """The places of the calls in recipes, and in what these name, that have several values, though all that they
-        depend on is the same: as `$(wildcard $(@D))`, where another call makes that folder meanwhile."""
+        depend on is the same, as `$(wildcard $(@D))`, where another call makes that folder meanwhile; or is no part of
+        a name, as of `$(wildcard $^)`."""
         return frozenset((line, *call.chain[0]) for line, calls in self.calls.items() if is_read_late(line)
                          for call in calls if self.is_unsettled(call))
 
@@ -288,7 +301,8 @@ class Probes:
         if call.kind == "shell" and call.line.is_tab:
             return False
         pairs = set(self.pairs(call.line, call.chain[0]))
-        return len(dict(pairs)) < len(pairs) and all(len(self.told(call.line, span)) != 1 for span in call.chain)
+        are_settled = len(dict(pairs)) == len(pairs) and all(KEY.fullmatch(key) for key, _ in pairs if key)
+        return not are_settled and all(len(self.told(call.line, span)) != 1 for span in call.chain)
 
     def is_by_target(self, line, span):
         """Whether the target is what settles the value of the reference at this place."""
@@ -296,10 +310,7 @@ class Probes:
 
     def key(self, line, span):
         """What tells one use of a reference from another, as `key_of`, with the target where that alone settles it."""
-        found = key_of(line, span)
-        is_by_target = self.is_by_target(line, span)
-        return f"{found}-$@" if is_by_target and found else "$@" if is_by_target else found
-
+        return key_of(line, span, self.is_by_target(line, span))
 
     def of(self, line):
         """The refused calls of a line."""
@@ -353,7 +364,7 @@ class Probes:
         """The values by what they depend on; None where that doesn't settle them."""
         found = {}
         for key, value in self.pairs(line, span):
-            if found.setdefault(key, value) != value or not re.fullmatch(r"[\w./+@-]+", key) or "\n" in value:
+            if found.setdefault(key, value) != value or not KEY.fullmatch(key) or "\n" in value:
                 return None
         return found or None
 
