@@ -48,6 +48,25 @@ class OfTheRecipesShell(Tree):
                       "makes; kati has what it gives before the build\n", ran.said)
         self.assertNotIn("Makefile:2:", ran.said)
 
+    def test_what_a_wildcard_finds_is_told(self):
+        self.put("Makefile", "S = $(wildcard *.y)\nall: out\ng/a g/b: ; mkdir -p g; touch $@\n"
+                             "out: g/a g/b $(S)\n\techo $(wildcard g/*) > $@\n")
+        self.assertEqual(self.run_in("make").status, 0)
+        wanted = self.read("out")
+        self.assertEqual(self.run_in("rm", "-r", "out", "g").status, 0)
+        ran = self.tool("kati-build", "--port")
+        self.assertIn("kati-build: Makefile:5: $(wildcard g/*) finds g/a, g/b, which the build makes; kati has what it "
+                      "gives before the build\n", ran.said)
+        self.assertNotIn("Makefile:1:", ran.said)
+        self.ninja()
+        self.assertEqual(self.read("out"), wanted)
+
+    def test_what_a_wildcard_does_not_find_is_not(self):
+        self.put("Makefile", "S = $(wildcard *.y)\nall: a.y b\na.y: ; touch $@\n"
+                             "b: $(S)\n\techo $(if $(wildcard $@),there,new) $(wildcard a) > $@\n")
+        ran = self.tool("kati-port", "--write", "Makefile")
+        self.assertEqual((ran.status, "which the build makes" in ran.all), (0, False), ran.all)
+
     def test_what_a_recipe_reads_of_the_sources_stays_a_value(self):
         self.put_all({"Makefile": "all: out\nout: in\n\techo $(shell cat in) > $@\n", "in": "42\n"})
         ran = self.tool("kati-build", "--port")

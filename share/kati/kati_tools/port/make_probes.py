@@ -327,8 +327,18 @@ class Probes:
 
     def asked_of(self, call):
         """The patterns that a wildcard, the commands that a shell was asked for, and so on, each once."""
-        number = next((numbers[call] for numbers in self.asked if call in numbers), None)
-        return dict.fromkeys(one.split("|", 1)[1] for one in self.values.get(number, []))
+        return dict.fromkeys(one.split("|", 1)[1] for one in self.values.get(self.asked_number(call), []))
+
+    def asked_in_recipes(self, call):
+        """What a call was asked for where recipes have it, each time with what it depends on, which ends in the
+        target."""
+        told = (one.split("|", 1) for one in self.values.get(self.asked_number(call), []))
+        found = ((key.partition(TARGET)[2], text) for key, text in told)
+        return {(key, text) for key, text in found if key and not key.endswith("-")}
+
+    def asked_number(self, call):
+        """The number of the probe of what a call is asked for; None of another call."""
+        return next((numbers[call] for numbers in self.asked if call in numbers), None)
 
     def asked_behind(self, call, numbers):
         """What a call asks for by calls of one kind, which have these numbers; of a macro that has such calls, rather
