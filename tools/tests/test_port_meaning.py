@@ -37,6 +37,9 @@ TREES = {
     "a rule of make's own that is taken back":
         {"Makefile": "%: %.c\n%.o: %.c\n\tcp $< $@\n%: %.o\n\tcat $< > $@\nall: x\n.DEFAULT_GOAL := all\n"
                      ".PRECIOUS: x.o\n", "x.c": "x\n"},
+    **{f"-r by {words}": {"Makefile": f"{words} += -r\nall: out\nout: foo ; cp foo out\n", "foo": "a\n",
+                          "foo.sh": "b\n"}
+       for words in ("MAKEFLAGS", "export MAKEFLAGS", "override MAKEFLAGS")},
     "no suffixes": {"Makefile": ".SUFFIXES:\nall: x\n%: %.q\n\tcp $< $@\nx.c: ; touch x.c\n", "x.q": "q\n"},
     "a program from a script": {"Makefile": "all: foo\n", "foo.sh": "echo hi\n"},
     "a tab before an assignment behind a reference":

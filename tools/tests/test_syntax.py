@@ -330,6 +330,15 @@ class QuickLooks(unittest.TestCase):
         values = {"a": "1", "b": "2", "c": "3"}
         self.assertEqual(quick_looks.with_values("$(a)/${b}$(c:x=y)$d", values.get), "1/2$(c:x=y)$d")
 
+    def test_what_makes_a_difference_to_make_s_own(self):
+        taking = ("%: %.c\n", " %.o : %.c\n", ".SUFFIXES:\n", "$(eval .SUFFIXES:)\n", "MAKEFLAGS += -r\n",
+                  "export MAKEFLAGS:=rR\n", "MAKEFLAGS = --no-builtin-rules\n")
+        self.assertEqual([text for text in taking if not quick_looks.may_take_rules_back(text)], [])
+        self.assertFalse(quick_looks.may_take_rules_back("a: b\nb.o: %.o: %.c\n\t$(MAKE) $(MAKEFLAGS) r\n"))
+        wanted = {"SHELL = x\n": (True, False), ".a .POSIX:\n": (True, True), "a: b\n": (False, False)}
+        found = {text: (quick_looks.may_have_another_shell(text), quick_looks.may_be_posix(text)) for text in wanted}
+        self.assertEqual(found, wanted)
+
     def test_includes(self):
         softened = quick_looks.softened(self.TEXTS[1].encode()).decode()
         before, after = ([line.says.word for line in syntax.Makefile(text).lines

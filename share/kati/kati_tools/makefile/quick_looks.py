@@ -20,6 +20,9 @@ IGNORED_TABS = re.compile(r"""^[ ]*\$[({](?:eval|info|warning|error)\b.*\n
 # bytes stands where it is looked for, so that a line of many is looked through once.
 COMPUTED_RULE = re.compile(r"^(?![\t#])(?:\.[^\n:]*|[^\n$%]*[$%][^\n]*):.*", re.MULTILINE)
 ASSIGNING = re.compile(r":{1,3}=")
+# What may take back make's own rules.
+TAKING_BACK = re.compile(r"^ *%[^:=\n]*:[ \t]*%|\.SUFFIXES\b|\bMAKEFLAGS[ \t]*[:+?!]*=.*r|--no-builtin-rules",
+                         re.MULTILINE)
 # References to macros by names that are written out, with what may stand behind these, and without.
 NAMED, PLAIN = re.compile(r"\$[({]([^\s:,$(){}]+)"), re.compile(r"\$[({]([^\s:,$(){}]+)[)}]")
 
@@ -70,6 +73,21 @@ def computed_rules(text):
 def before_colons(line):
     """What stands before the last colon of a line that assigns nothing."""
     return ASSIGNING.sub(" ", line).rpartition(":")[0]
+
+
+def may_have_another_shell(text):
+    """Whether make may have another shell than the usual one by a makefile, or other flags for it."""
+    return "SHELL" in text or may_be_posix(text)
+
+
+def may_be_posix(text):
+    """Whether a makefile may have `.POSIX`."""
+    return ".POSIX" in text
+
+
+def may_take_rules_back(text):
+    """Whether a makefile may take back rules that make has by itself."""
+    return TAKING_BACK.search(text) is not None
 
 
 def names_in(text):

@@ -1,14 +1,9 @@
 """The shell and the flags by which make runs commands, which may be others than kati has: for `.POSIX` make hands -e to
 the shell, and has other macros by itself."""
-import re
-
 from ..make import command_environment, make_run
-from ..makefile import ported_text
+from ..makefile import ported_text, quick_looks
 from .mender import Mender
 
-# What may give make another shell, or other flags.
-MAY_BE_OTHERS = re.compile(r"SHELL|\.POSIX\b")
-POSIX = re.compile(r"^ *\.POSIX\b", re.MULTILINE)
 # What make has by itself, as kati-build --builtin has it, and has otherwise for `.POSIX`.
 OF_POSIX = {"ARFLAGS": "rv", "CC": "cc", "CFLAGS": "", "FC": "f77", "FFLAGS": ""}
 QUESTIONS = [f"$(origin {name}):$(value {name})" for name in OF_POSIX]
@@ -32,12 +27,12 @@ class ShellFlags(Mender):
 
     def is_posix(self):
         """Whether a makefile may have `.POSIX`."""
-        return any(POSIX.search(file.before) for file in self.port.ported.values())
+        return any(quick_looks.may_be_posix(file.before) for file in self.port.ported.values())
 
     def look(self):
         """Asks make, where the makefiles have what may give it others."""
         texts = [file.before for file in self.port.ported.values()]
-        if any(map(MAY_BE_OTHERS.search, texts)):
+        if any(map(quick_looks.may_have_another_shell, texts)):
             told = self.own_shell()
             self.shell, self.flags = (text or before for text, before in zip(told, (self.shell, self.flags)))
         if self.is_posix():

@@ -7,11 +7,10 @@ from ..base import files
 from ..base.programs import SHARE
 from ..build import translating
 from ..make import command_lists, make_run
+from ..makefile import quick_looks
 from . import port_report
 from .mender import Mender
 
-# What may take them back.
-MAY_TAKE_BACK = re.compile(r"^ *(?:%[^:=\n]*:[ \t]*%|\.SUFFIXES\b|MAKEFLAGS\b.*r)|--no-builtin-rules", re.MULTILINE)
 KNOWN = re.compile(r"\(filter ([^\s,]+),")
 # The rules of make's database, by what is made and from what; one that is taken back has no recipe.
 LISTED = re.compile(r"(\S*): %(\S+)\n#  recipe")
@@ -26,7 +25,7 @@ class TakenBack(Mender):
 
     def has_use_for_database(self):
         """Whether the makefiles may take rules back."""
-        return any(MAY_TAKE_BACK.search(file.before) for file in self.port.ported.values())
+        return any(quick_looks.may_take_rules_back(file.before) for file in self.port.ported.values())
 
     def begin(self):
         """Gives kati the list where make has told of its rules already, and nobody is to read the makefile."""
