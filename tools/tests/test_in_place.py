@@ -197,6 +197,21 @@ class Ported(Tree):
             (self.top / "out").unlink()
             (self.top / "kati-values.mk").unlink()
 
+    @needs("git")
+    def test_git_is_found_that_keeps_a_folder_above(self):
+        who = ["-c", "user.name=a", "-c", "user.email=a@b"]
+        self.put("Makefile", "V := $(shell git describe --always) $(shell git ls-files)\nout: ; echo $(V) > $@\n")
+        for words in (["init", "-q", ".."], ["add", "Makefile"], [*who, "commit", "-q", "-m", "one"]):
+            self.assertEqual(self.run_in("git", *words).status, 0)
+        self.assertEqual(self.run_in("make", "-s").status, 0)
+        wanted = self.read("out")
+        self.assertRegex(wanted, r"^\w{7,} Makefile\n$")
+        for copies in ("", "1"):
+            (self.top / "out").unlink()
+            ran = self.tool("kati-build", "--port", KATI_COPIES=copies)
+            self.assertEqual((ran.status, self.read("out")), (0, wanted), ran.all)
+            self.assertEqual(self.tool("kati-build", "--remove").status, 0)
+
     def test_a_copy_is_told(self):
         self.put("Makefile", LOOKS.format("echo 1"))
         words = "make was asked in a copy of this folder: the environment has KATI_COPIES\n"

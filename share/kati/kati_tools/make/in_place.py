@@ -18,6 +18,8 @@ from ..base.programs import inside
 
 # A variable of the environment that has make asked in copies.
 IN_COPIES = "KATI_COPIES"
+# A variable of the environment by which git looks above a file system, as what lies over a folder is one of its own.
+ACROSS = "GIT_DISCOVERY_ACROSS_FILESYSTEM"
 
 
 def in_place_or_copy(room, texts, call):
@@ -51,6 +53,18 @@ def above_home(folder):
     """Whether a folder is the user's home, or above it, or above all."""
     home = os.path.realpath(os.path.expanduser("~"))
     return os.path.commonpath([folder, home]) == folder
+
+
+def is_of_git_above(folder):
+    """Whether a folder is in a work tree of git's that begins above it, in the same file system."""
+    at, device = folder, os.stat(folder).st_dev
+    while os.stat(at).st_dev == device:
+        if os.path.exists(os.path.join(at, ".git")):
+            return at != folder
+        if at == os.path.dirname(at):
+            break
+        at = os.path.dirname(at)
+    return False
 
 
 def tops_of(texts):
@@ -110,6 +124,9 @@ class InPlace:
             if os.geteuid():
                 self.refuse_others()
             self.refuse_bare()
+            if is_of_git_above(self.real):
+                # In this process alone, which has a namespace of its own.
+                os.environ[ACROSS] = "1"
             is_user = namespaces.enter()
             if is_user and not os.geteuid():
                 self.refuse_others()
