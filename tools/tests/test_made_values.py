@@ -9,6 +9,9 @@ READING = {
     "among other words": "out: version.txt\n\techo a $(shell cat version.txt 2>/dev/null)b > $@\n",
     "by a macro": "FILE = version.txt\nout: version.txt\n\techo $(shell cat $(FILE) 2>/dev/null) > $@\n",
     "in braces": "out: version.txt\n\techo ${shell cat ./version.txt 2>/dev/null} > $@\n",
+    "by a pattern": "out: version.txt\n\techo $(shell cat v*.txt) $(shell echo version.*) > $@\n",
+    "by a list of this folder": "out: version.txt\n\techo $(shell ls | grep vers) > $@; cat version.txt >> $@\n",
+    "by find": "out: version.txt\n\techo $(shell find . -name 'v*.txt') > $@; cat version.txt >> $@\n",
     "twice": "out: version.txt\n\techo $(shell cat version.txt 2>/dev/null) > $@\n"
              "\techo $(shell wc -l < version.txt) >> $@\n",
 }

@@ -2,6 +2,7 @@
 
 Rather too much is taken than too little: make is only asked once more where a name that means nothing changes. What
 hangs on the machine, as `uname`, has no such words."""
+import fnmatch
 import os
 import re
 
@@ -34,20 +35,45 @@ class Simple(PlainCommand):
         super().__init__(words)
         self.folder = folder
 
-    def listed(self):
-        """The folders that it lists, this one too, as words to watch."""
+    def places(self):
+        """What it names of a folder that it may list, this one too."""
         names = [word for word in self.words if not word.startswith("-")]
         if self.program == "find":
             names = self.words[:next((at for at, one in enumerate(self.words) if one[:1] in ("-", "!")), None)]
+        return [os.path.normpath(os.path.join(self.folder, name)) for name in names or ["."]]
+
+    def is_deep(self):
+        """Whether it lists what is below folders, too."""
+        return self.program not in ("ls", "dir") or any(re.fullmatch(r"-\w*R\w*", one) for one in self.words)
+
+    def listed(self):
+        """The folders that it lists, as words to watch."""
         patterns = self.found_names() if self.program == "find" else []
-        is_deep = self.program not in ("ls", "dir") or any(re.fullmatch(r"-\w*R\w*", one) for one in self.words)
-        for name in names or ["."]:
-            place = os.path.normpath(os.path.join(self.folder, name))
-            if os.path.isdir(place) and is_deep:
+        for place in self.places():
+            if os.path.isdir(place) and self.is_deep():
                 yield from (f"{place}{watched.BELOW}/{one}" for one in patterns) if patterns else [
                     place + watched.BELOW]
             elif os.path.isdir(place) and "-d" not in self.words:
                 yield place
+
+    def patterns(self):
+        """The patterns for which the shell has names, as seen from here."""
+        words = [] if self.program == "find" else filter(watched.is_pattern, self.operands())
+        return [os.path.normpath(os.path.join(self.folder, word)) for word in words]
+
+    def finds(self, name):
+        """Whether it finds what has this name, by a pattern or by the folders that it lists."""
+        folder, last = os.path.split(name)
+        if any(one.count("/") == name.count("/") and fnmatch.fnmatchcase(name, one) for one in self.patterns()):
+            return True
+        named = self.found_names() if self.program == "find" else []
+        is_named = not named or any(fnmatch.fnmatchcase(last, one) for one in named)
+        return self.program in LISTING and "-d" not in self.words and is_named and self.lists(folder and f"{folder}/")
+
+    def lists(self, folder):
+        """Whether it lists what is in a folder, of which the name ends in a slash; of this one it is empty."""
+        tops = ["" if place == "." else f"{place}/" for place in self.places()]
+        return folder in tops or self.is_deep() and any(map(folder.startswith, tops))
 
     def is_recursive_grep(self):
         """Whether it reads all files of the folders that it names."""
@@ -83,6 +109,12 @@ def simple_commands(command):
         if one.program == "cd" and one.operands():
             folder = os.path.join(folder, one.operands()[0])
     return found
+
+
+def found_of(names, command):
+    """Those of these names that a command finds by the folders that it lists, or by patterns."""
+    simple = [one for one in simple_commands(command) if one.program in LISTING or one.patterns()]
+    return {name for name in names if any(one.finds(name) for one in simple)} if simple else set()
 
 
 def counts(name, is_lone):

@@ -6,6 +6,7 @@ import fnmatch
 import os
 
 from . import watched
+from .command_reads import found_of
 from .make_probes import is_read_late
 from .mender import Mender
 from .shell_writes import named_by
@@ -57,7 +58,8 @@ class MadeValues(Mender):
     def settle_call(self, call, made):
         """The same for a call, where it is frozen."""
         probes = self.port.probes
-        read = {name for command in probes.asked_behind(call, probes.commands) for name in named_by(command)} & made
+        commands = probes.asked_behind(call, probes.commands)
+        read = {name for command in commands for name in {*named_by(command) & made, *found_of(made, command)}}
         span = next((one for one in call.chain if one in call.line.edits), None)
         if not read or span is None or call in self.seen:
             return False
