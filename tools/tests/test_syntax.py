@@ -345,6 +345,12 @@ class QuickLooks(unittest.TestCase):
                           if line.kind is Kind.INCLUDE and not line.is_tab] for text in (self.TEXTS[1], softened))
         self.assertEqual((before, after), (["include", "include", "-include"], ["-include"] * 3))
 
+    def test_includes_that_lead_up(self):
+        self.assertTrue(all(map(quick_looks.may_include_up, (
+            "include a/../b\n", "A = 1\n  -include $(x)/../b\n", "\tinclude b a/..\n", "sinclude a \\\n b/../c\n"))))
+        self.assertFalse(any(map(quick_looks.may_include_up, (
+            "include ../b\n", "A = a/../b\n", "include a\nA = b/../c\n", "a: b/../c ; include\n"))))
+
     def test_tabs_that_kati_ignores(self):
         pieces = ("$(info x)\n", "${eval A = 1}\n", "$(eval \\\n x)\n", "$(call a)\n", "\tA = 1\n", "\tifdef A\n",
                   "ifdef A\n", "else\n", "endif\n", "\tendif\n", "# a\n", "\n", "a:\n", "B = 1\n", "\techo\n", "  \n")

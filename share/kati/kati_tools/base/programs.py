@@ -1,5 +1,6 @@
 """Where the programs are that the tools run, and how they are run."""
 import contextlib
+import gc
 import os
 import sys
 
@@ -16,6 +17,10 @@ UNFORESEEN, INTERRUPTED = 70, 130
 # Two signals by their numbers, since the module that names them takes time to load.
 KILL_SIGNAL, PIPE_SIGNAL = 9, 13
 
+
+# So many objects come into being before those are looked for that only refer to each other, where Python itself would
+# look after 700, which takes a sixth of a port's time: what a run has read it mostly needs to its end.
+OBJECTS_BETWEEN_LOOKS = 100_000
 
 # Calls that take away what is there for a while; each takes itself out of the list.
 LEFT = []
@@ -237,6 +242,7 @@ def ending(tool, call, *given):
     """What a call answers, or the status with which the parser of the command line ends. A Stop, a fault of a file, an
     interrupt and whatever else is left end the tool with a line and a status: here alone, so that none ends with a
     traceback."""
+    gc.set_threshold(OBJECTS_BETWEEN_LOOKS)
     try:
         open_what_is_closed()
         return call(*given)

@@ -15,8 +15,8 @@ END = ":kati@@"
 TOLD = re.compile(rf"{ANSWER}(\d+) (.*?){END}\n", re.DOTALL)
 OWN_SHELL = ("$(SHELL)", "$(.SHELLFLAGS)")
 SECONDS = 120
-# The special target in make's database.
-NOT_PARALLEL = re.compile(r"^\.NOTPARALLEL:", re.MULTILINE)
+# The special target in make's database, at the beginning of a line: a form of that takes ten times as long.
+NOT_PARALLEL = "\n.NOTPARALLEL:"
 # What stands before make's database, behind its commands, in its own language.
 DATABASE, DATABASE_OF = "\n# Make data base, printed on ", re.compile(r"(?:# .*\n)+")
 # What a recipe tells of the flags of a run that asks, and what one has make say behind those of makefiles; and flags by
@@ -139,7 +139,7 @@ class MakeRun:
             return self.run([*words, *self.macros, f"SHELL={self.noop}"], given)[1]
 
         database = recipe_shell.refuse_others(look, self.makefile, self.room)
-        self.is_not_parallel = NOT_PARALLEL.search(database) is not None
+        self.is_not_parallel = NOT_PARALLEL in database
         self.answers.tell(kept_answers.SHELLS, self.is_not_parallel)
 
     def only_read(self, goal, *flags):

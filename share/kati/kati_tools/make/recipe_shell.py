@@ -9,6 +9,7 @@ import re
 from ..base.programs import Stop
 
 WRONG = 1
+NAME = "SHELL"
 # Where make says that what follows stands, in the locale C; a value, for all, for a target or for a pattern.
 PLACE = re.compile(r"#.* \(from '(.*)', line (\d+)\):?$")
 SHELL = re.compile(r"(?:# |[^\t#=]*: )?(define )?SHELL(?: :{0,3}=)?(?: (.*))?")
@@ -64,16 +65,29 @@ def fault_in(line, room, is_body):
     return "override of SHELL" if may_run and LATER.search(line) else None
 
 
+def lines_with_name(database):
+    """The lines of a database, which begins with a newline, that have the name SHELL: where each begins and ends, and
+    whether it stands between a `define` and its `endef`. All others, which are most, are passed over unread."""
+    last, is_body, at = 0, False, database.find(NAME)
+    while at >= 0:
+        begin = database.rfind("\n", 0, at)
+        opened, closed = database.rfind("\ndefine ", last, begin), database.rfind("\nendef\n", last, begin + 1)
+        is_body = is_body if opened == closed else opened > closed
+        end = database.find("\n", at)
+        end = end if end >= 0 else len(database)
+        yield begin + 1, end, is_body
+        last, at = begin, database.find(NAME, end)
+
+
 def first_fault(database, makefile, room):
     """The place in make's database that tells of a shell that isn't one of the folder `room`, and what is wrong there;
     None where none is."""
-    is_body, lines = False, database.split("\n")
-    for at, line in enumerate(lines):
-        # What has no such name is most of a database, and is told apart in a tenth of the time.
-        words = fault_in(line, room, is_body) if "SHELL" in line else None
+    database = f"\n{database}"
+    for begin, end, is_body in lines_with_name(database):
+        words = fault_in(database[begin:end], room, is_body)
         if words:
-            return f"{place_of(place_before(lines[:at + 1]), makefile)}: {words}"
-        is_body = line.startswith("define ") or is_body and line != "endef"
+            place = place_before(database[1:end].split("\n"))
+            return f"{place_of(place, makefile)}: {words}"
     return None
 
 

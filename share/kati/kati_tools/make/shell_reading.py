@@ -14,6 +14,11 @@ SPECIAL = re.compile(r"[\\'\"#`\n]")
 PLAIN = re.compile(r"""[^\\'"#\s()$`;&|<>]+(?: [^\\'"#\s()$`;&|<>]+)*""")
 PLAIN_IN_QUOTES = re.compile(r"""[^"\\$]+""")
 BLANKS = re.compile(r"[ \t]+")
+# What is kept as it is: a text within quotes, and what a backslash quotes; a text of which that is all that is special;
+# and what is kept of such a text, of which a run of blanks is one, and none before a semicolon.
+QUOTED = r"""'[^'\n]*'|"(?:[^"\\`$\n]|\\[^\n])*"|\\[^ \t\n]"""
+QUOTED_ALONE = re.compile(rf"""(?:[^\\'"#`\n$]|{QUOTED})*""")
+QUOTED_OR_BLANKS = re.compile(rf"({QUOTED})|[ \t]+(;?)")
 # What begins a word, so that a `#` behind it begins a comment.
 BEFORE_WORD = frozenset(" \t\n;&|()<>")
 # Words of the shell behind which a command begins, where they stand where one may.
@@ -188,6 +193,9 @@ def with_single_blanks(text):
     if not SPECIAL.search(text):
         # As most are, which is told apart in a hundredth of the time.
         return BLANKS.sub(" ", text).replace(" ;", ";").strip(" ")
+    if QUOTED_ALONE.fullmatch(text):
+        # As most others are.
+        return QUOTED_OR_BLANKS.sub(lambda found: found.group(1) or found.group(2) or " ", text).strip(" ")
     return read(text, has_single_blanks=True)
 
 

@@ -6,9 +6,11 @@ AND = " && "
 IGNORED = " || :; }"
 STOPS = set("();<>|&")
 SPECIAL = re.compile(r"""[();<>|&'"\\]""")
-# A part of a word: plain, or quoted in one of three ways; or what parts words.
-PART = re.compile(r"""([^ \t\r\n();<>|&'"\\]+)|'([^']*)'|"((?:[^"\\]|\\.)*)"|\\(.)|([();<>|&]+)|[ \t\r\n]+""",
-                  re.DOTALL)
+# A part of a text: plain words, a text quoted in one of three ways, or what parts commands; and what parts words.
+PART = re.compile(r"""([^();<>|&'"\\]+)|'([^']*)'|"((?:[^"\\]|\\.)*)"|\\(.)|([();<>|&]+)""", re.DOTALL)
+BLANKS = re.compile(r"[ \t\r\n]+")
+# Which of these is plain, which is quoted by double quotes, and which parts commands.
+PLAIN, IN_QUOTES, OPERATOR = 1, 3, 5
 # What a backslash quotes within double quotes.
 QUOTED_IN_QUOTES = re.compile(r'\\(["\\])')
 
@@ -57,33 +59,50 @@ def pieces(command):
         return None
 
 
+# A command is asked for these by many, too.
+@functools.lru_cache(1 << 16)
 def simple_commands(text):
     """The words of each simple command in a shell's text; none where its quotes don't close."""
     if not SPECIAL.search(text):
         # As most are.
-        return [text.split()] if text.strip() else []
+        return (tuple(text.split()),) if text.strip() else ()
     found = [[]]
     for word in shell_words(text) or []:
         if word and set(word) <= STOPS:
             found.append([])
         else:
             found[-1].append(word)
-    return [words for words in found if words]
+    return tuple(map(tuple, filter(None, found)))
+
+
+def take_plain(text, word, found):
+    """Adds the words of a plain text, of which the first may go on with a word, to those that are found; answers the
+    word that is open at its end, None without one."""
+    first, *more = BLANKS.split(text)
+    if first:
+        word = first if word is None else word + first
+    if not more:
+        return word
+    found += more[:-1] if word is None else [word, *more[:-1]]
+    return more[-1] or None
 
 
 def shell_words(text):
     """The words of a shell's text without their quotes, and what parts commands, as shlex tells them in ten times the
     time; None where a quote doesn't close."""
     found, word, at = [], None, 0
-    while at < len(text):
-        part = PART.match(text, at)
-        if part is None:
+    for part in PART.finditer(text):
+        if part.start() != at:
             return None
-        at = part.end()
-        if part.lastindex in (None, 5):
-            found += [one for one in (word, part.group(5)) if one is not None]
+        at, kind, text_of_it = part.end(), part.lastindex, part.group(part.lastindex)
+        if kind == OPERATOR:
+            found += [text_of_it] if word is None else [word, text_of_it]
             word = None
+        elif kind == PLAIN:
+            word = take_plain(text_of_it, word, found)
         else:
-            quoted = part.group(part.lastindex)
-            word = (word or "") + (QUOTED_IN_QUOTES.sub(r"\1", quoted) if part.lastindex == 3 else quoted)
+            quoted = QUOTED_IN_QUOTES.sub(r"\1", text_of_it) if kind == IN_QUOTES else text_of_it
+            word = quoted if word is None else word + quoted
+    if at != len(text):
+        return None
     return found if word is None else [*found, word]

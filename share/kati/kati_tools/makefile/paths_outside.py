@@ -72,25 +72,34 @@ class Text:
             left += values
         return found
 
-    def words(self, number):
-        """The macros of one word, with these; where one has several values, by that of this number or the last."""
-        found = ((name, values[min(number, len(values) - 1)].split("#")[0].strip())
-                 for name, values in self.values.items())
-        return {name: value for name, value in found if len(value.split()) == 1}
+    def word(self, name, number):
+        """The value of a macro, where that is one word; where it has several, that of this number or the last."""
+        values = self.values.get(name)
+        value = values[min(number, len(values) - 1)].split("#")[0].strip() if values else ""
+        return value if len(value.split()) == 1 else None
 
     @staticmethod
-    def expanded(line, words):
-        """A line in which each of these macros is its value."""
+    def expanded(line, value_of):
+        """A line in which each macro is its value."""
         for _ in range(MOST_LEVELS):
-            line, before = quick_looks.with_values(line, words.get), line
+            line, before = quick_looks.with_values(line, value_of), line
             if line == before:
                 break
         return line
 
     def expansions(self, lines):
-        """What lines may say, by each value of their macros."""
+        """What lines may say, by each value of their macros. A line whose macros have no further value says nothing
+        else by the next ones."""
         count = min(max(map(len, self.values.values()), default=1), MOST_LEVELS)
-        return {self.expanded(line, words) for words in map(self.words, range(count)) for line in lines}
+        found = set()
+        for number in range(count):
+            value_of, left = functools.lru_cache(None)(functools.partial(self.word, number=number)), []
+            for line in lines:
+                named = set()
+                found.add(self.expanded(line, lambda name: named.add(name) or value_of(name)))
+                left += [line] if any(len(self.values.get(name, ())) > number + 1 for name in named) else []
+            lines = left
+        return found
 
     def with_paths(self):
         """The even text in which the paths of rules stand."""

@@ -61,6 +61,9 @@ class PortedLine(syntax.Line):
 
     def now(self):
         """The line as it is."""
+        if not (self.edits or self.is_wrapped or self.before is not None or self.behind is not None):
+            # As most are.
+            return self.text
         text = self.edited()
         if self.is_wrapped:
             katis = self.for_kati(text) if self.for_kati else None
@@ -79,9 +82,7 @@ class PortedLine(syntax.Line):
 
     def assignment(self):
         """The name, operator and value of an assignment, whatever stands before it; None for another line."""
-        if self.is_body or self.is_tab:
-            return None
-        return assigned(self.joined)
+        return None if self.is_tab or self.kind is syntax.Kind.BODY else assigned(self.joined)
 
     def expanded_length(self):
         """Up to where the line may be expanded: to its comment, where it can have one."""
@@ -134,5 +135,7 @@ def definitions(lines):
             yield name, line
         elif line.kind is syntax.Kind.DEFINE:
             name = line.says.name
-        elif line.assignment():
-            yield line.assignment()[0], line
+        else:
+            found = line.assignment()
+            if found:
+                yield found[0], line

@@ -7,6 +7,8 @@ import re
 CONTINUED = re.compile(r"(\\+)\r?\n[ \t]*")
 # An `include` at a line's beginning; a line that another one continues in is none.
 HARD_INCLUDE = re.compile(rb"(?<!\\\n)^( *)include(?=[ \t])", re.MULTILINE)
+# An include with `..` behind a folder.
+INCLUDE_UP = re.compile(r"^[ \t]*[-s]?include\b.*/\.\.", re.MULTILINE)
 # A line of a rule that has no recipe, as compilers write them; and how such a file ends.
 RULE_ALONE = re.compile(r"[^\t#=]*:[^=]*|[ \t]*|#.*")
 # A line that is no recipe line, behind a line's end; and a recipe on the line of its rule.
@@ -63,6 +65,11 @@ def may_have_ignored_tabs(text):
 def may_have_rule(text, name):
     """Whether a rule in a makefile's text, in which continued lines are joined, may have a name before its colon."""
     return name in text and re.search(rf"^(?![\t#])[^\n]*{re.escape(name)}[^\n]*:", text, re.MULTILINE) is not None
+
+
+def may_include_up(text):
+    """Whether a makefile may include something by `..` behind a folder."""
+    return "/.." in text and INCLUDE_UP.search(without_continuations(text)) is not None
 
 
 def computed_rules(text):

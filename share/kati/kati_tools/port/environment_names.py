@@ -114,28 +114,41 @@ def hanging(lines):
     return found | (come_to(found | of_the_usual_rules()) - settled)
 
 
-def referred(lines, commands):
-    """The names of the environment on which makefiles with these lines hang, and these commands of their calls; those
-    that aren't there now count too."""
-    found = {*hanging(lines), *(name for one in commands for name in of_the_shell(one))}
+def names_among(found, commands):
+    """Those of the names that are `found` which the environment may have, with those of these commands."""
+    found = {*found, *(name for one in commands for name in of_the_shell(one))}
     return sorted(name for name in found if NAME.fullmatch(name) and name not in OF_THE_RUN)
 
 
-def watched(lines, commands):
-    """The names of which make is asked again where the environment has another value: these, and macros that lines
-    assign, since make hands those that the environment has to its commands with its own value."""
+def referred(lines, commands):
+    """The names of the environment on which makefiles with these lines hang, and these commands of their calls; those
+    that aren't there now count too."""
+    return names_among(hanging(lines), commands)
+
+
+def watched(lines, found, commands):
+    """The names of which make is asked again where the environment has another value: those that are `found` and those
+    of the commands, and macros that lines assign, since make hands those that the environment has to its commands with
+    its own value."""
     assigned = {assigned_by(line)[0] for line in lines}
-    return sorted({*referred(lines, commands), *filter(NAME.fullmatch, assigned - OF_THE_RUN)})
+    return sorted({*names_among(found, commands), *filter(NAME.fullmatch, assigned - OF_THE_RUN)})
+
+
+def values_of(found):
+    """The values of the environment, by those of the names that are `found`, but for those of several lines."""
+    given, names = make_commands.environment(), names_among(found, ())
+    return {name: given[name] for name in names if name in given and "\n" not in given[name]}
 
 
 def handed(lines):
     """The values of the environment that kati gets, by their names, as makefiles with these lines have them."""
-    given, names = make_commands.environment(), referred(lines, ())
-    return {name: given[name] for name in names if name in given and "\n" not in given[name]}
+    return values_of(hanging(lines))
 
 
 def hand(port):
     """Gives kati what the makefiles of a port refer to, and notes of which variables make is asked again."""
-    port.values.environment = handed(port.lines())
+    lines = list(port.lines())
+    found = hanging(lines)
+    port.values.environment = values_of(found)
     asked = [command for call in port.probes.commands for command in port.probes.asked_of(call)]
-    port.first.of_environment = watched(port.lines(), asked)
+    port.first.of_environment = watched(lines, found, asked)

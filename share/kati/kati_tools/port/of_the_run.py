@@ -1,5 +1,5 @@
 """What tells of the run, as `CURDIR`: kati is given make's value of it."""
-from ..makefile import syntax
+from ..makefile import quick_looks, syntax
 from ..build import translating
 
 # What tells of the run, and is asked for where a makefile names it.
@@ -8,7 +8,9 @@ RUN = ("CURDIR", "MAKECMDGOALS", "MAKELEVEL", "MAKE_COMMAND", "MAKE_HOST", "PWD"
 
 def named(text, assigned):
     """What of it makefiles with this text ask for, without what they assign."""
-    asked = syntax.asked_for(text)
+    # What names none of it, which are nearly all lines, needn't be read for that.
+    lines = [line for line in quick_looks.without_continuations(text).split("\n") if any(name in line for name in RUN)]
+    asked = syntax.asked_for("\n".join(lines))
     return [name for name in RUN if name in asked and name not in assigned]
 
 

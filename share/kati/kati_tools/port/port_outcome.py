@@ -5,7 +5,7 @@ import shutil
 from dataclasses import dataclass, field
 
 from ..base import files
-from ..makefile import includes, statements, syntax
+from ..makefile import includes, quick_looks, statements, syntax
 from . import dependency_includes, double_colons, frozen_values, known, made_values, other_goals, port_report, \
     rewriting, shell_writes, unseen_reads, watched, written_outside
 from .stuck import Stuck
@@ -83,7 +83,7 @@ def kept_in(folder, names):
 
 def folders_of(made):
     """The folders through which makefiles name others by `..`, as x of x/../y.mk."""
-    lines = [line for file in made.ported.values() if "/.." in file.before
+    lines = [line for file in made.ported.values() if quick_looks.may_include_up(file.before)
              for line in syntax.Makefile(file.before).lines]
     names = [statements.without_comment(line.text)[statements.first_word(line.text)[1]:].strip()
              for line in lines if line.kind is syntax.Kind.INCLUDE and "/.." in line.text]

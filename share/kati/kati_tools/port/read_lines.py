@@ -63,7 +63,7 @@ class ReadLines:
     def is_read(self, line):
         """Whether make reads a line, and kati surely does too."""
         found = self.syntax.get(line)
-        return found is not None and all(self.is_taken(*one) for one in found.around)
+        return found is not None and (not found.around or all(self.is_taken(*one) for one in found.around))
 
     def kind(self, line):
         """What syntax.py says that a line is; None where it isn't known."""

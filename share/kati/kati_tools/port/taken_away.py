@@ -16,7 +16,7 @@ PLAIN = re.compile(r"[\w./+-]+")
 
 def removed_by(command):
     """The names and patterns that a command of kati's takes away, as seen from this folder."""
-    for text in comparing.unwrapped(command) if REMOVES.search(command) else ():
+    for text in comparing.unwrapped(command) if "rm" in command and REMOVES.search(command) else ():
         for one in (one for one in command_reads.simple_commands(text) if one.program == "rm"):
             is_deep = any(DEEP.fullmatch(word) for word in one.words)
             for name in one.operands():

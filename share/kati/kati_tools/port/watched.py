@@ -71,16 +71,17 @@ def walked(folder):
         own = own_files.among(at, [*folders, *names])
         folders[:] = [one for one in folders if one not in sources.CONTROL and one not in own
                       and not scratch.is_room(os.path.join(at, one))]
-        kept = [one for one in names if one not in sources.OWN and one not in own]
-        yield at, folders + [one for one in kept if not is_values_file(os.path.join(at, one))]
+        kept = [one for one in names if one not in sources.OWN and one not in own
+                and (one != VALUES or not is_values_file(os.path.join(at, one)))]
+        yield at, folders + kept
 
 
 def below(word):
     """The names below a folder that fit, for a word with `**`."""
     folder, _, pattern = word.partition("**")
     pattern = pattern.lstrip("/").replace("[^", "[!") or "*"
-    return [os.path.join(at, name) for at, names in walked(folder.rstrip("/"))
-            for name in fnmatch.filter(names, pattern)]
+    return [before + name for at, names in walked(folder.rstrip("/")) for before in [os.path.join(at, "")]
+            for name in (names if pattern == "*" else fnmatch.filter(names, pattern))]
 
 
 def fitted(word):
