@@ -1,4 +1,5 @@
 """What a port costs: runs of kati and of make don't grow with the number of faults that don't hang on each other."""
+import gc
 import os
 import random
 import shlex
@@ -9,7 +10,8 @@ from unittest import mock
 
 from support import Tree, kati, kati_asked, needs
 
-from kati_tools.make import make_run, recipe_shell, running, shell_text
+from kati_tools.base import programs
+from kati_tools.make import make_run, recipe_shell, running, shell_reading, shell_text
 from kati_tools.port import command_reads, freezing, frozen_values, make_probes
 
 # Of each construct: lines of a makefile, and what its recipe has of them; ~ stands for a number.
@@ -122,12 +124,54 @@ class Cost(Tree):
 
     def test_a_build_mends_beside_each_other_what_its_commands_have(self):
         """Rules that are taken back, macros of targets, text within quotes, blanks of `+=` and exported variables,
-        which make and kati have otherwise, cost one translation more together."""
+        which make and kati have otherwise, cost one translation more together; make tells of all of them in the runs
+        by which it tells its commands and values."""
         self.put_all({"a.c": "", "Makefile": "MAKEFLAGS += -r\nN := $(shell echo 1)\nexport E = e\nV =\nV += x\n"
                       "prog: F = 1\nprog: a.c\n\techo '$(F) a\\\n\tb' $$E \"$(V)\" $(N) > $@\n"})
         katis, makes, said = self.runs("--port", "--no-ninja", tool="kati-build")
         self.assertNotIn("differ", said)
+        self.assertEqual((katis, makes), (5, 5))
+
+    def test_what_is_appended_to_an_immediate_macro_is_asked_for_apart(self):
+        """Where it is references alone, whether it comes to something isn't asked beside the values of calls, which
+        would be run once more by that."""
+        self.put("Makefile", "N := $(shell echo)\nV := 1\nV += $(N)\nall: ; echo '[$(V)]' > out\n")
+        katis, makes, said = self.runs("--port", "--no-ninja", tool="kati-build")
+        self.assertNotIn("differ", said)
         self.assertEqual((katis, makes), (5, 6))
+
+    def test_a_call_that_make_did_not_come_by_is_mended_with_the_one_round_it(self):
+        """As that of a folder which is there: it isn't left for a fault of its own."""
+        counts = []
+        for output, used in (("a.ninja", ""), ("b.ninja", "$(M)")):
+            self.put("Makefile", "F := $(shell echo f)\nM = $(if $(wildcard $(@D)),,$(shell mkdir -p $(@D)))\n"
+                                 f"out:\n\t{used}echo $(F) > $@\n")
+            katis, makes, said = self.runs("--port", "--no-ninja", "-o", output, tool="kati-build")
+            self.assertNotIn("differ", said)
+            counts.append((katis, makes))
+        self.assertEqual(counts[0], counts[1])
+
+    def test_makefiles_that_make_has_no_recipe_for_are_not_asked_about(self):
+        """As make's database tells it, though a rule with a reference in its targets may be that of each."""
+        counts = []
+        self.put("a.mk", "")
+        for target in ("out", "$(X)"):
+            self.put("Makefile", f".SUFFIXES:\nX := $(shell echo out)\ninclude a.mk\n{target}: ; echo > $@\n")
+            *runs, said = self.runs("--diff", "Makefile")
+            self.assertIn("kati's commands are make's\n", said)
+            counts.append(runs)
+        self.assertEqual(counts[0], counts[1])
+
+    def test_an_include_that_the_goals_need_is_translated_with_them(self):
+        """What makes an include is a statement already then; else the makefile is translated once more for it."""
+        counts = []
+        for need in ("conf.mk", "a.c"):
+            self.put_all({"a.c": "", "conf.in": "", "conf.mk": "C = 1\n", "Makefile":
+                          f"prog: a.c {need}\n\techo $(C) > $@\ninclude conf.mk\nconf.mk: conf.in\n\tcp $< $@\n"})
+            katis, _, said = self.runs("--no-ninja", "-o", f"{need}.ninja", tool="kati-build")
+            self.assertEqual(said, "")
+            counts.append(katis)
+        self.assertEqual(counts, [4, 5])
 
     def test_what_make_does_not_come_by_stays(self):
         self.put("Makefile", "A := $(shell echo a)\nifeq ($(A),b)\nB := $(shell echo b)\nexport C\nelse ifeq ($(A),a)\n"
@@ -173,6 +217,17 @@ class Quick(unittest.TestCase):
             text = "".join(made.choice(letters) for _ in range(made.randrange(12)))
             self.assertEqual(shell_text.shell_words(text), slow(text), text)
 
+    def test_commands_with_single_blanks_are_as_they_are_read(self):
+        made, seen = random.Random(2), 0
+        letters = ["a", "-b", " ", "  ", "\t", "\n", "'", '"', "\\", ";", "&&", "(", ")", "<<", "$", "$(", "#", "`",
+                   " ;"]
+        for _ in range(20000):
+            text = "".join(made.choice(letters) for _ in range(made.randrange(12)))
+            seen += shell_reading.SPECIAL.search(text) is not None and bool(shell_reading.QUOTED_ALONE.fullmatch(text))
+            if shell_reading.SPECIAL.search(text):
+                self.assertEqual(shell_reading.with_single_blanks(text), shell_reading.read(text, True), text)
+        self.assertGreater(seen, 500)
+
     def test_answers(self):
         out = ("cc a\n@@kati:0 a b:kati@@\n@@kati:12 1\n2:kati@@\nx @@kati:0 :kati@@\n"
                "@@kati:x y:kati@@\n@@kati:3 open\n")
@@ -190,6 +245,34 @@ class Quick(unittest.TestCase):
         with mock.patch.object(recipe_shell, "fault_in", wraps=recipe_shell.fault_in) as looks:
             self.assertEqual(recipe_shell.first_fault(database, "m", "/room"), "m:3: override of SHELL")
         self.assertEqual(looks.call_count, 1)
+
+    def test_its_lines_are_judged_as_where_all_are_looked_at(self):
+        def slow(database):
+            is_body = False
+            for line in database.split("\n"):
+                words = recipe_shell.fault_in(line, "/room", is_body) if "SHELL" in line else None
+                if words:
+                    return f"m: {words}"
+                is_body = line.startswith("define ") or is_body and line != "endef"
+            return None
+
+        made, seen = random.Random(3), set()
+        lines = ("SHELL = /bin/sh", "SHELL = /room/noop", "define X", "define SHELL", "endef", "endefs", "a: SHELL = x",
+                 "\toverride SHELL=x", "X = $(eval override SHELL := y)", "MAKEFLAGS = SHELL=/x", "X = 1", "")
+        for _ in range(5000):
+            database = "\n".join(made.choice(lines) for _ in range(made.randrange(9)))
+            found = slow(database)
+            self.assertEqual(recipe_shell.first_fault(database, "m", "/room"), found, database)
+            seen.add(found)
+        self.assertGreater(len(seen), 2)
+
+    def test_python_looks_seldom_for_what_refers_to_itself_alone(self):
+        before = gc.get_threshold()
+        try:
+            found = programs.ending("kati-build", gc.get_threshold)
+        finally:
+            gc.set_threshold(*before)
+        self.assertGreaterEqual(found[0], 100_000)
 
     def test_a_command_of_many_calls_is_looked_at_once(self):
         probes = types.SimpleNamespace(asked=[{}, {}, {}, {}])

@@ -189,6 +189,9 @@ class Looking:
         if not names:
             self.doubt(wrapped)
             return None
+        if self.found.outputs.issuperset(names):
+            # The goals need them, so their statements are there.
+            return MadeIncludes(self.asking, names, self.found, False, len(goals))
         own = self.translator.words
         self.translator.words = [*goals, *(name for name in names if name not in goals), *macros_of(own)]
         more = again()

@@ -115,9 +115,9 @@ def asked_probes(port):
     asked.ask(ported, port.run, port.room)
     while True:
         if known[0] != probes.unsettled:
-            probes = make_probes.Probes(ported, known[0], asked.read)
+            probes = make_probes.Probes(ported, known[0], asked)
             if not probes.take(asked):
-                probes = asked = make_probes.Probes(ported, known[0])
+                probes = asked = make_probes.Probes(ported, known[0], asked)
                 asked.ask(ported, port.run, port.room)
         probes.by_target = known[1]
         more = probes.still_unsettled(ported), probes.by_target | probes.still_unsettled_calls()

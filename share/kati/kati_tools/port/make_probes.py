@@ -11,7 +11,7 @@ from ..makefile.forms import refused_function
 from ..makefile.references import BLANKS
 from ..makefile.syntax import Kind
 from ..make.make_run import ANSWER, END, answered
-from . import read_lines
+from . import append_probes, read_lines
 
 AUTOMATIC = {mark + part for mark in "@<^+?*|%" for part in ("", "D", "F")}
 # Those of them that may have several words.
@@ -223,19 +223,26 @@ def kind_of(reference, refused, unsettled=()):
 class Probes:
     """The calls of makefiles, by their lines, and the values that make told of them. References to the macros
     `unsettled`, which have the kinds of the calls in them, count as such calls. The values of those at the places
-    `by_target` depend on the target, too."""
+    `by_target` depend on the target, too. What those of `before` have found in the same files, for other such macros,
+    isn't looked for again."""
 
-    def __init__(self, ported, unsettled=None, read=None):
-        self.refused, self.unsettled, self.by_target = refused_macros(ported), unsettled or {}, frozenset()
+    def __init__(self, ported, unsettled=None, before=None):
+        self.unsettled, self.by_target = unsettled or {}, frozenset()
+        self.refused = refused_macros(ported) if before is None else before.refused
         self.calls, self.numbers, self.values, self.known = {}, {}, {}, {}
         # The words of rule lines that come to names with wildcards, by their places.
         self.words = {}
         # What each call of `wildcard`, `shell` and their kin is asked for is told as well, by numbers of their own.
         self.asked = [{} for _ in ASKED]
         self.patterns, self.commands, self.links, self.contents = self.asked
-        self.read = read or read_lines.ReadLines(ported)
+        self.read = before.read if before else read_lines.ReadLines(ported)
+        # What it told of lines that append.
+        self.appends = append_probes.AppendProbes(())
+        # The macros by which lines may have other calls than before; of all others these are known.
+        others = {name for name, _ in self.unsettled.items() ^ before.unsettled.items()} if before else set()
         for line in (line for file in ported for line in file.lines):
-            self.add(line)
+            is_known = before is not None and others.isdisjoint(references.names_in(line.text))
+            self.add(line, before.calls.get(line, []) if is_known else None)
 
     def take(self, others):
         """Takes what make told of other probes, if these were among them; answers whether they were."""
@@ -244,14 +251,14 @@ class Probes:
             known = {(call.line, *call.chain[0]): number for call, number in asked.items()}
             own.update((call, known.get((call.line, *call.chain[0]))) for call in own)
             are_all = are_all and None not in own.values()
-        self.numbers, self.values, self.read = others.numbers, others.values, others.read
+        self.numbers, self.values, self.read, self.appends = others.numbers, others.values, others.read, others.appends
         return are_all
 
-    def add(self, line):
-        """Adds a line's calls; answers them."""
+    def add(self, line, known=None):
+        """Adds a line's calls, which may be known; answers them."""
         # Comments of recipes and of bodies are expanded as all else there.
         is_comment = line.joined.lstrip().startswith("#") and not (line.is_tab or line.is_body)
-        found = [] if is_comment else self.calls_of(line)
+        found = known if known is not None else [] if is_comment else self.calls_of(line)
         if found:
             self.calls[line] = found
         for call in found:
@@ -370,6 +377,13 @@ class Probes:
         calls = self.of(line)
         return bool(calls) and all(self.told(line, call.chain[0]) for call in calls)
 
+    def are_met(self, line):
+        """Whether make asked for a refused call of a line, and for what holds each other one, as the call of `shell` in
+        `$(if $(wildcard $(@D)),,$(shell mkdir $(@D)))`."""
+        calls = self.of(line)
+        return any(self.told(line, call.chain[0]) for call in calls) and all(
+            any(self.told(line, span) for span in call.chain) for call in calls)
+
     def table(self, line, span):
         """The values by what they depend on; None where that doesn't settle them."""
         found = {}
@@ -420,11 +434,14 @@ class Probes:
 
     def ask(self, ported, run, room):
         """Puts the probes into the files, asks make once, and takes them out again."""
-        self.read = read_lines.ReadLines(ported)
-        status, found = self.answers(ported, run, room, self.read.marked)
+        self.appends = append_probes.AppendProbes(ported)
+        status, found = self.answers(
+            ported, run, room, lambda line, text: self.appends.marked(line, self.read.marked(line, text)))
         if status:
+            self.appends = append_probes.AppendProbes(())
             status, found = self.answers(ported, run, room, lambda line, text: text)
         self.values, self.known, self.read.told = found, {}, set(found)
+        self.appends.take(found)
         for file in ported:
             files.replace(file.name, file.before, room)
 

@@ -8,20 +8,39 @@ from . import asking_kati
 
 # Names that a prerequisite can have.
 PLAIN = re.compile(r"[\w./+@,~-]+")
+# What stands in make's database in the lines of a file that has a recipe.
+OF_RECIPE = "\n#  recipe to execute"
 # kati's faults in what a recipe or a name expands to; others are of rules that make each other, which stay.
 MENDED = ("E16", "E18", "E32")
 
 
+def places_of(text, part):
+    """Where a part stands in a text."""
+    at = text.find(part)
+    while at >= 0:
+        yield at
+        at = text.find(part, at + 1)
+
+
+def may_have_recipe(database, name):
+    """Whether a file has a recipe, or may have one, as make's database tells it once make has looked for the rules of
+    all makefiles, which it does before anything."""
+    found = [database[at:database.find("\n\n", at)] for at in places_of(database, f"\n{name}:")]
+    return not found or any(OF_RECIPE in one for one in found)
+
+
 def names_of(port, made):
     """The makefiles that make reads and rules may make, but for those that the goals have `made`. A name that holds a
-    reference may be that of each, but is hardly the makefile's own."""
+    reference may be that of each, but is hardly the makefile's own; what make has told of them counts."""
     read = [name for name in sorted(port.first.read) if PLAIN.fullmatch(name)]
     texts = [quick_looks.without_continuations(file.before) for file in port.ported.values()]
     others = [name for name in read if name != port.makefile]
     may_make = any(rule_heads.may_make(text, others) for text in texts)
     own = [name for name in read if name == port.makefile and any(quick_looks.may_have_rule(text, name)
                                                                   for text in texts)]
-    return [name for name in [*(others if may_make else []), *own] if name not in made]
+    found = [name for name in [*(others if may_make else []), *own] if name not in made]
+    database = port.run.ended_with or ""
+    return [name for name in found if OF_RECIPE not in database or may_have_recipe(database, name)]
 
 
 def fault(port, translation):

@@ -51,7 +51,7 @@ def functions(port):
     # The line of before by which the values are included stays.
     for _, line in [one for one in read_lines(port) if not one[1].edits and frozen_values.NAME not in one[1].text]:
         is_given = (line.assignment() or ("",))[0] in given
-        if not is_given and port.probes.are_told(line):
+        if not is_given and port.probes.are_met(line):
             port.freezer.line(line)
 
 

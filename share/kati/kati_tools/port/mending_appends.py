@@ -1,28 +1,12 @@
 """`+=` to an empty value, or of an empty one: kati puts a blank there, and make doesn't, which counts within quotes and
 in the environment."""
 from ..make import command_lists, make_run
-from ..makefile import after_references, ported_text, statements, syntax
-from . import mending_exports, port_report, saving
+from ..makefile import statements, syntax
+from . import append_probes, mending_exports, port_report, saving
+from .append_probes import appended
 from .mender import Mender
 
 APPENDED = "KATI_APPENDED"
-# Where make comes by such a line: the flavor of the macro, whether it has a value, and whether what is appended is one.
-PROBE = f"$(info {make_run.ANSWER}{{number}} $(flavor {{name}})|$(if $(value {{name}}),1)|{{new}}{make_run.END})"
-
-
-def appended(line):
-    """The name and the text of a line that appends, which may stand behind a tab where no rule is open; None for
-    another one."""
-    is_meant = line.kind is syntax.Kind.ASSIGNMENT and not line.is_gone
-    found = ported_text.assigned(line.joined) if is_meant else None
-    return (found[0], found[2]) if found and found[1] == "+=" and "$" not in found[0] else None
-
-
-def probe(number, line):
-    """The line that has make tell."""
-    name, text = appended(line)
-    is_of_references = text == "" or after_references.is_of_references(text)
-    return PROBE.format(number=number, name=name, new=f"$(if {text},1)" if is_of_references else "1")
 
 
 def parts(text):
@@ -76,17 +60,26 @@ class Appends(Mender):
             or bool(exports.handed and exports.of_targets) and any(exports.differences(translation))
 
     def asked(self, lines):
-        """Each line with what make told where it came by it."""
+        """Each line with what make told where it came by it: as it did with the values of calls, or now."""
+        told = {line: self.port.probes.appends.known(line) for line in lines}
+        left = [line for line in lines if told[line] is None]
+        if left:
+            told.update(self.asked_now(left))
+        return told.items()
+
+    def asked_now(self, lines):
+        """The same of lines of which it hasn't told."""
         before = [line.before for line in lines]
         for number, line in enumerate(lines):
-            line.before = "\n".join(filter(None, [line.before, probe(number, line)]))
+            mark = append_probes.probe(number, line, append_probes.expanded)
+            line.before = "\n".join(filter(None, [line.before, mark]))
         saving.save(self.port)
         _, out, _ = self.port.run.ask(question="$(error asked)\n")
         for line, text in zip(lines, before):
             line.before = text
         saving.save(self.port)
         found = make_run.answered(out)
-        return [(line, found.get(number, [])) for number, line in enumerate(lines)]
+        return {line: found.get(number, []) for number, line in enumerate(lines)}
 
 
 def form_of(told):
