@@ -47,6 +47,7 @@ CHANGING = [
     ("git describe --always --dirty", GIT, "echo 2 > n.txt"),
     ("git ls-files", GIT, "git add src"),
     ("git rev-parse --abbrev-ref HEAD", GIT, "git checkout -qb other"),
+    ("cat log; git log --format=%s -1", f"{GIT} && echo > log", "echo 2 > log"),
 ]
 # The same, of which the outputs stay.
 STAYING = [
@@ -59,6 +60,8 @@ STAYING = [
     ("uname", "", "echo > FLAG"),
     ("mkdir -p sub", "mkdir sub", "echo > sub/x"),
     ("[ -d sub ] || mkdir sub", "", "mkdir sub; echo > sub/x"),
+    ("git log --format=%s -1", f"{GIT} && echo > log", "echo 2 > log"),
+    ("git -C . -c a.b=c --no-pager log --format=%s -1", f"{GIT} && echo > log", "echo 2 > log"),
 ]
 
 
@@ -99,6 +102,7 @@ class Watching(Tree):
                 self.assertNotEqual(first, second)
                 self.assertIsNotNone(told)
 
+    @needs("git")
     def test_what_changes_none_is_not(self):
         for command, before, after in STAYING:
             with self.subTest(f"{command}: {after}"):

@@ -141,15 +141,36 @@ def made_by(simple):
     return {word.rstrip("/") for one in makes for word in one.operands()} - others
 
 
+def subcommand_of_git(words):
+    """What git is to do, of the words behind its name; None where they don't say it."""
+    left = iter(words)
+    for word in left:
+        if word in ("-C", "-c"):
+            next(left, None)
+        elif not word.startswith("-"):
+            return word
+    return None
+
+
+def words_of(command, simple):
+    """The words of a command that may be names: all but what git is to do, as `log`."""
+    words = BREAKS.split(command)
+    for does in (subcommand_of_git(one.words) for one in simple if one.program == "git"):
+        if does in words:
+            words.remove(does)
+    return [word for word in words if word]
+
+
 def reads_of(command):
     """The words to watch for a command, each once."""
     simple, found = simple_commands(command), {}
+    words = words_of(command, simple)
     made, simple = made_by(simple), [one for one in simple if one.program != "mkdir"]
     simple = [one for one in simple if not made.intersection(word.rstrip("/") for word in one.operands())]
     folders = dict.fromkeys(["", *(one.folder for one in simple)])
     is_listed_only = bool(simple) and all(one.program in ("ls", "dir", "cd") for one in simple)
     for folder in folders:
-        for word in (word for word in BREAKS.split(command) if word and word.rstrip("/") not in made):
+        for word in (word for word in words if word.rstrip("/") not in made):
             name = os.path.join(folder, word)
             if watched.is_pattern(word):
                 found[name] = True
