@@ -1,9 +1,10 @@
-"""kati-port --write: what is saved while it runs, and what a loss of power leaves."""
+"""What is saved while kati-port --write runs, and what a loss of power leaves of it and of a build."""
 import os
 import subprocess
+import sys
 from unittest import mock
 
-from support import LONG, TOOLS, Tree, needs, without_at_work
+from support import LONG, TOOLS, TOP, Tree, needs, without_at_work
 
 from kati_tools.port import writing
 
@@ -57,6 +58,24 @@ class Saved(Tree):
         self.assertIn("\nV_V := 2\n", self.read("kati-values.mk"))
 
 
+# Runs kati-build, and prints each file that it puts in place, and whether its bytes had come to the disk.
+RECORDED = """\
+import os, sys
+sys.path.insert(0, sys.argv[1])
+del sys.argv[:2]
+from kati_tools.port import building
+synced, to_disk, replace = set(), os.fsync, os.replace
+def fsync(handle):
+    synced.add(os.readlink(f"/proc/self/fd/{handle}"))
+    to_disk(handle)
+def put(new, place):
+    print(os.path.abspath(place), os.path.abspath(new) in synced, sep="\\t", flush=True)
+    replace(new, place)
+os.fsync, os.replace = fsync, put
+sys.exit(building.main(sys.argv[1:]))
+"""
+
+
 class Power(Tree):
     """What is brought to the disk, and when."""
 
@@ -81,3 +100,17 @@ class Power(Tree):
         folders = [str(self.top / name) for name in ("", "new", "new/below")]
         self.assertEqual(sorted(done[4:]), [("to the disk", one.rstrip("/")) for one in folders])
         self.assertEqual([self.read(name) for name in names], ["after\n"] * 2)
+
+    @needs("kati", "make")
+    def test_files_of_a_build_before_their_places(self):
+        self.put_all({"Makefile": "V := $(shell echo 1)\nall: a.o\n\techo $(V) > out\na.o: a.c\n\tcc -c a.c\n",
+                      "a.c": ""})
+        words = ["--port", "--no-ninja", "--compile-commands"]
+        ran = self.run_in(sys.executable, "-c", RECORDED, TOP / "share/kati", TOOLS / "kati-build", *words)
+        self.assertEqual(ran.status, 0, ran.all)
+        places = dict(line.split("\t") for line in ran.out.splitlines())
+        # Others are notes that each translation makes anew.
+        ported = [f"build.kati/ported/{self.top.name}/{name}" for name in ("Makefile", "kati-values.mk")]
+        for name in ("build.ninja", "compile_commands.json", *ported, *(f"build.kati/{name}" for name in (
+                "translated.ninja", "files.txt", "asked.txt", "version", "ported.json", "other-goals.json"))):
+            self.assertEqual(places.get(str(self.top / name)), "True", (name, places))
