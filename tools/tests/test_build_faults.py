@@ -187,7 +187,7 @@ class Faults(Tree):
         self.assertIn(name, (self.top / "build.kati/files.txt").read_bytes())
         word = os.fsdecode(b"B=\xfe")
         for tool, words, status in (("kati-build", [word], 64), ("kati-compare", [word], 64),
-                                    ("kati-port", ["Makefile", word], 1), ("kati-port", [word], 64)):
+                                    ("kati-port", ["Makefile", word], 1), ("kati-port", [word], 1)):
             with self.subTest((tool, words)):
                 ended, said = self.raw(tool, *words)
                 self.assertEqual(ended, status)
