@@ -142,6 +142,8 @@ class Places(Tree):
             self.assertEqual(os.waitpid(child, 0)[1], 0)
             return
         try:
+            # The checkout may be below a folder that such a user can't reach.
+            os.chdir(self.top)
             if os.getuid() == 0:
                 os.setgroups([])
                 os.setgid(NOBODY)
