@@ -5,7 +5,7 @@ from typing import Dict, NamedTuple
 PATH = Path(__file__).resolve().parent / "crate_costs.txt"
 HEAD = """\
 # Processor seconds of each crate in the gate with nothing kept: its proof, its tests, its edits, and how many edits
-# these are. scripts/gate_cost.py --record writes this file; rows of crates that are tested elsewhere stand with those.
+# these are. scripts/gate_cost.py --record writes this file; the tests of a crate are a crate of their own.
 # `speed` has what scripts/gate_cost.py --speed took on the machine of these figures, and on that of the gate's marks.
 """
 

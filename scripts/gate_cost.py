@@ -30,6 +30,7 @@ import sys
 import tempfile
 import threading
 import time
+from collections import Counter
 from pathlib import Path
 
 sys.dont_write_bytecode = True
@@ -119,9 +120,15 @@ def tell_speed():
     return took, ran.returncode
 
 
-def costs_of(table, here):
-    """The costs of a table of the sampler, on a machine on which the measured crate takes so many seconds."""
-    rows = {crate: crate_costs.Cost(*(sum(row[part]) for part in PARTS), len(row["edits"]))
+def edits_in(folder):
+    """How many edits each crate of a checkout has for the gate, which may take several processes for one."""
+    return Counter(path.parent.parent.name for path in Path(folder).glob("crates/*/must-fail/*.edit"))
+
+
+def costs_of(table, here, edits):
+    """The costs of a table of the sampler, on a machine on which the measured crate takes so many seconds, with the
+    number of edits of each crate."""
+    rows = {crate: crate_costs.Cost(*(sum(row[part]) for part in PARTS), edits[crate])
             for crate, row in sorted(table.items())}
     return crate_costs.Costs(rows, here, MEASURED[2])
 
@@ -169,7 +176,7 @@ def main():
             sums = " | ".join(f"{sum(row[part]):.0f}" for part in PARTS)
             print(f"| {crate} | {sums} | " + ", ".join(f"{it:.0f}" for it in row["edits"]) + " |")
         if words.record and status == 0:
-            crate_costs.write(costs_of(sampler.table(), took))
+            crate_costs.write(costs_of(sampler.table(), took, edits_in(folder)))
         sys.exit(status)
 
 
