@@ -106,7 +106,7 @@ class Power(Tree):
         self.put_all({"Makefile": "V := $(shell echo 1)\nall: a.o\n\techo $(V) > out\na.o: a.c\n\tcc -c a.c\n",
                       "a.c": ""})
         words = ["--port", "--no-ninja", "--compile-commands"]
-        ran = self.run_in(sys.executable, "-c", RECORDED, TOP / "share/kati", TOOLS / "kati-build", *words)
+        ran = self.run_in(sys.executable, "-B", "-c", RECORDED, TOP / "share/kati", TOOLS / "kati-build", *words)
         self.assertEqual(ran.status, 0, ran.all)
         places = dict(line.split("\t") for line in ran.out.splitlines())
         # Others are notes that each translation makes anew.
