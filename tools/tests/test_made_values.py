@@ -3,6 +3,8 @@ import unittest
 
 from support import Tree, needs
 
+from kati_tools.port import command_reads
+
 # Makefiles whose recipes read version.txt, which a rule makes.
 READING = {
     "as it is": "out: version.txt\n\techo $(shell cat version.txt 2>/dev/null) > $@\n",
@@ -76,6 +78,18 @@ class OfTheRecipesShell(Tree):
         self.assertEqual((ran.status, self.read("out")), (0, "42\n"), ran.all)
         values = [path.read_text() for path in self.top.rglob("kati-values.mk")]
         self.assertEqual([text.count(" := 42\n") for text in values], [1])
+
+
+class Found(unittest.TestCase):
+    """Which of many names a command finds."""
+
+    def test_by_patterns_and_folders(self):
+        names = ["a.x", "ab", "b.x", "b/a.x", "b/c/a.x", "bc/d.x"]
+        for command, wanted in {"ls": {"a.x", "ab", "b.x"}, "ls b": {"b/a.x"}, "ls -R b": {"b/a.x", "b/c/a.x"},
+                                "echo a*": {"a.x", "ab"}, "cat b/?.x": {"b/a.x"}, "cd b && ls": {"b/a.x"},
+                                "find b -name '*.x'": {"b/a.x", "b/c/a.x"}, "find . -name 'd*'": {"bc/d.x"},
+                                "ls a.x": set(), "cat a.x": set(), "uname": set()}.items():
+            self.assertEqual(command_reads.found_of(names, command), wanted, command)
 
 
 if __name__ == "__main__":

@@ -2,9 +2,11 @@
 
 Rather too much is taken than too little: make is only asked once more where a name that means nothing changes. What
 hangs on the machine, as `uname`, has no such words."""
+import bisect
 import fnmatch
 import os
 import re
+import sys
 
 from ..base.programs import run, which
 from ..make import shell_text
@@ -70,10 +72,18 @@ class Simple(PlainCommand):
         is_named = not named or any(fnmatch.fnmatchcase(last, one) for one in named)
         return self.program in LISTING and "-d" not in self.words and is_named and self.lists(folder and f"{folder}/")
 
+    def tops(self):
+        """The names of the folders that it may list, with a slash at their ends; that of this one is empty."""
+        return ["" if place == "." else f"{place}/" for place in self.places()]
+
     def lists(self, folder):
-        """Whether it lists what is in a folder, of which the name ends in a slash; of this one it is empty."""
-        tops = ["" if place == "." else f"{place}/" for place in self.places()]
+        """Whether it lists what is in a folder, of which the name is one of these."""
+        tops = self.tops()
         return folder in tops or self.is_deep() and any(map(folder.startswith, tops))
+
+    def beginnings(self):
+        """Texts of which one begins each name that it finds."""
+        return [*map(before_wild, self.patterns()), *(self.tops() if self.program in LISTING else [])]
 
     def is_recursive_grep(self):
         """Whether it reads all files of the folders that it names."""
@@ -111,10 +121,20 @@ def simple_commands(command):
     return found
 
 
+def before_wild(pattern):
+    """What stands in a pattern before its first sign that stands for others."""
+    return re.split(r"[*?\[]", pattern, maxsplit=1)[0]
+
+
+def beginning_with(names, text):
+    """Those of sorted names that begin with a text: of many they are found without a look at each."""
+    return names[bisect.bisect_left(names, text):bisect.bisect_left(names, text + chr(sys.maxunicode))]
+
+
 def found_of(names, command):
-    """Those of these names that a command finds by the folders that it lists, or by patterns."""
-    simple = [one for one in simple_commands(command) if one.program in LISTING or one.patterns()]
-    return {name for name in names if any(one.finds(name) for one in simple)} if simple else set()
+    """Those of these sorted names that a command finds by the folders that it lists, or by patterns."""
+    return {name for one in simple_commands(command) for text in one.beginnings()
+            for name in beginning_with(names, text) if one.finds(name)}
 
 
 def counts(name, is_lone):

@@ -171,7 +171,7 @@ def ask_macros(makefile, macros):
     write_text("".join(f"{word}\n" for word in macro_values.words(makefile, list(dict.fromkeys(names)), macros)))
 
 
-def makes_makefile():
+def makefile_here():
     """The makefile that make reads here."""
     found = translating.makes_makefile()
     if found is None:
@@ -185,7 +185,7 @@ def run_port(asked):
         raise Stop("one makefile stands after -f", words.WRONG_USAGE)
     asked.words = [*asked.makefiles, *asked.words]
     if not (asked.values or words.goals_of(asked.words)):
-        asked.words.insert(0, makes_makefile())
+        asked.words.insert(0, makefile_here())
     for makefile in words.goals_of(asked.words[:1] if asked.write or asked.diff or asked.values else asked.words):
         translating.refuse_passing(makefile)
     if asked.write or asked.diff or asked.values:

@@ -5,8 +5,7 @@ build would be another one. For kati the recipe's own shell runs such a command;
 import fnmatch
 import os
 
-from . import watched
-from .command_reads import found_of
+from .command_reads import before_wild, beginning_with, found_of
 from .make_probes import is_read_late
 from .mender import Mender
 from .shell_writes import named_by
@@ -27,19 +26,21 @@ class MadeValues(Mender):
         """Gives such calls to the recipe's shell; answers whether that changes the makefile."""
         made = {os.path.normpath(name) for one in translation.statements if one.command is not None
                 for name in one.outputs}
+        names = sorted(made)
         calls = [call for line in self.port.lines() if is_read_late(line) and line.edits
                  for call in self.port.probes.of(line)]
         for call in calls:
             if call in self.port.probes.patterns:
-                self.tell(call, "finds", self.found_by(call, made))
-        return any([self.settle_call(call, made) for call in calls if call.kind == "shell"])
+                self.tell(call, "finds", self.found_by(call, names))
+        return any([self.settle_call(call, made, names) for call in calls if call.kind == "shell"])
 
     def found_by(self, call, made):
-        """What the build makes of other targets, and a call of `wildcard` finds where recipes have it."""
+        """What the build makes, in sorted names, of other targets, and a call of `wildcard` finds where recipes have
+        it."""
         found = set()
         for key, patterns in self.port.probes.asked_in_recipes(call):
             for pattern in map(os.path.normpath, patterns.split()):
-                names = fnmatch.filter(made, pattern) if watched.is_pattern(pattern) else {pattern} & made
+                names = fnmatch.filter(beginning_with(made, before_wild(pattern)), pattern)
                 found.update(name for name in names if name.count("/") == pattern.count("/")
                              and key != name and not key.endswith(f"-{name}"))
         return found
@@ -55,11 +56,11 @@ class MadeValues(Mender):
                              "the build makes; kati has what it gives before the build")
             self.port.note(self.told[-1])
 
-    def settle_call(self, call, made):
-        """The same for a call, where it is frozen."""
+    def settle_call(self, call, made, names):
+        """The same for a call, where it is frozen; `names` are those that are made, sorted."""
         probes = self.port.probes
         commands = probes.asked_behind(call, probes.commands)
-        read = {name for command in commands for name in {*named_by(command) & made, *found_of(made, command)}}
+        read = {name for command in commands for name in {*named_by(command) & made, *found_of(names, command)}}
         span = next((one for one in call.chain if one in call.line.edits), None)
         if not read or span is None or call in self.seen:
             return False
