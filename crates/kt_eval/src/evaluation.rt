@@ -1,7 +1,7 @@
 //! An evaluation in progress: what it knows, and the small steps that change it.
-ghost use Rattle.std.specs.Prelude.{◌≡◌, ◌++◌, ◌≤◌, IfOk, OnErr, OnOk, None, drop, option_map, true};
+ghost use Rattle.std.specs.Prelude.{◌≡◌, ◌++◌, IfOk, OnErr, OnOk, None, drop, option_map, true};
 ghost use Rattle.kt_syntax.specs.Terms.{token_of};
-ghost use Rattle.kt_eval.specs.State.{innermost_value, lookup};
+ghost use Rattle.kt_eval.specs.State.{lookup};
 ghost use Rattle.kt_eval.specs.inner.Plain.{left_by, put_by, put_of, still_deferred};
 
 use crate::expanding::calls::names_plainly;
@@ -39,7 +39,6 @@ pub(crate) struct Evaluation<'a, M: MacroScope, F: Files> {
 }
 
 impl<'a, M: MacroScope, F: Files> Model for Evaluation<'a, M, F> {
-    ghost use Rattle.kt_eval.specs.State.{World};
     ghost use Rattle.kt_eval.specs.Step.{Evaluation};
 
     ghost Value = { Evaluation };
@@ -62,7 +61,7 @@ impl<'a, M: MacroScope, F: Files> Model for Evaluation<'a, M, F> {
 }
 
 impl<'a, M: MacroScope, F: Files> Evaluation<'a, M, F> {
-    ghost use Rattle.std.specs.Prelude.{codes, Option, List, ℕ};
+    ghost use Rattle.std.specs.Prelude.{Option, List, ℕ};
     ghost use Rattle.kt_text.specs.Words.{Text};
     ghost use Rattle.kt_text.specs.Functions.{Answers};
     ghost use Rattle.kt_eval.specs.expanding.Expansion.{accepted, bad_argument};
@@ -234,6 +233,7 @@ impl<'a, M: MacroScope, F: Files> Evaluation<'a, M, F> {
     ghost use Rattle.kt_eval.specs.files.Files.{AgreeWith, Store};
     ghost use Rattle.kt_eval.specs.macros.Macros.{assigning, find, set_by_makefile};
     ghost use Rattle.std.specs.Cow.{cow_slice_items};
+    ghost use Rattle.kt_eval.specs.inner.Doing.{DoesWithoutFiles};
     ghost use Rattle.kt_eval.specs.inner.Views.{assigning_view, front_view, raw_view};
 
     // Moves to a line of a source. All lines of an `eval` are at the place of the `eval`.
@@ -358,11 +358,7 @@ impl<'a, M: MacroScope, F: Files> Evaluation<'a, M, F> {
     #[tactic(auto, unfolding(crate::specs::reading::Rules::close_rule))]
     pub(crate) fn close_rule(&mut self) -> Result<(), Stop>
         requires { M.writable ≡ true }
-        ensures gives { Gives (λ u. u) result self.new.world (close_rule self.old.world) }
-        ensures cut { IfCut result (GoesOn self.new.world (left_of (close_rule self.old.world))) }
-        ensures kept { Keeps self.old self.new }
-        ensures blames { Blames result (files_of self.old) (files_of self.new) }
-        ensures unfailed { self.new.failed ≡ self.old.failed }
+        ensures { DoesWithoutFiles close_rule result self.old self.new }
     {
         match self.take_rule() {
             None => Ok(()),
@@ -374,11 +370,7 @@ impl<'a, M: MacroScope, F: Files> Evaluation<'a, M, F> {
     #[tactic(auto, using(crate::proofs::Steps::enter_rule_steps), unfolding(crate::specs::reading::Rules::enter_rule))]
     fn enter_rule(&mut self, rule: Entry) -> Result<(), Stop>
         requires { M.writable ≡ true }
-        ensures gives { Gives (λ u. u) result self.new.world (enter_rule rule self.old.world) }
-        ensures cut { IfCut result (GoesOn self.new.world (left_of (enter_rule rule self.old.world))) }
-        ensures kept { Keeps self.old self.new }
-        ensures blames { Blames result (files_of self.old) (files_of self.new) }
-        ensures unfailed { self.new.failed ≡ self.old.failed }
+        ensures { DoesWithoutFiles (enter_rule rule) result self.old self.new }
     {
         match self.macros.add(rule).unwrap() {
             Ok(warnings) => {
@@ -392,13 +384,9 @@ impl<'a, M: MacroScope, F: Files> Evaluation<'a, M, F> {
     // Opens the rule of an expanded head.
     #[tactic(auto, using(crate::proofs::Steps::open_rule_goes), unfolding(crate::specs::reading::Rules::open_rule))]
     pub(crate) fn open_rule(&mut self, recipe: Option<&[u8]>, head: &[u8]) -> Result<(), Stop>
-        ensures gives { Gives (λ u. u) result self.new.world
-            (open_rule (option_map recipe_of (option_map (λ text. text.now) recipe.entry)) head.now self.old.world) }
-        ensures cut { IfCut result (GoesOn self.new.world (left_of
-            (open_rule (option_map recipe_of (option_map (λ text. text.now) recipe.entry)) head.now self.old.world))) }
-        ensures kept { Keeps self.old self.new }
-        ensures blames { Blames result (files_of self.old) (files_of self.new) }
-        ensures unfailed { self.new.failed ≡ self.old.failed }
+        ensures { DoesWithoutFiles
+            (open_rule (option_map recipe_of (option_map (λ text. text.now) recipe.entry)) head.now)
+            result self.old self.new }
     {
         let place = self.rule_place()?;
         let recipe = self.recipe_texts.first_text(recipe)?;
@@ -414,11 +402,7 @@ impl<'a, M: MacroScope, F: Files> Evaluation<'a, M, F> {
     // Adds a line to the recipe of a rule, and makes it the open rule again.
     #[tactic(auto, unfolding(crate::specs::reading::Rules::recipe_line))]
     pub(crate) fn recipe_line(&mut self, rule: Entry, text: &[u8]) -> Result<(), Stop>
-        ensures gives { Gives (λ u. u) result self.new.world (recipe_line rule text.now self.old.world) }
-        ensures cut { IfCut result (GoesOn self.new.world (left_of (recipe_line rule text.now self.old.world))) }
-        ensures kept { Keeps self.old self.new }
-        ensures blames { Blames result (files_of self.old) (files_of self.new) }
-        ensures unfailed { self.new.failed ≡ self.old.failed }
+        ensures { DoesWithoutFiles (recipe_line rule text.now) result self.old self.new }
     {
         let mut rule = rule;
         let place = self.rule_place()?;

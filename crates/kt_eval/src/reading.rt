@@ -2,23 +2,19 @@
 //!
 //! Takes the bytes of a makefile. Each line does what its kind says: it assigns, opens a rule, continues a recipe,
 //! includes a file, or chooses a branch. Returns macros, rules and messages, or the first fault.
-ghost use Rattle.std.specs.Prelude.{◌≡◌, ◌<◌, ◌≤◌, ◌+◌, length, option_map, IfErr, IfOk, Some, false, true};
-ghost use Rattle.std.specs.List.{slice_get, slice_range};
-ghost use Rattle.kt_syntax.specs.Kinds.{form_of, line_form, line_form_view};
+ghost use Rattle.std.specs.Prelude.{◌≡◌, length, option_map, IfOk, Some, false, true};
+ghost use Rattle.kt_syntax.specs.Kinds.{line_form, line_form_view};
 ghost use Rattle.kt_syntax.specs.Blocks.{tree_of};
-ghost use Rattle.kt_syntax.specs.Reading.{IsAhead, IsConditional, ReadsOn, left_at};
+ghost use Rattle.kt_syntax.specs.Reading.{IsAhead, IsConditional};
 ghost use Rattle.kt_syntax.specs.declared.step.BlockStep.TheVariants as step;
-ghost use Rattle.kt_eval.specs.expanding.Levels.{evaluator};
-ghost use Rattle.kt_eval.specs.reading.Reading.{branch_holds, line_at, read_bare_tab, read_define, read_end, read_held};
+ghost use Rattle.kt_eval.specs.reading.Reading.{branch_holds, read_bare_tab, read_define, read_end, read_held};
 ghost use Rattle.kt_eval.specs.reading.Reading.{read_include, read_items, read_kind, read_line, read_sheet, read_stray};
 ghost use Rattle.kt_eval.specs.reading.Reading.{read_tab, read_text};
 ghost use Rattle.kt_eval.specs.macros.Assignments.{assign_line};
 ghost use Rattle.kt_eval.specs.reading.Rules.{rule_line, rule_of_parts};
 ghost use Rattle.kt_syntax.specs.Comments.{plain_of};
-ghost use Rattle.kt_eval.specs.files.Files.{AgreeWith, Store};
-ghost use Rattle.kt_eval.specs.inner.Doing.{Does, reading_from};
-ghost use Rattle.kt_eval.specs.Outcome.{Fails, Gives, IfCut, Stopped, left_of};
-ghost use Rattle.kt_eval.specs.Step.{Blames, GoesOn, Keeps, files_of};
+ghost use Rattle.kt_eval.specs.inner.Doing.{Does, DoesWithoutFiles, IsStepAt, ReadsUpTo};
+ghost use Rattle.kt_eval.specs.Outcome.{Stopped};
 ghost use Rattle.kt_eval.specs.inner.Views.{raw_view};
 
 mod conditionals;
@@ -46,11 +42,7 @@ impl<'a, M: MacroScope, F: Files> Evaluation<'a, M, F> {
     // Fails if the end of a block is missing.
     #[tactic(auto, using(crate::proofs::Steps::read_end_goes), unfolding(crate::specs::reading::Reading::read_end))]
     fn read_end(&mut self, source: &Source, missing: Option<Missing>) -> Result<(), Stop>
-        ensures gives { Gives (λ u. u) result self.new.world (read_end source.now missing self.old.world) }
-        ensures cut { IfCut result (GoesOn self.new.world (left_of (read_end source.now missing self.old.world))) }
-        ensures kept { Keeps self.old self.new }
-        ensures blames { Blames result (files_of self.old) (files_of self.new) }
-        ensures unfailed { self.new.failed ≡ self.old.failed }
+        ensures { DoesWithoutFiles (read_end source.now missing) result self.old self.new }
     {
         match missing {
             None => Ok(()),
@@ -146,21 +138,8 @@ impl<'a, M: MacroScope, F: Files> Evaluation<'a, M, F> {
         step: BlockStep,
     ) -> Result<usize, Stop>
         requires writable { M.writable ≡ true }
-        requires step { slice_get page.now.blocks.steps place ≡ Some step }
-        requires reads { ReadsOn page.now.blocks.steps place step }
-        requires ahead { IsAhead place (length page.now.blocks.steps) step }
-        requires within { place < length page.now.blocks.steps }
-        ensures ahead { IfOk result (λ at. (place < at) × (at ≤ length page.now.blocks.steps)) }
-        ensures goes_on { (store : Store) → AgreeWith store self.new.answers → IfOk result
-            (λ at. reading_from M.writable store below page.now place self.old.world
-            ≡ reading_from M.writable store below page.now at self.new.world) }
-        ensures fails { (store : Store) → AgreeWith store self.new.answers
-            → IfErr result (λ stop. Fails stop self.new.world
-            (reading_from M.writable store below page.now place self.old.world)) }
-        ensures cut { (store : Store) → AgreeWith store self.new.answers → IfCut result (GoesOn self.new.world
-            (left_of (reading_from M.writable store below page.now place self.old.world))) }
-        ensures kept { Keeps self.old self.new }
-        ensures blames { Blames result (files_of self.old) (files_of self.new) }
+        requires step { IsStepAt page.now.blocks.steps place step }
+        ensures { ReadsUpTo M.writable below page.now place result self.old self.new }
     {
         let at = page.past_comments(place, step);
         self.read_step(below, page, at, step)
@@ -177,21 +156,8 @@ impl<'a, M: MacroScope, F: Files> Evaluation<'a, M, F> {
         step: BlockStep,
     ) -> Result<usize, Stop>
         requires writable { M.writable ≡ true }
-        requires step { slice_get page.now.blocks.steps place ≡ Some step }
-        requires reads { ReadsOn page.now.blocks.steps place step }
-        requires ahead { IsAhead place (length page.now.blocks.steps) step }
-        requires within { place < length page.now.blocks.steps }
-        ensures ahead { IfOk result (λ at. (place < at) × (at ≤ length page.now.blocks.steps)) }
-        ensures goes_on { (store : Store) → AgreeWith store self.new.answers → IfOk result
-            (λ at. reading_from M.writable store below page.now place self.old.world
-            ≡ reading_from M.writable store below page.now at self.new.world) }
-        ensures fails { (store : Store) → AgreeWith store self.new.answers
-            → IfErr result (λ stop. Fails stop self.new.world
-            (reading_from M.writable store below page.now place self.old.world)) }
-        ensures cut { (store : Store) → AgreeWith store self.new.answers → IfCut result (GoesOn self.new.world
-            (left_of (reading_from M.writable store below page.now place self.old.world))) }
-        ensures kept { Keeps self.old self.new }
-        ensures blames { Blames result (files_of self.old) (files_of self.new) }
+        requires step { IsStepAt page.now.blocks.steps place step }
+        ensures { ReadsUpTo M.writable below page.now place result self.old self.new }
     {
         match step {
             BlockStep::Line => {
@@ -231,17 +197,7 @@ impl<'a, M: MacroScope, F: Files> Evaluation<'a, M, F> {
         requires writable { M.writable ≡ true }
         requires reads { IsConditional page.now.blocks.steps place next after }
         requires ahead { IsAhead place (length page.now.blocks.steps) (step.Conditional next after) }
-        ensures ahead { IfOk result (λ at. (place < at) × (at ≤ length page.now.blocks.steps)) }
-        ensures goes_on { (store : Store) → AgreeWith store self.new.answers → IfOk result
-            (λ at. reading_from M.writable store below page.now place self.old.world
-            ≡ reading_from M.writable store below page.now at self.new.world) }
-        ensures fails { (store : Store) → AgreeWith store self.new.answers
-            → IfErr result (λ stop. Fails stop self.new.world
-            (reading_from M.writable store below page.now place self.old.world)) }
-        ensures cut { (store : Store) → AgreeWith store self.new.answers → IfCut result (GoesOn self.new.world
-            (left_of (reading_from M.writable store below page.now place self.old.world))) }
-        ensures kept { Keeps self.old self.new }
-        ensures blames { Blames result (files_of self.old) (files_of self.new) }
+        ensures { ReadsUpTo M.writable below page.now place result self.old self.new }
     {
         if self.branch_holds(below, page, place, true)? {
             return Ok(page.past(place));

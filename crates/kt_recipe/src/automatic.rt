@@ -6,7 +6,7 @@ ghost use Rattle.std.specs.Prelude.{slice_get, take};
 ghost use Rattle.std.specs.Cow.{cow_slice_items};
 ghost use Rattle.kt_text.specs.Words.{is_nonempty};
 ghost use Rattle.kt_rules.specs.Names.{is_among, without_repeats};
-ghost use Rattle.kt_graph.specs.nodes.Views.{part_needed, part_order_only, part_stem};
+ghost use Rattle.kt_graph.specs.nodes.Views.{part_needed, part_order_only};
 ghost use Rattle.kt_recipe.specs.inner.Asking.{is_only_part, macro_in};
 ghost use Rattle.kt_recipe.specs.Automatic.{subject_names_in};
 ghost use Rattle.kt_recipe.specs.Forms.{names_text_in};

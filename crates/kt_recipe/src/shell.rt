@@ -1,9 +1,8 @@
 //! The commands of nodes.
-ghost use Rattle.std.specs.Prelude.{◌≡◌, None, length, map, option_map, unwrap_or, slice_get};
+ghost use Rattle.std.specs.Prelude.{◌≡◌, None, length, map, option_map};
 ghost use Rattle.std.specs.Cow.{cow_slice_items};
 ghost use Rattle.std.specs.List.{range_with_len};
 ghost use Rattle.kt_eval.specs.expanding.Pure.{Says};
-ghost use Rattle.kt_graph.specs.nodes.Views.{part_lines};
 ghost use Rattle.kt_recipe.specs.Automatic.{automatic_in};
 ghost use Rattle.kt_recipe.specs.Lines.{pieces_of_line};
 ghost use Rattle.kt_recipe.specs.Shell.{expansion, put_line, put_lines, put_part, put_parts, put_piece, put_pieces};

@@ -5,7 +5,7 @@ use Rattle.kt_syntax.specs.declared.step.BlockStep.{BlockStep as Found}
 use Rattle.kt_syntax.specs.declared.step.BlockStep.TheVariants as step
 use Rattle.kt_eval.specs.declared.stop.Stop.TheVariants as stops
 use Rattle.kt_eval.specs.Step.{Blames, Evaluation, files_of}
-use Rattle.kt_eval.specs.inner.Doing.{DoesIn}
+use Rattle.kt_eval.specs.inner.Doing.{DoesIn, ReadsUpTo, reading_from}
 use Rattle.kt_eval.specs.reading.Conditions.{ComparedTexts}
 use Rattle.kt_eval.specs.reading.Conditionals.{are_equal}
 use Rattle.kt_eval.specs.reading.Rules.{close_rule}
@@ -26,6 +26,20 @@ pub does_early : {A B : Type 0} {see : A → B} {writable : Bool} {levels : ℕ}
     → Keeps old new → Blames result (files_of old) (files_of new) → DoesIn see writable levels step result old new
 does_early stop is same early kept blames = record {
   gives = λ store agrees. rw (is, same) (early store agrees).0;
+  cut = λ store agrees. rw (is, same) (early store agrees).1;
+  kept = kept;
+  blames = blames;
+}
+
+-- a call that reads a page from one place on and was stopped
+pub reads_early : {writable : Bool} {levels : ℕ} {sheet : Page} {place : ℕ} {result : Result ℕ Stop} {old new : Evaluation} {e : Stop} (stop : Stop)
+    → result ≡ Err e → e ≡ stop
+    → ((store : Store) → AgreeWith store new.answers → Early stop new.world (reading_from writable store levels sheet place old.world))
+    → Keeps old new → Blames result (files_of old) (files_of new) → ReadsUpTo writable levels sheet place result old new
+reads_early stop is same early kept blames = record {
+  ahead = rw is tt;
+  rest = λ store agrees. rw is tt;
+  fails = λ store agrees. rw (is, same) (early store agrees).0;
   cut = λ store agrees. rw (is, same) (early store agrees).1;
   kept = kept;
   blames = blames;

@@ -1,7 +1,10 @@
 -- What each method of an evaluation that expands or reads promises (kati's own).
-use Rattle.std.specs.Prelude.{◌≡◌, ℕ, Bool, Result}
-use Rattle.kt_syntax.specs.Reading.{left_at}
+use Rattle.std.specs.Prelude.{◌≡◌, ◌<◌, ◌≤◌, ℕ, Bool, IfErr, IfOk, List, Result, Some, length}
+use Rattle.std.specs.List.{slice_get}
+use Rattle.kt_syntax.specs.Reading.{IsAhead, ReadsOn, left_at}
+use Rattle.kt_syntax.specs.declared.step.BlockStep.{BlockStep}
 use Rattle.kt_eval.specs.Prelude.{Stop, World, Gives, IfCut, left_of, Blames, GoesOn, Keeps, Evaluation, Step, files_of}
+use Rattle.kt_eval.specs.Outcome.{Fails}
 use Rattle.kt_eval.specs.expanding.Expansion.{Evaluator}
 use Rattle.kt_eval.specs.files.Files.{AgreeWith, Store}
 use Rattle.kt_eval.specs.expanding.Levels.{evaluator}
@@ -26,6 +29,27 @@ abbrev pub Does : {A B : Type 0} → (A → B) → Bool → ℕ → (Evaluator �
     → Type 0
 Does see writable levels step result old new = DoesIn see writable levels (λ _. step) result old new
 
+-- The call does a step that reads no file.
+pub record DoesWithoutFiles (step : Step (Unit {0})) (result : Result (Unit {0}) Stop) (old new : Evaluation)
+    : Type 0 where
+  -- the result and the new world are those of the step
+  pub gives : Gives (λ u. u) result new.world (step old.world)
+  -- if memory ran out, the messages and the names asked for are a prefix of those of the step
+  pub cut : IfCut result (GoesOn new.world (left_of (step old.world)))
+  -- files, messages and names asked for are kept
+  pub kept : Keeps old new
+  -- a device's failure is reported as one, and nothing else is
+  pub blames : Blames result (files_of old) (files_of new)
+  -- no read of a file fails
+  pub unfailed : new.failed ≡ old.failed
+
+-- a step of a page is the one at a place within it, reading goes on as it says, and it leads no further than to the end
+pub record IsStepAt (steps : List BlockStep) (place : ℕ) (found : BlockStep) : Type 0 where
+  pub is : slice_get steps place ≡ Some found
+  pub reads : ReadsOn steps place found
+  pub ahead : IsAhead place (length steps) found
+  pub within : place < length steps
+
 -- what is left of a page from one place on does what is left from another on does
 abbrev pub ReadsAlike : Page → (place other : ℕ) → Type 0
 ReadsAlike sheet place other =
@@ -36,3 +60,23 @@ ReadsAlike sheet place other =
 abbrev pub reading_from : Bool → Store → ℕ → Page → ℕ → Step (Unit {0})
 reading_from writable store levels sheet place =
     read_items (evaluator writable store levels) sheet (left_at sheet.blocks.steps place)
+
+-- The call reads a page from one place up to the one that it returns, with a given number of levels left below it.
+pub record ReadsUpTo (writable : Bool) (levels : ℕ) (sheet : Page) (place : ℕ) (result : Result ℕ Stop)
+    (old new : Evaluation) : Type 0 where
+  -- the place that it returns is further on, and within the page or at its end
+  pub ahead : IfOk result (λ at. (place < at) × (at ≤ length sheet.blocks.steps))
+  -- what is left from there on does the rest of what was left, over each store that agrees with all answers
+  pub rest : (store : Store) → AgreeWith store new.answers
+      → IfOk result (λ at. reading_from writable store levels sheet place old.world
+      ≡ reading_from writable store levels sheet at new.world)
+  -- a fault is that of what was left, with its world
+  pub fails : (store : Store) → AgreeWith store new.answers
+      → IfErr result (λ stop. Fails stop new.world (reading_from writable store levels sheet place old.world))
+  -- if memory ran out or a device failed, the messages and the names asked for are a prefix of those of what was left
+  pub cut : (store : Store) → AgreeWith store new.answers
+      → IfCut result (GoesOn new.world (left_of (reading_from writable store levels sheet place old.world)))
+  -- files, messages and names asked for are kept
+  pub kept : Keeps old new
+  -- a device's failure is reported as one, and nothing else is
+  pub blames : Blames result (files_of old) (files_of new)

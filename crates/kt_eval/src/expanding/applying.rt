@@ -1,7 +1,6 @@
 //! Functions applied to their arguments.
 ghost use Rattle.std.specs.Prelude.{◌≡◌, ◌==◌, [], map, option_map, true};
 ghost use Rattle.kt_text.specs.Words.{words_of};
-ghost use Rattle.kt_eval.specs.State.{lookup};
 ghost use Rattle.kt_eval.specs.inner.Doing.{Does};
 ghost use Rattle.kt_eval.specs.Outcome.{Gives, IfCut, left_of};
 ghost use Rattle.kt_eval.specs.files.Files.{AgreeWith, Store};
@@ -10,7 +9,7 @@ ghost use Rattle.kt_eval.specs.expanding.Levels.{evaluator};
 ghost use Rattle.kt_eval.specs.expanding.Expansion.{apply, apply_and, apply_call, apply_error, apply_eval};
 ghost use Rattle.kt_eval.specs.expanding.Expansion.{apply_foreach, apply_if, apply_info, apply_or, apply_text};
 ghost use Rattle.kt_eval.specs.expanding.Expansion.{apply_value, apply_warning, call_by_name, called, each_argument};
-ghost use Rattle.kt_eval.specs.expanding.Expansion.{each_word, expanded, value_of};
+ghost use Rattle.kt_eval.specs.expanding.Expansion.{each_word, expanded};
 
 use crate::evaluation::Evaluation;
 use crate::expanding::calls::is_function_name;

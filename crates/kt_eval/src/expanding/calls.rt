@@ -1,6 +1,6 @@
 //! What references ask for.
-ghost use Rattle.std.specs.Prelude.{◌≡◌, ◌≤◌, ◌+◌, ◌-◌, ◌==◌, ◌∷◌, [], IfOk, OnOk, ◌++◌, length, map, not, option_map};
-ghost use Rattle.std.specs.Prelude.{drop, take, Some, position, MatchOption, true, false, ◌<◌, ◌^◌};
+ghost use Rattle.std.specs.Prelude.{◌≡◌, ◌≤◌, ◌+◌, ◌-◌, ◌==◌, ◌∷◌, [], IfOk, OnOk, ◌++◌, length, map, not};
+ghost use Rattle.std.specs.Prelude.{Some, MatchOption, true, false, ◌<◌, ◌^◌};
 ghost use Rattle.std.specs.List.{after_first, before_first, list_all, list_any, position_or_len};
 ghost use Rattle.std.specs.Str.{bytes_eq};
 ghost use Rattle.kt_text.specs.Words.{is_separator};

@@ -10,7 +10,7 @@ ghost use Rattle.kt_eval.specs.State.{lookup};
 ghost use Rattle.kt_eval.specs.inner.Doing.{Does};
 ghost use Rattle.kt_eval.specs.inner.Plain.{with_term};
 ghost use Rattle.kt_eval.specs.expanding.Calls.{asked_view, naming_of};
-ghost use Rattle.kt_eval.specs.expanding.Expansion.{apply, expanded, referred, term_of, value_named, value_of};
+ghost use Rattle.kt_eval.specs.expanding.Expansion.{expanded, referred, term_of, value_named, value_of};
 
 use crate::evaluation::Evaluation;
 use crate::expanding::calls::{Naming, Request, name_in};

@@ -36,7 +36,6 @@ impl Model for MemFiles {
 
 impl MemFiles {
     ghost use Rattle.std.specs.Prelude.{◌≡◌, [], map, string_bytes};
-    ghost use Rattle.kt_eval.specs.files.Memory.{MemFiles as MemFilesSeen};
 
     /// The bytes of the file with each name; of two pairs with one name the first counts. The nth read, counted from 1,
     /// fails; with 0 none does.

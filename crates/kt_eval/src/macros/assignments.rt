@@ -1,8 +1,7 @@
 //! Assignments and defines.
-ghost use Rattle.std.specs.Prelude.{◌≡◌, ◌==◌, ◌||◌, length, true};
+ghost use Rattle.std.specs.Prelude.{◌≡◌, ◌==◌, ◌||◌, true};
 ghost use Rattle.std.specs.List.{list_any};
 ghost use Rattle.kt_text.specs.Words.{is_separator};
-ghost use Rattle.kt_syntax.specs.Comments.{plain_of};
 ghost use Rattle.kt_syntax.specs.Kinds.{line_form_view};
 ghost use Rattle.kt_eval.specs.macros.Assignments.{assign, assign_line, assign_named, define, is_bad_name};
 ghost use Rattle.kt_eval.specs.inner.Doing.{Does};

@@ -1,10 +1,9 @@
 //! Conditions of conditionals.
-ghost use Rattle.std.specs.Prelude.{◌≡◌, Bool, option_map, bytes_eq, true};
-ghost use Rattle.kt_text.specs.Words.{is_nonempty, words_of};
+ghost use Rattle.std.specs.Prelude.{◌≡◌, Bool, option_map, true};
+ghost use Rattle.kt_text.specs.Words.{words_of};
 ghost use Rattle.kt_syntax.specs.Kinds.{line_form_view};
 ghost use Rattle.kt_eval.specs.reading.Conditionals.{are_equal, bad_conditional, else_holds, holds, is_defined, is_set};
 ghost use Rattle.kt_eval.specs.reading.Conditionals.{line_holds, text_holds, worded_holds};
-ghost use Rattle.kt_eval.specs.State.{lookup, raw_value};
 ghost use Rattle.kt_eval.specs.inner.Doing.{Does};
 ghost use Rattle.kt_eval.specs.Outcome.{Gives, IfCut, left_of};
 ghost use Rattle.kt_eval.specs.Step.{Blames, GoesOn, files_of};

@@ -1,6 +1,6 @@
 //! Reads makefiles to their end.
 
-ghost use Rattle.std.specs.Prelude.{◌≡◌, ◌≤◌, IfErr, IfOk, None, OnOk, Some, map, true};
+ghost use Rattle.std.specs.Prelude.{◌≡◌, ◌≤◌, IfOk, None, OnOk, Some, map};
 ghost use Rattle.kt_eval.specs.files.Files.{AgreeWith, AnswersGrow, Store};
 ghost use Rattle.kt_list.specs.Prefixes.{IsPrefix};
 ghost use Rattle.kt_eval.specs.reading.Machine.{ComesBefore, IsCopy, Remembers, Repeats, new_machine, read_by};

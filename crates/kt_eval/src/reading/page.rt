@@ -3,7 +3,7 @@
 //! look a line.
 ghost use Rattle.std.specs.Prelude.{◌≡◌, ◌+◌, ◌<◌, ◌≤◌, ◌^◌, ℕ, Bool, false, length, map, true, IfOk, IfSome, None, Some};
 ghost use Rattle.std.specs.List.{slice_get, slice_range};
-ghost use Rattle.kt_syntax.specs.Reading.{IsAhead, ReadsOn, left_at};
+ghost use Rattle.kt_syntax.specs.Reading.{ReadsOn, left_at};
 ghost use Rattle.kt_syntax.specs.Blocks.{none, tree_of};
 ghost use Rattle.kt_syntax.specs.declared.step.BlockStep.TheVariants as step;
 ghost use Rattle.kt_syntax.specs.Kinds.{blank, line_form};
@@ -11,7 +11,7 @@ ghost use Rattle.kt_syntax.specs.Roles.{line_text};
 ghost use Rattle.kt_text.specs.Lines.{AreInOrder, logical_lines_of};
 ghost use Rattle.kt_eval.specs.macros.Assignments.{body_text};
 ghost use Rattle.kt_eval.specs.reading.Reading.{line_at, sheet_of};
-ghost use Rattle.kt_eval.specs.inner.Doing.{ReadsAlike};
+ghost use Rattle.kt_eval.specs.inner.Doing.{IsStepAt, ReadsAlike};
 ghost use Rattle.kt_eval.specs.inner.Views.{raw_view};
 
 use kt_list::Shared;
@@ -105,9 +105,7 @@ impl<'a> Page<'a> {
     #[tactic(auto, using(crate::proofs::RootLemmas::none_left_past, std::proofs::lemmas::Option::slice_get_within))]
     pub(crate) fn step(&self, place: usize) -> Option<BlockStep>
         ensures value { result ≡ slice_get self.now.blocks.steps place }
-        ensures reads { IfSome result (ReadsOn self.now.blocks.steps place) }
-        ensures ahead { IfSome result (IsAhead place (length self.now.blocks.steps)) }
-        ensures within { IfSome result (λ found. place < length self.now.blocks.steps) }
+        ensures found { IfSome result (IsStepAt self.now.blocks.steps place) }
         ensures done { result ≡ None → left_at self.now.blocks.steps place ≡ none }
     {
         self.blocks.get(place)
@@ -116,14 +114,8 @@ impl<'a> Page<'a> {
     // The last of the lines, from one on, of which each but the last is blank at its first byte and comes before an
     // ordinary line: reading such a line only moves the place, and the next one moves it too.
     pub(crate) fn past_comments(&self, place: usize, step: BlockStep) -> usize
-        requires step { slice_get self.now.blocks.steps place ≡ Some step }
-        requires reads { ReadsOn self.now.blocks.steps place step }
-        requires ahead { IsAhead place (length self.now.blocks.steps) step }
-        requires within { place < length self.now.blocks.steps }
-        ensures step { slice_get self.now.blocks.steps result ≡ Some step }
-        ensures reads { ReadsOn self.now.blocks.steps result step }
-        ensures ahead { IsAhead result (length self.now.blocks.steps) step }
-        ensures within { result < length self.now.blocks.steps }
+        requires step { IsStepAt self.now.blocks.steps place step }
+        ensures step { IsStepAt self.now.blocks.steps result step }
         ensures after { place ≤ result }
         ensures same { ReadsAlike self.now place result }
     {

@@ -1,9 +1,11 @@
 -- A line that is blank only moves the place, and the next line moves it too.
-use Rattle.std.proofs.Common.{◌≡◌, ℕ, ◌+◌, ◌<◌, ◌≤◌, false, List, Some, arith, refl, sym, ap, ◌∙◌, Err, IfOk, Ok, Result, unwrap_or}
+use Rattle.std.proofs.Common.{◌≡◌, ℕ, ◌+◌, ◌<◌, ◌≤◌, false, List, Some, arith, refl, sym, ap, ◌∙◌, Bool, Err, IfOk, Ok, Result, length, unwrap_or}
 use Rattle.kt_eval.proofs.Common.{Stop, slice_get, Items, line, blank, line_form, ReadsOn, Source, File, Held, World, Gave, Evaluator, RawLine, Page, at_line, at_number, line_at, read_items, read_kind, read_line}
 use Rattle.kt_syntax.specs.declared.step.BlockStep.{BlockStep as Found}
 use Rattle.kt_syntax.specs.declared.step.BlockStep.TheVariants as step
-use Rattle.kt_eval.specs.inner.Doing.{ReadsAlike}
+use Rattle.kt_eval.specs.inner.Doing.{ReadsAlike, ReadsUpTo}
+use Rattle.kt_eval.specs.Step.{Evaluation}
+use Rattle.kt_eval.specs.expanding.Levels.{evaluator}
 
 -- the last move counts
 moved_again : (source : Source) (number other : ℕ) (w : World) → at_number source other (at_number source number w) ≡ at_number source other w
@@ -29,7 +31,19 @@ pub one_step : (steps : List Found) (place : ℕ) (found other : Found) → slic
 one_step steps place found other is too = ap (λ s. unwrap_or s found) (sym is ∙ too)
 
 -- what comes after a later place comes after an earlier one
-pub ahead_from : (place at end : ℕ) (result : Result ℕ Stop) → place ≤ at → IfOk result (λ next. (at < next) × (next ≤ end))
+ahead_from : (place at end : ℕ) (result : Result ℕ Stop) → place ≤ at → IfOk result (λ next. (at < next) × (next ≤ end))
     → IfOk result (λ next. (place < next) × (next ≤ end))
 ahead_from place at end (Ok next) le ahead = (omega (arith, le, ahead.0), ahead.1)
 ahead_from place at end (Err stop) le ahead = tt
+
+-- a call that reads from a later place on reads from an earlier one on, if what is left there does the same
+pub reads_from_earlier : (writable : Bool) (levels : ℕ) (sheet : Page) (place at : ℕ) (result : Result ℕ Stop) (old new : Evaluation) → place ≤ at
+    → ReadsAlike sheet place at → ReadsUpTo writable levels sheet at result old new → ReadsUpTo writable levels sheet place result old new
+reads_from_earlier writable levels sheet place at result old new le alike reads = record {
+  ahead = ahead_from place at (length sheet.blocks.steps) result le reads.ahead;
+  rest = λ store agrees. rw (alike (evaluator writable store levels) old.world) (reads.rest store agrees);
+  fails = λ store agrees. rw (alike (evaluator writable store levels) old.world) (reads.fails store agrees);
+  cut = λ store agrees. rw (alike (evaluator writable store levels) old.world) (reads.cut store agrees);
+  kept = reads.kept;
+  blames = reads.blames;
+}

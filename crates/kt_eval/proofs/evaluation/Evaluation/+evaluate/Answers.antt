@@ -1,22 +1,28 @@
-use Rattle.std.proofs.Common.{◌≡◌, ◌∙◌, ap, arith, length, List, rules, subst, sym, IfErr, IfOk, Some, option_map, map}
-use Rattle.kt_eval.proofs.Common.{Text, left_at, token_of, expanded, Fails, Gave, IfCut, StepEnd, left_of, World, lookup, GoesOn, AgreeWith, Store, err_from_is_err_and, evaluator, read_items}
+use Rattle.std.proofs.Common.{◌≡◌, ◌∙◌, ap, arith, List, rules, subst, sym, Some, option_map, map}
+use Rattle.kt_eval.proofs.Common.{Text, left_at, token_of, expanded, Gave, StepEnd, left_of, World, lookup, GoesOn, AgreeWith, Store, err_from_is_err_and, evaluator}
 use Rattle.kt_eval.specs.inner.Views.{compared_view}
-use Rattle.kt_eval.proofs.lemmas.EarlyLemmas.{Early, does_early, call_fails, eval_fails, foreach_fails, word_fails, sheet_fails, equal_fails, argument_at_fails, argument_at_front, or_at_fails, and_at_fails, definition_fails, definition_taken, first_fails, branch_fails}
+use Rattle.kt_eval.proofs.lemmas.EarlyLemmas.{Early, does_early, reads_early, call_fails, eval_fails, foreach_fails, word_fails, sheet_fails, equal_fails, argument_at_fails, argument_at_front, or_at_fails, and_at_fails, definition_fails, definition_taken, first_fails, branch_fails}
 use Rattle.kt_eval.specs.inner.Plain.{put_of}
 use Rattle.kt_eval.proofs.lemmas.expanding.AppendingLemmas.{put_gives, value_fails, value_front, value_gives, whole_gives, term_fails, term_gives}
 use Rattle.kt_eval.proofs.lemmas.expanding.PlainLemmas.{value_put, value_expanded}
 use Rattle.kt_eval.proofs.Steps.{rule_of_parts_goes}
-use Rattle.kt_eval.proofs.lemmas.reading.CommentLemmas.{ahead_from}
+use Rattle.kt_eval.proofs.lemmas.reading.CommentLemmas.{reads_from_earlier}
 use Rattle.kt_eval.proofs.lemmas.reading.ReadingLemmas.{first_taken}
 use Rattle.kt_eval.proofs.evaluation.Evaluation.+evaluate.Goals as goal
 
-pub read_conditional-returns-then-branch-clause-goes_on :
-    goal.read_conditional-returns-then-branch-clause-goes_on
-read_conditional-returns-then-branch-clause-goes_on g t c = λ store agrees.
-    let e = evaluator g.M.MacroScope.writable store c.args.below in
-    rw c.past.ensures
-    (first_taken e c.args.page.now c.args.page.now.blocks.steps c.args.place c.args.next c.args.after c.args.self.now.world c.branch_holds.new.self.world
-    c.requires.reads (c.in_ok-branch_holds.ensures.gives store agrees ∙ ap (λ b. Gave c.branch_holds.new.self.world b) c.if-branch.true))
+pub read_conditional-returns-then-branch : goal.read_conditional-returns-then-branch
+read_conditional-returns-then-branch g t c = record {
+  ahead = search rules;
+  rest = λ store agrees.
+      let e = evaluator g.M.MacroScope.writable store c.args.below in
+      rw c.past.ensures
+      (first_taken e c.args.page.now c.args.page.now.blocks.steps c.args.place c.args.next c.args.after c.args.self.now.world c.branch_holds.new.self.world
+      c.requires.reads (c.in_ok-branch_holds.ensures.gives store agrees ∙ ap (λ b. Gave c.branch_holds.new.self.world b) c.if-branch.true));
+  fails = λ store agrees. tt;
+  cut = λ store agrees. tt;
+  kept = search rules;
+  blames = search rules;
+}
 
 pub put_term-returns-in-Nothing : goal.put_term-returns-in-Nothing
 put_term-returns-in-Nothing g t c = record {
@@ -218,61 +224,44 @@ apply_and-returns-in_err-x g t c =
     (subst (λ (o : StepEnd World Text). Early c.in_err-x.field-0.0 c.expand.new.self.world o) (c.arguments.invariant.rest store (omega (arith, c.in_err-x.ensures.kept.0 store)))
     (and_at_fails g.M.MacroScope.writable store c.args.below c.in_err-x.field-0.0 c.arguments.self.world c.expand.new.self.world c.args.texts.now c.arguments.place _ c.arguments-test.true (h store agrees, k store agrees)))) (search rules) (search rules)
 
-pub read_conditional-returns-in_err-branch_holds-clause-fails : goal.read_conditional-returns-in_err-branch_holds-clause-fails
-read_conditional-returns-in_err-branch_holds-clause-fails g t c = λ store agrees.
+pub read_conditional-returns-in_err-branch_holds : goal.read_conditional-returns-in_err-branch_holds
+read_conditional-returns-in_err-branch_holds g t c =
     let p = err_from_is_err_and c.from_residual.result c.from_residual.ensures.1 in
     let r = c.requires.reads in
-    rw (p.1, p.2)
-    (first_fails g.M.MacroScope.writable store c.args.below c.args.page.now c.in_err-branch_holds.field-0.0 c.args.self.now.world c.branch_holds.new.self.world (left_at c.args.page.now.blocks.steps c.args.place) c.args.place r.first r.others r.rest r.left (c.in_err-branch_holds.ensures.gives store agrees, c.in_err-branch_holds.ensures.cut store agrees)).0
+    reads_early _ p.1 p.2 (λ store agrees.
+    (first_fails g.M.MacroScope.writable store c.args.below c.args.page.now c.in_err-branch_holds.field-0.0 c.args.self.now.world c.branch_holds.new.self.world (left_at c.args.page.now.blocks.steps c.args.place) c.args.place r.first r.others r.rest r.left (c.in_err-branch_holds.ensures.gives store agrees, c.in_err-branch_holds.ensures.cut store agrees))) (search rules) (search rules)
 
-pub read_conditional-returns-in_err-branch_holds-clause-cut : goal.read_conditional-returns-in_err-branch_holds-clause-cut
-read_conditional-returns-in_err-branch_holds-clause-cut g t c = λ store agrees.
-    let p = err_from_is_err_and c.from_residual.result c.from_residual.ensures.1 in
-    let r = c.requires.reads in
-    rw (p.1, p.2)
-    (first_fails g.M.MacroScope.writable store c.args.below c.args.page.now c.in_err-branch_holds.field-0.0 c.args.self.now.world c.branch_holds.new.self.world (left_at c.args.page.now.blocks.steps c.args.place) c.args.place r.first r.others r.rest r.left (c.in_err-branch_holds.ensures.gives store agrees, c.in_err-branch_holds.ensures.cut store agrees)).1
-
-pub read_step-returns-in_err-read_define-in-Define-clause-fails : goal.read_step-returns-in_err-read_define-in-Define-clause-fails
-read_step-returns-in_err-read_define-in-Define-clause-fails g t c = λ store agrees.
+pub read_step-returns-in_err-read_define-in-Define : goal.read_step-returns-in_err-read_define-in-Define
+read_step-returns-in_err-read_define-in-Define g t c =
     let p = err_from_is_err_and c.from_residual-in_err-read_define-in-Define.result c.from_residual-in_err-read_define-in-Define.ensures.1 in
     let h = rw c.in_ok-line-in-Define.ensures.done at c.in_err-read_define-in-Define.ensures.gives in
     let k = rw c.in_ok-line-in-Define.ensures.done at c.in_err-read_define-in-Define.ensures.cut in
-    let is = rw c.in-Define.is at c.requires.reads in
-    rw (p.1, p.2)
-    (definition_fails g.M.MacroScope.writable store c.args.below c.args.page.now c.in_err-read_define-in-Define.field-0.0 c.args.self.now.world c.read_define.new.self.world (left_at c.args.page.now.blocks.steps c.args.place) (left_at c.args.page.now.blocks.steps c.in-Define.end) c.args.place c.in-Define.end _ _ is (search rules) (search rules) (h store agrees, k store agrees)).0
+    let is = rw c.in-Define.is at c.requires.step.reads in
+    reads_early _ p.1 p.2 (λ store agrees.
+    (definition_fails g.M.MacroScope.writable store c.args.below c.args.page.now c.in_err-read_define-in-Define.field-0.0 c.args.self.now.world c.read_define.new.self.world (left_at c.args.page.now.blocks.steps c.args.place) (left_at c.args.page.now.blocks.steps c.in-Define.end) c.args.place c.in-Define.end _ _ is (search rules) (search rules) (h store agrees, k store agrees))) (search rules) (search rules)
 
-pub read_step-returns-in_err-read_define-in-Define-clause-cut : goal.read_step-returns-in_err-read_define-in-Define-clause-cut
-read_step-returns-in_err-read_define-in-Define-clause-cut g t c = λ store agrees.
-    let p = err_from_is_err_and c.from_residual-in_err-read_define-in-Define.result c.from_residual-in_err-read_define-in-Define.ensures.1 in
-    let h = rw c.in_ok-line-in-Define.ensures.done at c.in_err-read_define-in-Define.ensures.gives in
-    let k = rw c.in_ok-line-in-Define.ensures.done at c.in_err-read_define-in-Define.ensures.cut in
-    let is = rw c.in-Define.is at c.requires.reads in
-    rw (p.1, p.2)
-    (definition_fails g.M.MacroScope.writable store c.args.below c.args.page.now c.in_err-read_define-in-Define.field-0.0 c.args.self.now.world c.read_define.new.self.world (left_at c.args.page.now.blocks.steps c.args.place) (left_at c.args.page.now.blocks.steps c.in-Define.end) c.args.place c.in-Define.end _ _ is (search rules) (search rules) (h store agrees, k store agrees)).1
+pub read_step-returns-in_ok-read_define-in-Define : goal.read_step-returns-in_ok-read_define-in-Define
+read_step-returns-in_ok-read_define-in-Define g t c =
+    let is = rw c.in-Define.is at c.requires.step.reads in
+    record {
+      ahead = search rules;
+      rest = λ store agrees.
+          let h = rw c.in_ok-line-in-Define.ensures.done at c.in_ok-read_define-in-Define.ensures.gives in
+          definition_taken g.M.MacroScope.writable store c.args.below c.args.page.now c.args.self.now.world c.read_define.new.self.world (left_at c.args.page.now.blocks.steps c.args.place) (left_at c.args.page.now.blocks.steps c.in-Define.end) c.args.place c.in-Define.end _ _ is (search rules) (search rules) (h store agrees);
+      fails = λ store agrees. tt;
+      cut = λ store agrees. tt;
+      kept = search rules;
+      blames = search rules;
+    }
 
-pub read_step-returns-in_ok-read_define-in-Define-clause-goes_on : goal.read_step-returns-in_ok-read_define-in-Define-clause-goes_on
-read_step-returns-in_ok-read_define-in-Define-clause-goes_on g t c = λ store agrees.
-    let h = rw c.in_ok-line-in-Define.ensures.done at c.in_ok-read_define-in-Define.ensures.gives in
-    let is = rw c.in-Define.is at c.requires.reads in
-    definition_taken g.M.MacroScope.writable store c.args.below c.args.page.now c.args.self.now.world c.read_define.new.self.world (left_at c.args.page.now.blocks.steps c.args.place) (left_at c.args.page.now.blocks.steps c.in-Define.end) c.args.place c.in-Define.end _ _ is (search rules) (search rules) (h store agrees)
-
-pub read_conditional-returns-in_err-branch_holds-2-clause-fails : goal.read_conditional-returns-in_err-branch_holds-2-clause-fails
-read_conditional-returns-in_err-branch_holds-2-clause-fails g t c = λ store agrees.
+pub read_conditional-returns-in_err-branch_holds-2 : goal.read_conditional-returns-in_err-branch_holds-2
+read_conditional-returns-in_err-branch_holds-2 g t c =
     let p = err_from_is_err_and c.from_residual-in_err-branch_holds-2.result c.from_residual-in_err-branch_holds-2.ensures.1 in
     let h = c.in_err-branch_holds-2.ensures.gives in
     let k = c.in_err-branch_holds-2.ensures.cut in
-    rw (p.1, p.2)
+    reads_early _ p.1 p.2 (λ store agrees.
     (branch_fails g.M.MacroScope.writable store c.args.below c.args.page.now c.args.page.now.blocks.steps c.branches.at c.args.after c.branches.self.world _ c.in_Some-condition.condition c.in_Some-condition.next c.in_Some-condition.ensures.some.0 c.in_err-branch_holds-2.field-0.0 c.branch_holds-in_Some-condition.new.self.world
-    (c.branches.invariant.rest store (omega (arith, c.in_err-branch_holds-2.ensures.kept.0 store))) c.in_Some-condition.ensures.before c.in_Some-condition.ensures.some.1 (h store agrees, k store agrees)).0
-
-pub read_conditional-returns-in_err-branch_holds-2-clause-cut : goal.read_conditional-returns-in_err-branch_holds-2-clause-cut
-read_conditional-returns-in_err-branch_holds-2-clause-cut g t c = λ store agrees.
-    let p = err_from_is_err_and c.from_residual-in_err-branch_holds-2.result c.from_residual-in_err-branch_holds-2.ensures.1 in
-    let h = c.in_err-branch_holds-2.ensures.gives in
-    let k = c.in_err-branch_holds-2.ensures.cut in
-    rw (p.1, p.2)
-    (branch_fails g.M.MacroScope.writable store c.args.below c.args.page.now c.args.page.now.blocks.steps c.branches.at c.args.after c.branches.self.world _ c.in_Some-condition.condition c.in_Some-condition.next c.in_Some-condition.ensures.some.0 c.in_err-branch_holds-2.field-0.0 c.branch_holds-in_Some-condition.new.self.world
-    (c.branches.invariant.rest store (omega (arith, c.in_err-branch_holds-2.ensures.kept.0 store))) c.in_Some-condition.ensures.before c.in_Some-condition.ensures.some.1 (h store agrees, k store agrees)).1
+    (c.branches.invariant.rest store (omega (arith, c.in_err-branch_holds-2.ensures.kept.0 store))) c.in_Some-condition.ensures.before c.in_Some-condition.ensures.some.1 (h store agrees, k store agrees))) (search rules) (search rules)
 
 pub are_equal-returns-in-Some : goal.are_equal-returns-in-Some
 are_equal-returns-in-Some g t c = record {
@@ -282,25 +271,7 @@ are_equal-returns-in-Some g t c = record {
   blames = search rules;
 }
 
-pub read_next-returns-clause-ahead : goal.read_next-returns-clause-ahead
-read_next-returns-clause-ahead g t c = ahead_from c.args.place c.past_comments-at.result (length c.args.page.now.blocks.steps) c.read_step.result c.past_comments-at.ensures.after c.read_step.ensures.ahead
-
-pub read_next-returns-clause-goes_on : goal.read_next-returns-clause-goes_on
-read_next-returns-clause-goes_on g t c = λ store agrees.
-    let e = evaluator g.M.MacroScope.writable store c.args.below in
-    subst
-    (λ (o : StepEnd World (Unit {0})).
-    IfOk c.read_step.result (λ at. o ≡ read_items e c.args.page.now (left_at c.args.page.now.blocks.steps at) c.read_step.new.self.world))
-    (sym (c.past_comments-at.ensures.same e c.args.self.now.world)) (c.read_step.ensures.goes_on store agrees)
-
-pub read_next-returns-clause-fails : goal.read_next-returns-clause-fails
-read_next-returns-clause-fails g t c = λ store agrees.
-    let e = evaluator g.M.MacroScope.writable store c.args.below in
-    subst (λ (o : StepEnd World (Unit {0})). IfErr c.read_step.result (λ stop. Fails stop c.read_step.new.self.world o))
-    (sym (c.past_comments-at.ensures.same e c.args.self.now.world)) (c.read_step.ensures.fails store agrees)
-
-pub read_next-returns-clause-cut : goal.read_next-returns-clause-cut
-read_next-returns-clause-cut g t c = λ store agrees.
-    let e = evaluator g.M.MacroScope.writable store c.args.below in
-    subst (λ (o : StepEnd World (Unit {0})). IfCut c.read_step.result (GoesOn c.read_step.new.self.world (left_of o)))
-    (sym (c.past_comments-at.ensures.same e c.args.self.now.world)) (c.read_step.ensures.cut store agrees)
+pub read_next-returns : goal.read_next-returns
+read_next-returns g t c =
+    reads_from_earlier g.M.MacroScope.writable c.args.below c.args.page.now c.args.place c.past_comments-at.result _ _ _
+    c.past_comments-at.ensures.after c.past_comments-at.ensures.same c.read_step.ensures
