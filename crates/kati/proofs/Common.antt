@@ -1,8 +1,8 @@
 -- The names that most proofs cite, passed on from one place. Declares nothing.
 pub use Rattle.kati.specs.Devices.{devices}
 pub use Rattle.kati.specs.Meaning.{Meaning, Means, MeansAfter, MeansGoals, WantedGoals, meaning_of, prepared, wanted_by}
-pub use Rattle.kati.specs.Planning.{always_build, always_built, command_for, first_output, has_implicit, has_phony, implicit_of, joined_inputs, joined_order_only, outs_of, plan_of, plan_unless, text_fault}
-unfoldable pub use Rattle.kati.specs.Planning.{plan_groups, planned, statement_of, unwritable_in, with_always_built, written}
+pub use Rattle.kati.specs.plan.Planning.{always_build, always_built, command_for, first_output, has_implicit, has_phony, implicit_of, joined_inputs, joined_order_only, outs_of, plan_of, plan_unless, text_fault}
+unfoldable pub use Rattle.kati.specs.plan.Planning.{plan_groups, planned, statement_of, unwritable_in, with_always_built, written}
 pub use Rattle.kt_eval.proofs.lemmas.GrowingLemmas.{front_next, front_same}
 pub use Rattle.kt_eval.proofs.lemmas.LastLemmas.{last_after}
 pub use Rattle.kt_eval.specs.Outcome.{AsksNothing, Ends, Fails, Gives, IfCut, IsOfNoDevice, Stopped, done, then_do}

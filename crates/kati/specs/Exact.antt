@@ -7,8 +7,8 @@ use Rattle.std.specs.List.Sorted.{IsStrictlySortedBy}
 use Rattle.std.specs.Ordering.{nat_cmp}
 use Rattle.std.specs.Cmp.Lexicographic.{slice_cmp}
 use Rattle.kati.specs.Meaning.{Meaning, Means, WantedGoals, prepared}
-use Rattle.kati.specs.Planning.{always_build, always_built, command_for, first_output, has_implicit, statement_of}
-use Rattle.kati.specs.Planning.{with_always_built}
+use Rattle.kati.specs.plan.Planning.{always_build, always_built, command_for, first_output, has_implicit, statement_of}
+use Rattle.kati.specs.plan.Planning.{with_always_built}
 
 -- the command of a group's least member, whatever messages come before it
 pub record IsGroupCommand (table : Macros) (limit : ℕ) (group : List Node) (command : Option Text) : Type 0 where

@@ -3,7 +3,7 @@ pub mod Steps
 pub mod Listing
 pub mod Makefile
 pub mod Goals
-pub mod Planning
+pub mod plan
 pub mod Meaning
 pub mod Checking
 pub mod Devices

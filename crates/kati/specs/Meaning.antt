@@ -7,7 +7,7 @@ use Rattle.kati.specs.Steps.{telling}
 use Rattle.kati.specs.Listing.{listed}
 use Rattle.kati.specs.Makefile.{makefile_read}
 use Rattle.kati.specs.Goals.{chosen_goals}
-use Rattle.kati.specs.Planning.{planned}
+use Rattle.kati.specs.plan.Planning.{planned}
 
 -- the names asked for are those from before the run, and its own
 pub record Meaning : Type 0 where

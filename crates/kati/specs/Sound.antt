@@ -3,7 +3,7 @@
 use Rattle.std.specs.Prelude.{◌≡◌, ◌⊎◌, false, List, ◌++◌, Ok}
 use Rattle.kati.specs.Prelude.{Contains, Text, Store, canon_of, is_reserved, Reaches, outputs, Plan, Statement, Args}
 use Rattle.kati.specs.Meaning.{Meaning, Means}
-use Rattle.kati.specs.Planning.{always_build, always_built}
+use Rattle.kati.specs.plan.Planning.{always_build, always_built}
 
 -- a statement that makes the name has the input
 pub record NeedsInput (statements : List Statement) (name input : Text) : Type 0 where

@@ -1,6 +1,5 @@
 -- What only contracts of private functions and proofs cite: none of this is needed to read the public contracts.
 pub mod Stops
 pub mod Views
-pub mod Drawn
-pub mod Shown
+pub mod plan
 pub mod Delivered

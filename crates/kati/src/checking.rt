@@ -5,12 +5,12 @@ ghost use Rattle.kt_ninja.specs.Text.{plan_text};
 ghost use Rattle.kt_ninja.specs.Writable.{IsWritable};
 ghost use Rattle.kati.specs.Checking.{AskedAtCheck, IsChecked, IsSame};
 ghost use Rattle.kati.specs.AfterRun.{ReadBlames};
-ghost use Rattle.kati.specs.inner.Shown.{plan_view};
+ghost use Rattle.kati.specs.inner.plan.Shown.{plan_view};
 ghost use Rattle.kati.specs.declared.faults.RunFault.TheVariants.{Memory};
 
 use crate::expecting::Expecting;
 use crate::faults::RunFault;
-use crate::graph_plan::GraphPlan;
+use crate::plan::GraphPlan;
 use crate::status::Status;
 use kt_eval::{FileFault, Files};
 use kt_ninja::{Plan, copied_plan, write_view};
@@ -18,7 +18,7 @@ use kt_ninja_reader::{ReadFault, read_plan};
 use std::alloc::Global;
 
 /// Whether the file with this name exists and is read as the plan, however it is spelled.
-#[tactic(auto, using(crate::proofs::BlameLemmas::one_read))]
+#[tactic(auto, using(crate::proofs::lemmas::BlameLemmas::one_read))]
 pub(crate) fn check<F: Files>(
     alloc: Global,
     plan: &GraphPlan,

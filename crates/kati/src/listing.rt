@@ -36,7 +36,7 @@ pub(crate) fn listed<F: Files>(
     }
 }
 
-#[tactic(auto, using(crate::proofs::BlameLemmas::one_read))]
+#[tactic(auto, using(crate::proofs::lemmas::BlameLemmas::one_read))]
 fn read_list<F: Files>(alloc: Global, name: &str, files: &mut F) -> Result<Vec<u8>, Stop>
     ensures gives { (store : Store) → AgreeWith store (F.seen files.new).answers → Gives (λ v. v.items) result
         (traced [] (F.seen files.new).names) (listed store (Some name.now) (traced [] (F.seen files.old).names)) }

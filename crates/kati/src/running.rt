@@ -6,11 +6,11 @@ ghost use Rattle.kt_ninja.specs.Writable.{IsWritable};
 ghost use Rattle.kati.specs.Devices.{devices};
 ghost use Rattle.kati.specs.AfterRun.{BlamesDevice, Leaves, LeavesOut};
 ghost use Rattle.kati.specs.inner.Delivered.{Writes};
-ghost use Rattle.kati.specs.inner.Shown.{plan_view};
+ghost use Rattle.kati.specs.inner.plan.Shown.{plan_view};
 
 use crate::checking::check;
 use crate::faults::RunFault;
-use crate::graph_plan::GraphPlan;
+use crate::plan::GraphPlan;
 use crate::status::Status;
 use crate::telling::tell;
 use crate::translating::planned;

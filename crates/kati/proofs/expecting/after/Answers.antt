@@ -1,5 +1,5 @@
 use Rattle.kati.proofs.Common.{rules, refl, take_rest}
-use Rattle.kati.proofs.ExpectingLemmas.{taken_next}
+use Rattle.kati.proofs.lemmas.ExpectingLemmas.{taken_next}
 use Rattle.kati.proofs.expecting.after.Goals as goal
 
 pub returns-then-starts_with : goal.returns-then-starts_with

@@ -1,4 +1,4 @@
-use Rattle.kati.proofs.LimitLemmas.{only_cuts, only_cuts_runs}
+use Rattle.kati.proofs.lemmas.meaning.LimitLemmas.{only_cuts, only_cuts_runs}
 use Rattle.kati.proofs.laws.limit_cuts.Goals as goal
 
 pub returns-clause-meanings : goal.returns-clause-meanings

@@ -1,4 +1,4 @@
-use Rattle.kati.proofs.ApartLemmas.{lines_tell_names}
+use Rattle.kati.proofs.lemmas.meaning.ApartLemmas.{lines_tell_names}
 use Rattle.kati.proofs.laws.lines_tell_names.Goals as goal
 
 pub returns : goal.returns

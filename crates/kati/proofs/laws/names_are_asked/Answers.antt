@@ -1,4 +1,4 @@
-use Rattle.kati.proofs.AskedLemmas.{names_are_asked}
+use Rattle.kati.proofs.lemmas.AskedLemmas.{names_are_asked}
 use Rattle.kati.proofs.laws.names_are_asked.Goals as goal
 
 pub returns : goal.returns

@@ -1,4 +1,4 @@
-use Rattle.kati.proofs.OnceLemmas.{one_meaning}
+use Rattle.kati.proofs.lemmas.meaning.OnceLemmas.{one_meaning}
 use Rattle.kati.proofs.laws.one_meaning.Goals as goal
 
 pub returns : goal.returns

@@ -1,4 +1,4 @@
-use Rattle.kati.proofs.ReadBackLemmas.{read_back}
+use Rattle.kati.proofs.lemmas.meaning.ReadBackLemmas.{read_back}
 use Rattle.kati.proofs.laws.plans_read_back.Goals as goal
 
 pub returns : goal.returns

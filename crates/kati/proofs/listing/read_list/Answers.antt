@@ -1,5 +1,5 @@
 use Rattle.kati.proofs.Common.{rules, last_after}
-use Rattle.kati.proofs.BlameLemmas.{asks_blames}
+use Rattle.kati.proofs.lemmas.BlameLemmas.{asks_blames}
 use Rattle.kati.proofs.listing.read_list.Goals as goal
 
 pub returns-in-Ok-clause-blames : goal.returns-in-Ok-clause-blames

@@ -1,5 +1,5 @@
 use Rattle.kati.proofs.Common.{[], traced}
-use Rattle.kati.proofs.AskedLemmas.{before_makefile}
+use Rattle.kati.proofs.lemmas.AskedLemmas.{before_makefile}
 use Rattle.kati.proofs.makefile.makefile_read.Goals as goal
 
 pub returns-in-Err-clause-asked : goal.returns-in-Err-clause-asked

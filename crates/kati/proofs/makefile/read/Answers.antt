@@ -1,4 +1,4 @@
-use Rattle.kati.proofs.AskedLemmas.{reads_asked}
+use Rattle.kati.proofs.lemmas.AskedLemmas.{reads_asked}
 use Rattle.kati.proofs.makefile.read.Goals as goal
 
 pub returns-clause-reads : goal.returns-clause-reads

@@ -1,5 +1,5 @@
 use Rattle.kati.proofs.Common.{subst, Text, GrowsByFront, Takes, front_after, front_of_more, takes_twice}
-use Rattle.kati.proofs.BlameLemmas.{on_err, on_err_weaker, on_ok_weaker}
+use Rattle.kati.proofs.lemmas.BlameLemmas.{on_err, on_err_weaker, on_ok_weaker}
 use Rattle.kati.proofs.program.put_help.Goals as goal
 
 pub returns-in_err-put-clause-fault : goal.returns-in_err-put-clause-fault

@@ -1,6 +1,6 @@
 use Rattle.std.proofs.Common.{◌++◌, [], ◌∷◌, subst}
 use Rattle.kati.proofs.Common.{Text, GrowsByFront, Takes}
-use Rattle.kati.proofs.TellLemmas.{told_after, told_by, told_cut}
+use Rattle.kati.proofs.lemmas.TellLemmas.{told_after, told_by, told_cut}
 use Rattle.kati.proofs.program.put_line.Goals as goal
 
 pub returns-in_err-put-clause-told : goal.returns-in_err-put-clause-told

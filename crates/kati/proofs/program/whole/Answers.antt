@@ -1,6 +1,6 @@
 use Rattle.kati.proofs.Common.{ap, refl, devices}
-use Rattle.kati.proofs.BlameLemmas.{on_ok_weaker}
-use Rattle.kati.proofs.TellLemmas.{told_end}
+use Rattle.kati.proofs.lemmas.BlameLemmas.{on_ok_weaker}
+use Rattle.kati.proofs.lemmas.TellLemmas.{told_end}
 use Rattle.kati.proofs.program.whole.Goals as goal
 
 pub returns-in-Ok : goal.returns-in-Ok

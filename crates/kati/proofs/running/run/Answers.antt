@@ -1,6 +1,6 @@
 use Rattle.kati.proofs.Common.{arith, refl, rules, devices}
-use Rattle.kati.specs.inner.Shown.{plan_view}
-use Rattle.kati.proofs.RunLemmas.{checked_leaves, written_leaves}
+use Rattle.kati.specs.inner.plan.Shown.{plan_view}
+use Rattle.kati.proofs.lemmas.RunLemmas.{checked_leaves, written_leaves}
 use Rattle.kati.proofs.running.run.Goals as goal
 
 pub returns-in-Some-clause-leaves : goal.returns-in-Some-clause-leaves

@@ -1,5 +1,5 @@
-use Rattle.kati.specs.inner.Shown.{plan_view}
-use Rattle.kati.proofs.MeaningLemmas.{then_means}
+use Rattle.kati.specs.inner.plan.Shown.{plan_view}
+use Rattle.kati.proofs.lemmas.MeaningLemmas.{then_means}
 use Rattle.kati.proofs.translating.planned.Goals as goal
 
 pub returns-clause-means : goal.returns-clause-means

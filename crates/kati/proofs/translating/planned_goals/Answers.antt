@@ -1,9 +1,9 @@
 use Rattle.kati.proofs.Common.{[], rules, traced, known_names, IsSoundGraph}
 use Rattle.std.proofs.lemmas.Result.{err_from_is_err_and}
-use Rattle.kati.specs.inner.Shown.{plan_view}
+use Rattle.kati.specs.inner.plan.Shown.{plan_view}
 use Rattle.kati.specs.inner.Views.{goals_view}
-use Rattle.kati.proofs.MeaningLemmas.{first_asks, seen_means, trouble_means}
-use Rattle.kati.proofs.SoundLemmas.{sound_if_ok}
+use Rattle.kati.proofs.lemmas.MeaningLemmas.{first_asks, seen_means, trouble_means}
+use Rattle.kati.proofs.lemmas.meaning.SoundLemmas.{sound_if_ok}
 use Rattle.kati.proofs.translating.planned_goals.Goals as goal
 
 pub returns-in_err-graph-clause-means : goal.returns-in_err-graph-clause-means

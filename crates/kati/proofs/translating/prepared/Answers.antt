@@ -1,7 +1,7 @@
 use Rattle.std.proofs.Common.{◌≡◌, Ok, arith, rules}
 use Rattle.kati.specs.inner.Views.{read_view}
-use Rattle.kati.proofs.AskedLemmas.{list_read, list_stops}
-use Rattle.kati.proofs.OutcomeLemmas.{chosen_after}
+use Rattle.kati.proofs.lemmas.AskedLemmas.{list_read, list_stops}
+use Rattle.kati.proofs.lemmas.OutcomeLemmas.{chosen_after}
 use Rattle.kati.proofs.translating.prepared.Goals as goal
 
 pub returns-in_err-list-clause-asked : goal.returns-in_err-list-clause-asked

@@ -1,7 +1,7 @@
 use Rattle.std.proofs.Common.{◌≡◌, List, rules, subst}
 use Rattle.kati.proofs.Common.{Text, known_names}
 use Rattle.kati.specs.inner.Stops.{IsFirstStop}
-use Rattle.kati.proofs.MeaningLemmas.{first_stop}
+use Rattle.kati.proofs.lemmas.MeaningLemmas.{first_stop}
 use Rattle.kati.proofs.translating.sound_graph.Goals as goal
 
 pub returns-in-Err-clause-first : goal.returns-in-Err-clause-first

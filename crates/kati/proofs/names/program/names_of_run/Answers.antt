@@ -1,7 +1,7 @@
 use Rattle.kati.proofs.Common.{ap, refl, devices}
-use Rattle.kati.proofs.BlameLemmas.{on_ok_weaker}
-use Rattle.kati.proofs.TellLemmas.{told_end}
-use Rattle.kati.proofs.NamesLemmas.{blames_after}
+use Rattle.kati.proofs.lemmas.BlameLemmas.{on_ok_weaker}
+use Rattle.kati.proofs.lemmas.TellLemmas.{told_end}
+use Rattle.kati.proofs.lemmas.NamesLemmas.{blames_after}
 use Rattle.kati.proofs.names.program.names_of_run.Goals as goal
 
 pub returns : goal.returns

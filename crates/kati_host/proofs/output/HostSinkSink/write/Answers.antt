@@ -2,7 +2,7 @@ use Rattle.std.proofs.Common.{◌≡◌, ◌++◌, Some, ap, arith, take}
 use Rattle.std.proofs.lemmas.Grind.{common_steps}
 use Rattle.kt_ninja.specs.Written.{SinkSeen}
 use Rattle.kt_ninja.proofs.Growth.{front_taken}
-use Rattle.kati.proofs.BlameLemmas.{on_err}
+use Rattle.kati.proofs.lemmas.BlameLemmas.{on_err}
 use Rattle.kati_host.proofs.output.HostSinkSink.write.Goals as goal
 
 -- whether or not it fails after that, a prefix of the piece was taken
