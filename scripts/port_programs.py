@@ -56,7 +56,7 @@ sys.dont_write_bytecode = True
 TOP = Path(__file__).resolve().parent.parent
 sys.path.insert(0, str(TOP / "share/kati"))
 
-from kati_tools.base import programs, words  # noqa: E402
+from kati_tools.base import programs, shims, words  # noqa: E402
 
 AS_MAKE, OTHERWISE = 0, 1
 SECONDS = 900
@@ -358,6 +358,8 @@ def try_programs(asked):
 
 
 def main():
+    # make gets the PATH that the tools have.
+    shims.put_back()
     parser = argparse.ArgumentParser(prog="port_programs.py", description=__doc__,
                                      formatter_class=argparse.RawDescriptionHelpFormatter)
     parser.add_argument("--list", metavar="FILE", type=Path,

@@ -36,7 +36,7 @@ sys.dont_write_bytecode = True
 TOP = Path(__file__).resolve().parent.parent
 sys.path.insert(0, str(TOP / "share/kati"))
 
-from kati_tools.base import programs, words  # noqa: E402
+from kati_tools.base import programs, shims, words  # noqa: E402
 from kati_tools.build import calls_of_recipes, ninja_text  # noqa: E402
 
 SAME, TOLD, UNTOLD, NOT_COMPARED, DIFFERS = 0, 1, 2, 3, 5
@@ -240,6 +240,8 @@ def record(asked):
 
 
 def main():
+    # make gets the PATH that the tools have.
+    shims.put_back()
     parser = argparse.ArgumentParser(description=__doc__, formatter_class=argparse.RawDescriptionHelpFormatter)
     parser.add_argument("-f", dest="makefile", metavar="FILE", help="the makefile")
     parser.add_argument("--shell", default="/bin/sh", help="the shell of the makefile; /bin/sh without it")

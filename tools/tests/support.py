@@ -14,7 +14,11 @@ TOP = Path(__file__).resolve().parent.parent.parent
 TOOLS = TOP / "tools"
 sys.path.insert(0, str(TOP / "share/kati"))
 
-from kati_tools.base import programs  # noqa: E402
+from kati_tools.base import programs, shims  # noqa: E402
+
+# make and ninja have the PATH here that the tools have, also where a shim of pyenv's has put folders before it.
+for top in shims.TOPS:
+    os.environ.pop(top, None)
 
 # So many seconds end what hangs; what is only slow, on a machine with much else to do, takes fewer.
 LONG = 1200

@@ -48,6 +48,13 @@ CONSTRUCTS = {
         ({"Makefile": "ifndef $(OS_)\n OS_ = linux\nendif\nifeq (1,2)\nelse ifdef $(NONE) # none\nX = 1\nelse\nX = 2\n"
                       "endif\nall: ; echo $(OS_) $(X) > out\n"},
          ["ifndef $(or $(OS_),KATI_NO_NAME)\n", "else ifdef $(or $(NONE),KATI_NO_NAME) # none\n"]),
+    "a conditional with a parenthesis too much":
+        ({"Makefile": "C = gcc\nifneq ($(C)),no) # none\nX = 1\nendif\nifeq (1,2)\n"
+                      "else ifeq ($(C)) ,  gcc$(E))\nX += 2\nelse ifeq ($(C))\",\tgcc$(E))\nelse\nX += 3\nendif\n"
+                      "ifeq (a,$(C)) )\nX += $(shell echo 4)\nendif\nifneq ($(C)) ),gcc) gcc)\nX += 5\nendif\n"
+                      "all: ; echo $(X) > out\n"},
+         ["ifneq \"$(C))\" \"no\" # none\n", "else ifeq '$(C))\"' 'gcc$(E)'\n", "ifeq (a,$(C)) )\n",
+          "ifneq \"$(C)) )\" \"gcc\"\n"]),
     "another mark before recipe lines":
         ({"Makefile": ".RECIPEPREFIX = >\ndefine R\n$(1):\n> echo $(1) \\\n>> $(1)\nendef\nall: a b \\\n\tc\n"
                       "a:\n>@echo a > a ; \\\n> echo \"x\\\n\tb\" >> a\n\tX = 1\nb: ; echo $(X) > b\n"
@@ -65,6 +72,15 @@ CONSTRUCTS = {
                       "add = $(eval $(call PROG,$(1)))\n$(call add,s)\n",
           "more.mk": "$(eval $(call PROG,r))\n", "p.c": "", "q.c": "", "r.c": "", "s.c": ""},
          ["ifdef MAKE_VERSION\n$(foreach p,p q,$(eval $(call PROG,$(p))))\nelse\n", "\nF_HERE = -Dp $(G)\n"]),
+    "a template that has values among its arguments":
+        ({"Makefile": "all: a.out b.out c.out\nF = 0\ndefine PROG\n$(1).out: F += -D$(1)\n$(1).out: $(2)\n"
+                      "\techo $$(F) > $$@; cat $$^ >> $$@\nendef\ndefine OUT\nexport X_$(1) = $(2)\n"
+                      "$(1).out: ; echo $$$$X_$(1) > $$@\nendef\nN := $(shell echo 1)\n"
+                      "$(foreach n,a b,$(eval $(call PROG,$(n),$(wildcard $(n)/*.c))))\n"
+                      "$(eval $(call OUT,c,$(shell ls a)))\n",
+          "a/1.c": "1\n", "b/2.c": "2\n", "b/3.c": "3\n"},
+         ["ifdef MAKE_VERSION\n$(foreach n,a b,$(eval $(call PROG,$(n),$(wildcard $(n)/*.c))))\nelse\n",
+          "endif\nifdef MAKE_VERSION\n$(eval $(call OUT,c,$(shell ls a)))\nelse\n"]),
     "a wildcard in a template that another one evaluates":
         ({"Makefile": "all: a/prog b/prog\ndefine OBJS\n$1_OBJS := $$(patsubst %.c,%.o,$$(wildcard $1/*.c))\nendef\n"
                       "define PROG\n$$(eval $$(call OBJS,$1))\n$1/prog: $$($1_OBJS)\n\tcat $$^ > $$@\nendef\n"
@@ -76,6 +92,11 @@ CONSTRUCTS = {
                       "$1: ; echo $$$$X_$1 $$(F) > $1\nundefine G\nendef\nG = 2\n"
                       "$(eval $(call T,a))\n$(eval $(call T,b))\n"},
          ["X_a=\"$(X_a)\""]),
+    "one behind a tab, which others behind tabs name":
+        ({"Makefile": "ifndef NO\n\tifndef X\n\t\tX = $(eval X := $(shell echo val))$(X)\n\tendif\n\tF += $(X)\nelse\n"
+                      "\tY = $(eval Y := 1)$(Y)\nendif\nG = -O $(F)\nall: ; echo $(G) > out\n"},
+         ["ifdef MAKE_VERSION\n                X = $(eval X := $(shell echo val))$(X)\nelse\nX = $(V_X)\nendif\n",
+          "\n\tF += $(X)\n", "\n\tY = $(eval Y := 1)$(Y)\n"]),
     "a macro that evaluates its own value":
         ({"Makefile": "X = $(eval X := $(shell echo val))$(X)\nY = $(if $(Y_),,$(eval Y_ := $(shell cat y)))$(Y_)\n"
                       "all: ; echo $(X) $(Y) > out\n", "y": "v2\n"},

@@ -10,9 +10,10 @@ from unittest import mock
 
 from support import Tree, kati, kati_asked, needs
 
-from kati_tools.base import programs
+from kati_tools.base import files, own_files, programs, scratch
+from kati_tools.makefile import ported_text
 from kati_tools.make import make_run, recipe_shell, running, shell_reading, shell_text
-from kati_tools.port import command_reads, freezing, frozen_values, make_probes
+from kati_tools.port import command_reads, freezing, frozen_values, make_probes, read_lines
 
 # Of each construct: lines of a makefile, and what its recipe has of them; ~ stands for a number.
 CONSTRUCTS = (
@@ -65,17 +66,20 @@ def template(count):
 class Cost(Tree):
     """Programs that stand for kati, kati-asked and make count their runs."""
 
+    def setUp(self):
+        super().setUp()
+        programs = (("KATI", "kati", kati()), ("KATI_ASKED", "kati", kati_asked()), ("MAKE", "make", "make"))
+        self.counted = self.top.parent / "counted"
+        self.counting = {key: self.program(f"{key}-counted", f'echo {name} >> {self.counted}\nexec {path} "$@"')
+                         for key, name, path in programs}
+
     def runs(self, *words, tool="kati-port"):
         """How often a port by a tool runs kati and make, and what it says. A run of kati-asked in the place of kati's
         counts as one of kati."""
-        counted = self.top.parent / "counted"
-        counted.write_text("")
-        programs = (("KATI", "kati", kati()), ("KATI_ASKED", "kati", kati_asked()), ("MAKE", "make", "make"))
-        around = {key: self.program(f"{key}-counted", f'echo {name} >> {counted}\nexec {path} "$@"')
-                  for key, name, path in programs}
-        ran = self.tool(tool, *words, **around)
+        self.counted.write_text("")
+        ran = self.tool(tool, *words, **self.counting)
         self.assertEqual(ran.status, 0, ran.all)
-        found = counted.read_text().split()
+        found = self.counted.read_text().split()
         return found.count("kati"), found.count("make"), ran.all
 
     def test_the_runs_do_not_grow_with_the_faults(self):
@@ -173,6 +177,32 @@ class Cost(Tree):
             counts.append(katis)
         self.assertEqual(counts, [4, 5])
 
+    def test_an_include_that_the_port_makes_is_no_change(self):
+        """What the port itself puts in its place, as make has made it, is known: kati translates once, as where it is
+        there already; and nothing is new to the next run, as kati-build's own files are in no folder that is listed."""
+        self.put_all({"a.c": "", "Makefile": "N := $(shell echo 1)\nout: a.c\n\techo $(N) $(C) > $@\n"
+                      "include ./conf.mk\nconf.mk: a.c\n\techo C = 1 > $@\n"})
+        counts = [self.runs("--port", "--no-ninja", tool="kati-build")[:2] for _ in range(2)]
+        self.assertEqual(self.read("conf.mk"), "C = 1\n")
+        self.assertEqual(counts[1], (0, 0))
+        self.assertEqual(sorted(self.read("build.kati/files.txt").split()), ["Makefile", "a.c", "conf.mk"])
+        self.assertEqual(self.tool("kati-build", "--remove").status, 0)
+        self.assertEqual(self.runs("--port", "--no-ninja", tool="kati-build")[0], counts[0][0])
+
+    def test_what_make_has_told_of_makefiles_kati_is_not_asked(self):
+        """Which includes rules make, where the goals need those that make has a recipe for: kati-asked translates once
+        for the goals, and once as without what they say; else also what all makefiles need, and those with the
+        goals."""
+        asked = f'echo asked >> {self.counted}\nexec {kati_asked()} "$@"'
+        self.counting["KATI_ASKED"], counts = self.program("asked-counted", asked), []
+        for need in ("conf.mk", "a.c"):
+            self.put_all({"a.c": "", "conf.mk": "C = 1\n", "b.mk": "", "Makefile":
+                          f"N := $(shell echo 1)\nprog: a.c {need}\n\techo $(C) $(N) > $@\ninclude conf.mk b.mk\n"
+                          "-include c.mk\nconf.mk: ; echo C = 1 > $@\n.SUFFIXES:\n$(X): ; echo > $@\nX := d\n"})
+            self.runs("--port", "--no-ninja", "-o", f"{need}.ninja", tool="kati-build")
+            counts.append(self.counted.read_text().split().count("asked"))
+        self.assertEqual(counts, [2, 4])
+
     def test_what_make_does_not_come_by_stays(self):
         self.put("Makefile", "A := $(shell echo a)\nifeq ($(A),b)\nB := $(shell echo b)\nexport C\nelse ifeq ($(A),a)\n"
                              "D := $(shell echo d)\nexport E = e\nelse\nF := $(shell echo f)\noverride G = 1\nendif\n"
@@ -265,6 +295,32 @@ class Quick(unittest.TestCase):
             self.assertEqual(recipe_shell.first_fault(database, "m", "/room"), found, database)
             seen.add(found)
         self.assertGreater(len(seen), 2)
+
+    def test_whether_make_reads_a_line_is_looked_for_once(self):
+        """And anew where make has told more."""
+        file = ported_text.PortedFile("Makefile", "ifdef A\nB = 1\nelse\nB = 2\nendif\n")
+        found = read_lines.ReadLines([file])
+        with mock.patch.object(found, "is_taken", wraps=found.is_taken) as looks:
+            self.assertEqual([found.is_read(file.lines[at]) for at in (1, 3, 1, 3)], [True, False, True, False])
+            self.assertEqual(looks.call_count, 2)
+            # It tells where it comes by the `else`: then it has not taken the first branch.
+            found.take({read_lines.FIRST: [""]})
+            self.assertEqual([found.is_read(file.lines[at]) for at in (1, 3)], [False, True])
+
+    def test_names_of_kati_build_are_told_folder_by_folder(self):
+        made = random.Random(4)
+        with scratch.room("kati-tests-") as room, programs.inside(room):
+            for name in ("a/build.kati/lock", "a/build.ninja", "a/build.c", "b/build.ninja", "other.kati/lock"):
+                os.makedirs(os.path.dirname(name), exist_ok=True)
+                files.write(name, own_files.FIRST_LINE.encode())
+            parts = ("a", "b", "build.kati", "build.ninja", "build.c", "other.kati", "x", ".", "..", "")
+            paths = ["/".join(made.choice(parts) for _ in range(made.randrange(1, 5))) for _ in range(3000)]
+            found = [path for path in paths if not own_files.is_below(path)]
+            self.assertEqual(own_files.others(paths), found)
+            self.assertLess(len(found), len(paths) - 100)
+            with mock.patch.object(own_files, "rooms_in", wraps=own_files.rooms_in) as looks:
+                self.assertEqual(len(own_files.others([f"c/{number}" for number in range(100)])), 100)
+            self.assertLess(looks.call_count, 5)
 
     def test_python_looks_seldom_for_what_refers_to_itself_alone(self):
         before = gc.get_threshold()

@@ -31,6 +31,11 @@ TREES = {
     "a source here and in a folder, and another one by a rule that names it":
         {"Makefile": "VPATH = va vb\nall: s.out one.up two.up\ns.out: one.p two.p\n\tcat $^ > $@\n%.up: %.p\n"
                      "\tcat $< > $@\n", "va/one.p": "one\n", "vb/two.p": "two\n", "two.p": "here\n"},
+    "rules that name folders which are searched":
+        {"Makefile": "VPATH = va vb vc\nall: a.o b.o c.o d.o\n%.o: va/%.c\n\techo first > $@; cat $^ >> $@\n"
+                     "%.o: %.c | d.c\n\techo searched > $@; cat $+ >> $@\n"
+                     "%.o: vb/%.c\n\techo last > $@; cat $^ >> $@\n",
+         "va/a.c": "a\n", "vb/b.c": "b\n", "vc/c.c": "c\n", "d.c": "d\n"},
     "a call behind what a rule searches for":
         {"Makefile": "VPATH = src\nall: b.o\n%.o: %.c $(wildcard *.h)\n\tcat $^ > $@\n", "src/b.c": "b\n",
          "a.h": "h\n"},

@@ -47,6 +47,16 @@ class Written(Tree):
                 self.assertEqual((self.read("deps/a.d"), self.read("obj/a.o")), ("a\n", "a\n"))
             self.run_in("rm", "-r", "deps", "obj", "build.kati", "build.ninja")
 
+    def test_a_folder_of_what_has_no_command(self):
+        self.put("Makefile", "$(shell mkdir -p .d)\nall: a.o\n%.o: %.c\n%.o: %.c .d/%.d\n\tcp $< .d/$*.Td\n"
+                             "\tmv .d/$*.Td .d/$*.d; cp $< $@\n.d/%.d: ;\ninclude $(wildcard .d/a.d)\n")
+        self.put("a.c", "# a\n")
+        self.assertEqual(self.run_in("make").status, 0)
+        wanted = self.read("a.o")
+        self.run_in("rm", "-r", "a.o", ".d")
+        ran = self.tool("kati-build", "--port")
+        self.assertEqual((ran.status, self.read("a.o")), (0, wanted), ran.all)
+
     def test_a_folder_that_a_call_makes_for_another_goal(self):
         self.put("Makefile", "X := $(shell mkdir -p obj)\nobj/a: ; echo a > $@\nb: ; echo b > obj/b\n")
         self.assertEqual(self.tool("kati-build", "--port", "obj/a").said, "")

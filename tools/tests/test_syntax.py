@@ -29,6 +29,7 @@ OTHERS = {
 MAKEFILE_TEXT = re.compile("|".join((
     r"\\\$\[?\(?[({]", r"\\\$\\[({]", r"\\\$\(\?:", r"\\\$\\\$",
     r"\[[^\]]*[?+!][^\]]*\][?*+]?\)?=", r":\{\d?,\d?\}\)?=",
+    r"\[\^\\s:", r"\(\?:\\\.\\\./\)",
     r"\bifn?\??(?:eq|def)", r"\b(?:endef|define|endif|include|override|export|vpath)\b", r"\\\\\\n")))
 # Pieces of which odd texts are made.
 PIECES = ("$(", "${", ")", "}", "$", "$$", "$x", "$(a:b=c)", "define", "endef", "ifdef X", "else", "endif",
@@ -110,6 +111,12 @@ class References(unittest.TestCase):
                                    ("\\", ":", -1)):
             self.assertEqual(references.find_outside(text, marks), place, text)
 
+    def test_words_that_functions_hand_on(self):
+        text = "$(sort *.c $(if *.d,*.e *.f)) $(filter *.g,$(or *.h)) $(subst *.i,,*.j) $(*.k) $(eval x: *.l)"
+        found = [text[slice(*place)] for span in references.handed_on(references.forest(text))
+                 for place in references.places_of_words(text, *span)]
+        self.assertEqual(found, ["*.c", "$(if *.d,*.e *.f)", "*.e", "*.f", "x:", "*.l"])
+
     def test_many_levels(self):
         for text in ("$(" * 3000 + "a" + ")" * 3000, "$(" * 3000, "$(a)" * 3000):
             self.assertEqual(check_syntax.together(text, references.forest(text), 0, len(text)), text)
@@ -183,6 +190,24 @@ class Makefiles(unittest.TestCase):
             Kind.ASSIGNMENT, Kind.BLANK, Kind.RULE, Kind.RECIPE, Kind.DEFINE, Kind.BODY, Kind.ENDEF, Kind.CONDITION,
             Kind.CONDITION, Kind.INCLUDE, Kind.UNDEFINE, Kind.DIRECTIVE, Kind.TARGET_ASSIGNMENT, Kind.REFERENCE,
             Kind.OTHER, Kind.STRAY_TAB])
+
+    def test_places_of_words(self):
+        """The names of a rule, or the words of a value; not what a recipe, a comment or the name of a macro has."""
+        for text, *words in (("*.b: *.a|*.c ; ls *.d", "*.b", "*.a", "*.c"), ("a: x\\\n *.c # *.d", "a", "x", "*.c"),
+                             ("*.x *.y : *.z : *.w", "*.x", "*.y", "*.z", "*.w"),
+                             ("A=*.c \\\n  *.d # *.e", "*.c", "*.d"), ("a *.x: B := *.c;*.d # *.e", "*.c;*.d"),
+                             ("$(call f,a, *.c)", "$(call f,a, *.c)", "a", "*.c")):
+            line = syntax.Makefile(text).lines[0]
+            self.assertEqual([line.text[slice(*place)] for place in syntax.places(line)], words)
+
+    def test_place_of_a_word(self):
+        line = syntax.Makefile("x*.c: a*.c *.c *.c").lines[0]
+        self.assertEqual((syntax.place_of(line, "*.c"), syntax.place_of(line, "c")), ((11, 14), None))
+
+    def test_names_above(self):
+        text = "I = -I ../inc/sys ..a/../b\n\tcp '../../c d' $(T)/../e ../ .../f\n"
+        self.assertEqual(syntax.names_above(text),
+                         {("../", "inc"), ("../", "b"), ("../../", "c"), ("../", "e")})
 
     def test_definitions_in_others(self):
         text = "define a\ndefine b\n\tendef\nendef\n override define\nendef # x\nA = b\n"
@@ -310,7 +335,7 @@ class OneReading(unittest.TestCase):
 
     def test_what_such_a_form_is(self):
         for form in (r"\$[({]shell", r"\$\((\w+)\)", r"[:+?!]*=", r"^ifdef X", r"(\\+)\\\n", r"define ", r":{0,3}=",
-                     r"\$\$x"):
+                     r"\$\$x", r"(?![^\s:;|])", r"((?:\.\./)+)(\w+)"):
             self.assertRegex(form, MAKEFILE_TEXT)
         for form in (r"[*?\[]", r"\.(d|dep)$", r"(\.\w+)(\.\w+)", r"^default (.*)$"):
             self.assertNotRegex(form, MAKEFILE_TEXT)

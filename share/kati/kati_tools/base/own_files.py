@@ -15,6 +15,8 @@ ASIDE = "aside"
 # The file whose time is that of a run's start; and the one that says of which form the other files are: each change of
 # a form has a number of its own.
 BEGUN, VERSION, FORM = ".begun", "version", "2\n"
+# How often one ninja has had the makefile translated.
+TRIES = ".tries"
 # What a shell does to see whether anything is new.
 LOOK = ".look"
 # The sum of the compile_commands.json that stands beside the folder, where kati-build has written it.
@@ -48,6 +50,19 @@ def is_own(folder, name):
 def among(folder, names):
     """Those of these names in a folder that are kati-build's."""
     return {name for name in names if is_own(folder, name)} if rooms_in(os.path.abspath(folder)) else set()
+
+
+def others(paths):
+    """Those of these paths of which `is_below` isn't so; each folder of theirs is looked at once."""
+    looked, found = {}, []
+    for path in paths:
+        folder, name = os.path.split(path.rstrip("/"))
+        if folder not in looked:
+            looked[folder] = (folder not in ("", path) and is_below(folder), bool(rooms_in(os.path.abspath(folder))))
+        is_inside, has_own = looked[folder]
+        if not (is_inside or has_own and is_below(path)):
+            found.append(path)
+    return found
 
 
 def is_below(path):

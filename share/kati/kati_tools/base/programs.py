@@ -4,6 +4,8 @@ import gc
 import os
 import sys
 
+from . import shims
+
 # The folder of this package's parent: share/kati, in a checkout as where it is installed.
 SHARE = os.path.dirname(os.path.dirname(os.path.dirname(os.path.realpath(__file__))))
 # The top of the checkout, or the prefix of the installation.
@@ -245,6 +247,7 @@ def ending(tool, call, *given):
     gc.set_threshold(OBJECTS_BETWEEN_LOOKS)
     try:
         open_what_is_closed()
+        shims.put_back()
         return call(*given)
     except SystemExit as end:
         return end.code

@@ -6,6 +6,7 @@ import os
 import time
 
 from ..base import files, own_files
+from . import unchanged
 
 # So often what is read may change meanwhile.
 TIMES = 3
@@ -49,19 +50,31 @@ class Inputs:
 
     def __init__(self, room):
         self.room, self.start, self.there, self.contents = room, None, set(), {}
+        # Files that this run has put in place before it read them, each with what tells it from one written since.
+        self.put = {}
 
     def begin(self, names):
         """Begins to read. Of those names that are known already it is kept what is there, as far as their times won't
         tell."""
-        self.start = Start(self.room)
+        self.start, self.put = Start(self.room), {}
         self.there = {name for name in names if os.path.lexists(name)}
         self.contents = {name: files.content(name) for name in self.there if self.start.is_newer(name)}
+
+    def take(self, names):
+        """Has what this run itself has put in place be as at the start."""
+        self.put.update((name, unchanged.identity(name)) for name in names)
+        self.contents.update((name, files.content(name)) for name in names)
+        self.there.update(names)
+
+    def is_as_before(self, name):
+        """Whether what is in a file is known to be what was in it at the start."""
+        known = [self.contents[one] for one in (name, os.path.normpath(name)) if one in self.contents]
+        return bool(known) and known[0] == files.content(name)
 
     def changed(self, names):
         """Those of these names of which it isn't known that they are as they were at the start; folders aside, and what
         kati-build itself writes, which a pattern may name."""
         gone = [name for name in self.there if not os.path.lexists(name)]
         newer = [name for name in names if self.start.is_newer(name) and not os.path.isdir(name)]
-        found = gone + [name for name in newer
-                        if name not in self.contents or self.contents[name] != files.content(name)]
+        found = gone + [name for name in newer if not self.is_as_before(name)]
         return [name for name in found if not own_files.is_below(name)]

@@ -1,4 +1,4 @@
-"""Calls of `shell` that the recipe's own shell runs for kati.
+"""Calls of `shell`, and of `file` that write, which the recipe's own shell runs for kati.
 
 make's command has what such a call gave when make was asked, and kati's the call itself. make is asked once more, with
 kati's text in the place of these calls: where the commands are the same then, they have the same text, and the calls
@@ -18,6 +18,9 @@ PRINTING_NONE = {"touch", "mkdir", "rm", "chmod", "true", ":", "echo", "printf"}
 WRITING_NONE = {"cat", "cmp", "diff", "echo", "grep", "head", "ls", "printf", "tail", "test", "[", "wc"}
 NAMES_OF_SHELL = re.compile(r"\$\{?(\w+)")
 ENDS_WELL = re.compile(r"(?:\|\||;)\s*(?:true|:)\s*\)$")
+# What it runs for a call of `file`, and the names of files in such texts.
+WRITES, WRITTEN = "{prints} {mark} '{name}';", re.compile(r">>? '([^'\n]*)';")
+OF_SHELL = "$("
 # How many are named, and by which words.
 MOST, RUNS = 5, "for kati the recipe's own shell runs, when it comes to it: "
 ASSIGNED = re.compile(r"(?:^|[\s;|&(){}])[A-Za-z_]\w*=$")
@@ -124,6 +127,8 @@ def is_within(quote, before):
 
 def why_other(use):
     """Why the recipe's shell is seen to have another value for a call than make; None where it isn't."""
+    if not use.call.startswith(OF_SHELL):
+        return None
     if not (use.before.strip() or use.value or ENDS_WELL.search(use.call)):
         return "a fault of its own ends the recipe, where make goes on"
     if is_within("'", use.before):
@@ -143,9 +148,19 @@ def late_reads(calls, recipes):
         texts = [text.strip() for text in recipe]
         for at, text in enumerate(texts):
             for call in (call for call in calls if call in text):
-                reason = why_late(call, text[:text.index(call)], texts[:at])
+                why = why_late if call.startswith(OF_SHELL) else why_written_late
+                reason = why(call, text[:text.index(call)], texts[:at])
                 if reason:
                     yield call, reason
+
+
+def why_written_late(call, before, others):
+    """Why it counts that the recipe's shell writes a file later than make, which does before it runs anything; None
+    where it isn't seen to."""
+    rest = [WRITTEN.sub("; ", text) for text in (*others, before)]
+    named = {word for text in rest for words in shell_text.simple_commands(text) for word in words}
+    both = sorted(named.intersection(WRITTEN.findall(call)))
+    return f"its recipe names {both[0]} before it" if both else None
 
 
 def why_late(call, before, others):

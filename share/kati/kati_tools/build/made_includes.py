@@ -184,7 +184,9 @@ class Looking:
     def all(self, asked, again):
         """The includes where kati takes the makefile as it is."""
         goals = goals_of(self.translator.words) or default_goals(self.found.text)
-        wrapped = self.asking.ask(asked)
+        # What the goals don't make, and make has no recipe for, kati isn't asked about.
+        left = {name for name in asked if name not in self.found.outputs} - self.translator.without_recipes
+        wrapped = self.asking.ask(asked) if left else self.found
         names = self.made_of(asked, wrapped)
         if not names:
             self.doubt(wrapped)

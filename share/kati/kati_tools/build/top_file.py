@@ -8,8 +8,8 @@ translation depends on, by kati-build itself, and ninja reads the file again whe
 - `generator`: `ninja -t clean` leaves the file alone, and another spelling of the command alone makes nothing
   anew.
 - A file that is gone would stop ninja, so each stands as a `phony` output, which may be absent. One that isn't
-  there yet can't be an input; the folder in which it would come into being is one. So is each folder of the list
-  of sources.
+  there yet can't be an input, unless the statements make it; the folder in which it would come into being is one. So
+  is each folder of the list of sources.
 - What kati wrote is an input itself: one that is emptied is made anew. A run writes it before this file.
 - Ninja's own log stands in a folder that nothing depends on, or each run of ninja would change what this file
   depends on.
@@ -34,6 +34,7 @@ UNUSUAL = re.compile(r"^\./|/\.|//|/$", re.MULTILINE)
 # One of these stands in names of which one is unusual, with a line's end behind each.
 MARKS = (b"./", b"/.", b"//", b"/\n")
 CHANGED = re.compile(r"# What kati wrote changed at (\d+)\.\n")
+BEFORE_INPUT = " $\n    "
 TEMPLATE = own_files.FIRST_LINE + """\
 # What kati wrote changed at {changed}.
 builddir = {room}
@@ -62,6 +63,11 @@ rule kati_build
 build {output}: kati_build kati_build_always
 build kati_build_always: phony
 """
+
+
+def inputs_in(text):
+    """The names that the file depends on by a text of it."""
+    return {ninja_text.plain(piece.partition("\n")[0]) for piece in text.split(BEFORE_INPUT)[1:]}
 
 
 def has_unusual(joined):
@@ -163,6 +169,6 @@ def filled(build, names, made, changed, includes=None):
         **generator(build, is_asked_first=True),
         changed=changed,
         fault=fault if includes and includes.made.is_first else "",
-        inputs="".join(f" $\n    {name}" for name in ninja_text.all_escaped([*names, build.translated])),
+        inputs="".join(f"{BEFORE_INPUT}{name}" for name in ninja_text.all_escaped([*names, build.translated])),
         present="".join(f"build {name}: phony\n" for name in present),
         translated=ninja_text.escaped(build.translated))

@@ -159,6 +159,10 @@ class Translator:
     """kati with its words, for one makefile; its files stand in the folder `room`. The program kati-asked is run in its
     place where it is given, and tells what kati asks for."""
 
+    # The files that this run has put in place, and the makefiles for which make has told in it that it has no recipe:
+    # without a port none.
+    put, without_recipes = (), frozenset()
+
     def __init__(self, asked, room, program=None):
         refuse_passing(asked.makefile)
         self.kati, self.program = find_kati(asked.kati), program
@@ -245,6 +249,10 @@ class Translator:
     def pools(self, translation):
         """The pools for commands of a translation; None where there are none, as without a port."""
         return None
+
+    def made_first(self):
+        """The files that are to be made first for values, of which nothing is known without a port."""
+        return []
 
     def differs(self, command):
         """Whether a command is told to differ from make's, of which nothing is known without a port."""

@@ -42,10 +42,14 @@ class Noted:
     def __init__(self, room):
         self.path = os.path.join(room, NAME)
 
-    def note(self, words, names, own, folders, looked_at, start):
-        """Notes it, where the start of the run is known; `own` are files that the run wrote itself."""
-        states = [(name, UNKNOWN if start.is_newer(name) and not os.path.isdir(name) else state(name))
-                  for name in dict.fromkeys(names)]
+    def note(self, words, names, own, folders, looked_at, inputs):
+        """Notes it, where the start of the run is known; `own` are files that the run wrote itself. Those that it put
+        in place and then read are known by what tells them from others."""
+        def state_of(name):
+            is_unknown = inputs.start.is_newer(name) and not os.path.isdir(name)
+            return inputs.put.get(os.path.normpath(name), UNKNOWN) if is_unknown else state(name)
+
+        states = [(name, state_of(name)) for name in dict.fromkeys(names)]
         states += [(name, identity(name)) for name in own]
         lines = ["\0".join(words), "\0".join(folders), "\0".join(looked_at),
                  "\0".join(f"{state} {name}" for name, state in states)]

@@ -12,7 +12,7 @@ import shutil
 
 from ..base import files, own_files, scratch
 from ..base.answering import Refused, answer_of
-from ..makefile import above, sources
+from ..makefile import above, sources, syntax
 from . import namespaces, scratch_copy
 from ..base.programs import inside
 
@@ -76,7 +76,7 @@ def tops_of(texts):
 def named_above(texts):
     """The folders beside this one, or above it, of which makefiles name something by `..`."""
     here, found = os.getcwd(), set()
-    for up, name in {one for text in texts for one in scratch_copy.NAMED_ABOVE.findall(text)}:
+    for up, name in {one for text in texts for one in syntax.names_above(text)}:
         path = os.path.realpath(os.path.join(here, up, name))
         found.add(path if os.path.isdir(path) else os.path.dirname(path))
     return {folder for folder in found if os.path.isdir(folder)}

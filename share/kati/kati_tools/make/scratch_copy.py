@@ -5,15 +5,13 @@ A copy has the names that it is made from, since a makefile may ask for them; li
 kati-build wrote isn't in it, nor pipes and their kin, which reading would wait for."""
 import contextlib
 import os
-import re
 import shutil
 
 from ..base import own_files
-from ..makefile import above, sources
+from ..makefile import above, sources, syntax
 from . import control
 from ..base.programs import Stop
 
-NAMED_ABOVE = re.compile(r"(?<![\w.])((?:\.\./)+)([\w+@-][\w.+@-]*)")
 # A folder of a megabyte is worth a copy, one of a gigabyte isn't.
 MOST_FILES = 2000
 
@@ -95,7 +93,7 @@ class Copy:
         copy_folder(self.real, self.top, self.room)
         self.control = control.Control(self.real, self.room, self.base, self.real_base)
         self.link_above()
-        for up, name in {one for text in texts for one in NAMED_ABOVE.findall(text)}:
+        for up, name in {one for text in texts for one in syntax.names_above(text)}:
             self.copy_above(os.path.join(up, name))
 
     def link_above(self):

@@ -128,7 +128,8 @@ class PortedFile:
 
 
 def definitions(lines):
-    """The name of a macro and a line that gives it a value, for each line of an assignment or of a `define`."""
+    """The name of a macro and a line that gives it a value, for each line of an assignment or of a `define`; those
+    behind a tab too, as far as no recipe line is sure there."""
     name = None
     for line in lines:
         if line.is_body:
@@ -136,6 +137,6 @@ def definitions(lines):
         elif line.kind is syntax.Kind.DEFINE:
             name = line.says.name
         else:
-            found = line.assignment()
+            found = assigned(line.joined) if line.kind is syntax.Kind.ASSIGNMENT else line.assignment()
             if found:
                 yield found[0], line

@@ -12,7 +12,7 @@ BRACKET = re.compile(r"[(){}]")
 MOST_LEVELS = 400
 # Blanks, and what a name of a macro can't hold that is written out.
 BLANKS = " \t\n"
-PLAIN_WORD, NO_WORD = re.compile(r"[^ \t\n]+"), re.compile(r"[ \t\n]*")
+PLAIN_WORD = re.compile(r"[^ \t\n]+")
 FUNCTION = re.compile(r"([a-z-]+)[ \t\n]+")
 PLAIN_NAME = re.compile(r"[^ \t\n:,$(){}]+")
 DOUBLED = re.compile(r"(?<!\$)\$\$(?=[({])")
@@ -20,6 +20,9 @@ DOUBLED = re.compile(r"(?<!\$)\$\$(?=[({])")
 OF_THE_SHELL = re.compile(r"\$\$\{?([A-Za-z_]\w*)")
 # Functions that have the name of a macro as their first argument.
 ASK_OF_A_MACRO = ("call", "value", "origin", "flavor")
+# Functions, and which of their arguments may be a part of their value as they are.
+HANDING_ON = {**dict.fromkeys(("eval", "or", "sort", "strip"), slice(None)),
+              **dict.fromkeys(("call", "foreach", "if"), slice(1, None))}
 
 
 def ends_of_brackets(text):
@@ -239,13 +242,26 @@ def words(text):
     """The words of a text, cut at blanks outside references."""
     if "$" not in text and "\\" not in text:
         return PLAIN_WORD.findall(text)
-    found, end = [], 0
-    while end < len(text):
-        start = NO_WORD.match(text, end).end()
-        end = find_outside(text, BLANKS, start)
-        end = len(text) if end < 0 else end
-        found += [text[start:end]] if start < end else []
-    return found
+    return [text[start:end] for start, end in places_of_words(text, 0, len(text))]
+
+
+def places_of_words(text, at, most, marks=BLANKS):
+    """Where the words of a part of a text, from `at` up to `most`, begin and end: it is cut at these marks outside
+    references."""
+    while at < most:
+        end = find_outside(text, marks, at)
+        end = most if end < 0 else min(end, most)
+        if at < end:
+            yield at, end
+        at = end + 1
+
+
+def handed_on(found):
+    """Where the arguments begin and end whose words these references have as they are, those in such arguments too."""
+    for one in found:
+        for start, end in one.spans()[HANDING_ON.get(one.function, slice(0))]:
+            yield start, end
+            yield from handed_on([inner for inner in one.inner if start <= inner.start < end])
 
 
 def without_references(text, letter="x"):

@@ -13,6 +13,8 @@ from .statements import without_comment
 
 CONTINUATION = re.compile(r"(?:[ \t]*\\\n[ \t]*)+")
 ENDS_OPEN = re.compile(r"(?<!\\)(?:\\\\)*\\$")
+# A path that leads up, and the name behind that.
+ABOVE = re.compile(r"(?<![\w.])((?:\.\./)+)([\w+@-][\w.+@-]*)")
 
 
 def joined(text):
@@ -135,6 +137,32 @@ def statement(line):
     if rule.is_rule:
         return (Kind.TARGET_ASSIGNMENT if rule.specific else Kind.RULE), rule
     return (Kind.REFERENCE if word.startswith("$") else Kind.OTHER), None
+
+
+def places(line):
+    """Where the words of a line that is no recipe stand in its text: the names of a rule, or the words of a value, and
+    those that functions in them hand on."""
+    # The same text, in which what continues it is as long as it was.
+    text = CONTINUATION.sub(lambda found: " " * len(found.group()), line.text)
+    _, says = statement(text)
+    says = getattr(says, "specific", None) or says
+    is_rule = isinstance(says, statements.Rule)
+    begin = says.value_at if isinstance(says, statements.Assignment) else 0
+    end = says.end if is_rule else len(without_comment(text))
+    yield from references.places_of_words(text, begin, end, f"{references.BLANKS}:|" if is_rule else references.BLANKS)
+    for span in references.handed_on(one for one in references.forest(text) if begin <= one.start < end):
+        yield from references.places_of_words(text, *span)
+
+
+def place_of(line, word):
+    """Where a word first stands in a line's text so; None where it doesn't."""
+    return next((place for place in places(line) if line.text[slice(*place)] == word), None)
+
+
+def names_above(text):
+    """The names behind `..` in a makefile's text, wherever they stand, each with the way up: `../` and `inc` of
+    `../inc/sys`."""
+    return set(ABOVE.findall(text))
 
 
 def asked_for(text):

@@ -29,6 +29,7 @@ files:
   build.kati/outside.txt       the folders outside this one that rules name, until a makefile changes
   build.kati/version           the form of these files: those of another version are made anew
   build.kati/.begun            when the last run began: what is saved later is looked at again
+  build.kati/.tries            how often one run of ninja has had it translated
   build.kati/.inputs           what the last translation came from: where that is so, none is made
   build.kati/.look             by which a shell sees that, and ninja starts no Python
   build.kati/lock              what a run holds while it translates: one at a time, the next one waits

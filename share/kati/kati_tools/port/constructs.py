@@ -4,8 +4,8 @@ Most is mended where kati has a fault, by the fault's number; the rest before ka
 makefile and means something else by it than make."""
 from typing import Callable, Mapping, NamedTuple
 
-from . import (default_goal, default_rule, dependency_includes, double_colons, environment_names, folder_search,
-    inner_makes, literal_percents, made_folders, made_values, mending, mending_appends, mending_exports,
+from . import (default_goal, default_rule, dependency_includes, double_colons, environment_names, file_writes,
+    folder_search, inner_makes, literal_percents, made_folders, made_values, mending, mending_appends, mending_exports,
     mending_lines, mending_shell, of_the_run, recipe_prefix, second_expansion, shared_includes, shell_flags,
     shell_writes, suffix_names, suffix_needs, taken_away, taken_back, target_macros, value_texts, written_out)
 
@@ -37,6 +37,8 @@ CONSTRUCTS = (
     Construct("`*.c` among names", {"E20": mending.refused_name}),
     Construct("`include mk/*.mk`", {"E20": mending.refused_include}),
     Construct("`ifdef $(NAME)`, where that is empty", {"E15": mending_lines.empty_name}),
+    Construct("`ifeq ($(X)),a)`, where make takes a parenthesis too much as text",
+              {"E15": mending_lines.odd_parenthesis}),
     Construct("`override`, `private`, `undefine`", {"E17": mending_lines.modified}),
     Construct("`load`", {"E17": mending_lines.loaded}),
     Construct("`%: %.c` without a recipe, an empty `.SUFFIXES`, `-r` in `MAKEFLAGS`", mender=taken_back.TakenBack),
@@ -65,6 +67,7 @@ CONSTRUCTS = (
               {"E16": written_out.mend_functions, "E32": written_out.evaluated_values}, other=written_out.mend),
     Construct("`$(shell ..)` that has another value each time in a recipe, or reads a file there that the build makes",
               mender=made_values.MadeValues),
+    Construct("`$(file >$@,..)` in a recipe", mender=file_writes.FileWrites),
     Construct("`$(shell mkdir -p deps)`, of a folder in which the build makes nothing",
               mender=shell_writes.ShellWrites),
     Construct("`$(MAKE) -C lib`", mender=inner_makes.InnerMakes),

@@ -187,17 +187,26 @@ class Search(Mender):
         """The rule for each folder, before the makefile's own, which stands at a line, or behind it."""
         if not self.folders:
             return
-        texts = []
+        texts, own = [], self.own_rules()
         for folder in dict.fromkeys(folder for _, folder in self.folders):
             more = f" $(call KATI_FOUND,{' '.join(needs[1:])})" if needs[1:] else ""
-            head = f"{' '.join(targets)}: {os.path.join(folder, needs[0])}{more}"
-            texts += [head, *recipe]
+            first = os.path.join(folder, needs[0])
+            # Of two rules with the same prerequisites the later one removes the other: this one has its own behind a
+            # bar, too.
+            bar = "" if "|" in needs else " |"
+            more += f"{bar} {first}" if (tuple(targets), first) in own else ""
+            texts += [f"{' '.join(targets)}: {first}{more}", *recipe]
         text = "\n".join([KATIS_ALONE, *texts, "endif"])
         if self.is_twice:
             last = next(one for one in reversed(lines[at:end_of_recipe(lines, at + 1)]) if not one.is_gone)
             last.behind = text
         else:
             lines[at].before = text
+
+    def own_rules(self):
+        """The targets and the first prerequisite of each pattern rule of the makefiles."""
+        rules = (line.says for line in self.port.lines() if line.kind is syntax.Kind.RULE and "%" in line.text)
+        return {(tuple(one.targets), os.path.normpath(one.needs[0])) for one in rules if one.needs}
 
     def searched_rules(self, lines):
         """The prerequisites of rules by their names where they stand, as far as one stands elsewhere."""

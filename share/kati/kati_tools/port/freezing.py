@@ -7,7 +7,7 @@ from ..base.programs import inside
 from ..makefile import references
 from ..makefile.forms import refused_function
 from ..makefile.syntax import joined
-from . import command_reads, frozen_values, watched
+from . import command_reads, file_writes, frozen_values, watched
 from .make_probes import bound_names, function_of, is_automatic, is_in, is_numbered
 
 # Behind the source of a value that hangs on what calls in recipes write.
@@ -114,6 +114,8 @@ class Freezer:
             return False
         edits = {}
         for call in calls:
+            if self.port.mender(file_writes.FileWrites).by_shell(call, edits):
+                continue
             found = self.picked(call)
             if found and "\n" not in found[1]:
                 (start, end), value, is_told = found

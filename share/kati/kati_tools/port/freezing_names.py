@@ -1,7 +1,7 @@
 """Names with wildcards, which are for kati the names that they fit."""
 import re
 
-from ..makefile import statements
+from ..makefile import statements, syntax
 from . import freezing, frozen_values
 
 WILD = re.compile(r"[*?\[]")
@@ -57,12 +57,12 @@ def plain_name(name):
 
 def freeze_name(port, line, name):
     """Replaces a name with a wildcard in a line by a macro; answers whether it stands there, as a pattern of files."""
-    found = re.search(rf"(?<![^\s:=]){re.escape(name)}(?![^\s:;|])", line.text)
-    if not found or found.span() in line.edits or not OF_THE_SHELL.isdisjoint(name):
+    place = syntax.place_of(line, name)
+    if place is None or place in line.edits or not OF_THE_SHELL.isdisjoint(name):
         return False
     names = port.fitting.get(name) or port.run.value(f"$(wildcard {name})") or ""
     macro = port.values.add(line, freezing.wanted_name(line, ""), name, names, f"$(wildcard {name})")
-    line.edits[found.span()] = f"$({macro})"
+    line.edits[place] = f"$({macro})"
     port.tell("frozen", "names with wildcards")
     return True
 

@@ -7,7 +7,9 @@ Each value of kati's stands below a comment that says where it came from, so tha
 - `# $(shell cat version.txt) reads version.txt 1c291ca3`: what make was told while a file, or another word that is
   watched (watched.py), had this sum, or `none` where it wasn't there; so too of a loop or a macro that runs such
   commands;
-- `# $(shell uname)`, and all else: what make was told when the file was written.
+- `# $(shell uname)`, and all else: what make was told when the file was written;
+- `# made first`: files that the build makes, and that values in recipes hang on: kati-build has them made before it
+  translates, where they aren't there.
 
 Where one of these isn't so any more, make is asked for all of them again."""
 import fnmatch
@@ -20,7 +22,8 @@ from . import watched
 
 NAME = translating.VALUES
 TITLE = "# Written by kati-port, anew by kati-port --values: what make asks the machine for, and what it was told.\n"
-RUN, ENVIRONMENT, NAMES = "tells of the run", "of the environment", "names: "
+RUN, ENVIRONMENT, NAMES, FIRST = "tells of the run", "of the environment", "names: ", "made first"
+MADE_FIRST = "KATI_MADE_FIRST"
 FOR_SHELL = translating.FOR_SHELL
 # kati's shell itself, where SHELL gives commands exported variables too.
 KATIS_SHELL = "$(or $(KATI_SHELL),$(SHELL))"
@@ -107,10 +110,11 @@ class Value:
 
 class Values:
     """The macros of the file, in the order in which they came; `kept` is the file as it stood, if it did. `prefixes`
-    are those of the files that are ported, and `environment` has the values of the environment that kati gets."""
+    are those of the files that are ported, `environment` has the values of the environment that kati gets, and `first`
+    the names of what is made first."""
 
     def __init__(self, kept=None):
-        self.all, self.kept, self.prefixes, self.environment = [], kept, set(), {}
+        self.all, self.kept, self.prefixes, self.environment, self.first = [], kept, set(), {}, set()
         self.taken, self.taken_words = "", set()
         # How many of them the names and the table of texts know, and the last number behind a name.
         self.count, self.names, self.by_texts, self.numbers = 0, set(), {}, {}
@@ -144,11 +148,13 @@ class Values:
         self.all[-1].prefix = line.prefix
         return name
 
-    def drop(self, name):
-        """Takes a macro out."""
+    def drop_unused(self, references, ported):
+        """Takes the macros out that had these references, of which none of these files has any more."""
+        texts = [file.text() for file in ported] if references else []
+        names = {one[len("$("):-1] for one in references if not any(one in text for text in texts)}
         self.take_in()
-        self.all = [one for one in self.all if one.name != name]
-        self.by_texts = {texts: one for texts, one in self.by_texts.items() if one.name != name}
+        self.all = [one for one in self.all if one.name not in names]
+        self.by_texts = {texts: one for texts, one in self.by_texts.items() if one.name not in names}
         self.count = len(self.all)
 
     def free_of_others(self, prefix, wanted):
@@ -166,7 +172,8 @@ class Values:
     def text(self, run, hiding):
         """The text of the file; `run` has what tells of the run, and `hiding` the lines by which make hands on nothing
         of the file."""
-        kept = self.kept.entries if self.kept else []
+        before = self.kept.entries if self.kept else []
+        kept = [one for one in before if one.source != FIRST]
         lines = [ported_text.MAKES_ALONE, *(self.kept.makes_lines if self.kept else [])]
         lines += [f"{one.name} = {one.makes}" for one in self.all]
         lines += [line for line in hiding if line not in lines]
@@ -175,6 +182,8 @@ class Values:
         lines += [line for name, value in told.items() for line in (f"# {RUN}", assigned(name, ":=", escaped(value)))]
         lines += [line for name, value in self.environment.items() if name not in {one.name for one in kept}
                   for line in (f"# {ENVIRONMENT}", assigned(name, "=", text_of_environment(value)))]
+        first = self.first.union(*(one.text.split() for one in before if one.source == FIRST))
+        lines += [f"# {FIRST}", assigned(MADE_FIRST, ":=", " ".join(sorted(first)))] if first else []
         return TITLE + "\n".join([*lines, "endif", ""])
 
 
@@ -212,6 +221,11 @@ def other_environment(text):
 def variables(text):
     """The words to watch for the values of the environment."""
     return [watched.ENVIRONMENT + name for source, name, _, _ in ENTRY.findall(text) if source == ENVIRONMENT]
+
+
+def made_first(text):
+    """The names of what is made first for these values."""
+    return [name for source, _, _, value in ENTRY.findall(text) if source == FIRST for name in value.split()]
 
 
 def stale(text):

@@ -5,7 +5,7 @@ import sys
 
 from ..base import files, one_at_a_time, own_files, words
 from ..base.programs import UNFORESEEN, Stop, bytes_of, find_asked, find_kati, say
-from ..build import begun, insertions, ninja_text, top_file, translating
+from ..build import begun, insertions, ninja_text, ninja_tries, top_file, translating
 from . import nothing_new
 
 TOOL = "kati-build"
@@ -38,12 +38,15 @@ class Build:
         if asked.as_made:
             from ..build import as_made
             as_made.refuse_beside_others(self.output)
-        self.values_from = []
+        # What values come from, and what is to be made first for them.
+        self.values_from, self.first = [], []
         self.kati = find_kati(asked.kati)
         self.program = find_asked(asked.kati_asked, self.kati)
         # The files that count only where they come or go, None where the translation is looked at each time; and
         # whether it makes nothing but includes.
         self.looked_at, self.is_first = None, False
+        # How often the ninja that runs this has had it translated.
+        self.tries = 0
 
     def makefile(self):
         """The makefile's name."""
@@ -56,8 +59,8 @@ class Build:
         found = [sys.executable or "python3", "-S", tool, "--no-ninja", "-o", self.output]
         found += ["--files-from", asked.files_from, "--kati", self.kati]
         found += ["--kati-asked", self.program] if self.program else []
-        # Or ninja would end where kati's commands differ from make's, which it hears as a fault.
-        found += ["--by-ninja"] if asked.port else []
+        # So that a difference from make's commands is no fault, and that it is known what ninja has tried to make.
+        found += ["--by-ninja"]
         found += [word for word, is_on in (("--port", asked.port), ("--deps", asked.deps), ("--builtin", asked.builtin),
                                            ("--compile-commands", asked.compile_commands)) if is_on]
         found += ["-f", asked.makefile] if asked.makefile is not None else []
@@ -81,13 +84,25 @@ class Build:
         """What a translation asked for, or may have asked for where it doesn't tell; and what its values come from."""
         if found.status:
             return [*self.makefiles(), *(found.asked or [])]
+        first = self.made_first(found)
         if self.asked.port:
-            return self.translator.watched(found.asked or [])
+            return [*self.translator.watched(found.asked or []), *first]
         told = found.asked
         if told is None:
             from ..makefile import includes
             told = includes.asked(self.makefiles(), listing.names)
-        return [*self.makefiles(), *told, *self.values_from]
+        return [*self.makefiles(), *told, *self.values_from, *first]
+
+    def made_first(self, found):
+        """The files that a translation makes, that aren't there, and that values in recipes hang on: make comes to
+        these once they are made. One that ninja was to make before this run, and that isn't there, its recipe doesn't
+        make."""
+        names = self.translator.made_first() or self.first
+        if not names:
+            return set()
+        absent = {name for name in names if not os.path.lexists(name)}
+        absent.intersection_update(map(os.path.normpath, found.outputs))
+        return absent - top_file.inputs_in(files.read(self.output) or "") if self.asked.by_ninja else absent
 
     def new_translator(self):
         """kati with its words: by ported makefiles where they are asked for, else by those that are here, with the
@@ -102,7 +117,7 @@ class Build:
         if os.path.isfile(translating.VALUES):
             from . import kept_values
             kept_values.keep_true(self.asked, self.names_before() or self.makefiles())
-            self.values_from = kept_values.inputs()
+            self.values_from, self.first = kept_values.inputs(), kept_values.made_first()
         return translating.Translator(self.asked, self.room, self.program)
 
     def translate(self):
@@ -127,10 +142,12 @@ class Build:
                 from . import shell_look
                 shell_look.keep(self)
             return 0
+        self.tries = ninja_tries.count(self.room) if self.asked.by_ninja else 0
         inputs, names = begun.Inputs(self.room), self.names_before() or self.makefiles()
         for _ in range(begun.TIMES):
             inputs.begin(names)
             self.translator = self.new_translator()
+            inputs.take(self.translator.put)
             found, listing = self.by_its_names()
             includes = self.made_includes(found, listing)
             names = self.names_now(includes.made.found if includes else found, listing)
@@ -140,7 +157,7 @@ class Build:
             status = self.finish(found, listing, includes, names)
             changed = inputs.changed(names)
             if not changed:
-                nothing_new.note(self, [*names, *listing.watched], listing.folders, inputs.start)
+                nothing_new.note(self, [*names, *listing.watched], listing.folders, inputs)
                 return status
         if not changed:
             # A build that runs beside this one may make files all the time.
@@ -210,7 +227,13 @@ class Build:
         is_new = self.is_new(content)
         if is_new and not (self.is_first or self.is_right(content)):
             return UNFORESEEN
-        names = top_file.watched(names, listing, self.output, includes.made.names if includes else ())
+        included = set(includes.made.names if includes else ())
+        names = top_file.watched(names, listing, self.output, included | self.made_first(found))
+        restless = ninja_tries.restless(names, found.outputs - included, self.tries)
+        if restless:
+            say(TOOL, f"another text each time that ninja makes it, so that values hang on what it was: "
+                      f"{' '.join(sorted(restless))}")
+            names = [name for name in names if name not in restless]
         top = top_file.text(self, names, found, is_new, includes)
         if includes:
             includes.write_marks()

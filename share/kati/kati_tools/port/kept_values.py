@@ -44,6 +44,11 @@ def keep_true(asked, names):
         ask_make(asked)
 
 
+def made_first():
+    """The files that are made first for the values."""
+    return frozen_values.made_first(values())
+
+
 def inputs():
     """The files and folders that the values come from."""
     return watched.inputs(frozen_values.words_of(values()))

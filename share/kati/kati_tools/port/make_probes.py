@@ -240,7 +240,8 @@ class Probes:
         self.appends = append_probes.AppendProbes(())
         # The macros by which lines may have other calls than before; of all others these are known.
         others = {name for name, _ in self.unsettled.items() ^ before.unsettled.items()} if before else set()
-        for line in (line for file in ported for line in file.lines):
+        # What has no dollar has no call.
+        for line in (line for file in ported for line in file.lines if "$" in line.text):
             is_known = before is not None and others.isdisjoint(references.names_in(line.text))
             self.add(line, before.calls.get(line, []) if is_known else None)
 
@@ -440,7 +441,8 @@ class Probes:
         if status:
             self.appends = append_probes.AppendProbes(())
             status, found = self.answers(ported, run, room, lambda line, text: text)
-        self.values, self.known, self.read.told = found, {}, set(found)
+        self.values, self.known = found, {}
+        self.read.take(found)
         self.appends.take(found)
         for file in ported:
             files.replace(file.name, file.before, room)

@@ -26,8 +26,11 @@ class Ported:
         self.stuck, self.whose, self.folder, self.is_new = None, None, None, False
         # The line that sums up how kati's commands differ from make's; None where they don't.
         self.difference = None
-        # The macros of the command line that stand in the makefile, which overrides them.
-        self.taken = []
+        # The macros of the command line that stand in the makefile, which overrides them; and the files that this run
+        # has put in their places.
+        self.taken, self.put = [], []
+        # The makefiles for which make has just told that it has no recipe.
+        self.without_recipes = set()
 
     def bring_up(self):
         """Ports again where that is needed."""
@@ -80,6 +83,7 @@ class Ported:
                 return self.port_once(kept, start, before, True)
             self.stuck, self.whose, self.difference, self.taken = (
                 found.stuck, found.whose, found.difference, found.taken)
+            self.without_recipes = set(found.without_recipes)
             made = [word for word in found.watched if word.lstrip(watched.THERE) in found.made]
             sums = watched.sums_of(word for word in found.watched if word not in made)
             if sums != before and any(map(start.is_newer, watched.inputs({**known.watched, **sums}))):
@@ -125,6 +129,7 @@ class Ported:
             elif not os.path.exists(name):
                 os.makedirs(os.path.dirname(name) or ".", exist_ok=True)
                 shutil.copy2(kept, name)
+                self.put.append(name)
 
     def keep_absent(self, names):
         """Has the record know the includes that kati asked for and that aren't there: one that comes into being is
@@ -179,6 +184,16 @@ class PortedTranslator(translating.Translator):
         self.ported.bring_up()
         self.go_in()
 
+    @property
+    def put(self):
+        """The files that this run has put in place."""
+        return self.ported.put
+
+    @property
+    def without_recipes(self):
+        """The makefiles for which make has told, in this run, that it has no recipe."""
+        return self.ported.without_recipes
+
     def go_in(self):
         """Makes this kati in the folder of the ported makefiles, as far as there are any."""
         self.list, self.makefile = os.path.join(self.place, "files.txt.new"), None
@@ -225,6 +240,10 @@ class PortedTranslator(translating.Translator):
         """A pool for commands that run make, or for all where make would run one at a time."""
         found = inner_makes.Pools(translation.statements, self.ported.record.kept()["not parallel"])
         return found if found.lines else None
+
+    def made_first(self):
+        """The files that are to be made first for values."""
+        return frozen_values.made_first(files.read(os.path.join(self.ported.folder, frozen_values.NAME)) or "")
 
     @functools.cached_property
     def differing(self):

@@ -1,10 +1,11 @@
 """What makes the makefiles that make reads: Ninja makes them first, as make does, whether the goals need them or not.
 So kati is asked about that, too, once it takes the makefile for the goals."""
+import os
 import re
 
 from ..build import rule_heads
-from ..makefile import quick_looks
-from . import asking_kati
+from ..makefile import includes, quick_looks
+from . import asking_kati, frozen_values
 
 # Names that a prerequisite can have.
 PLAIN = re.compile(r"[\w./+@,~-]+")
@@ -41,6 +42,17 @@ def names_of(port, made):
     found = [name for name in [*(others if may_make else []), *own] if name not in made]
     database = port.run.ended_with or ""
     return [name for name in found if OF_RECIPE not in database or may_have_recipe(database, name)]
+
+
+def without_recipes(port):
+    """The makefiles that make includes, or would where they are there, of which it has told that it has no recipe for
+    them; with the file of values, which is this tool's."""
+    database = port.run.ended_with or ""
+    if OF_RECIPE not in database:
+        return []
+    named = {name for file in port.ported.values() for name in includes.named_in(file.before)}
+    names = {port.makefile, *port.first.read, *map(os.path.normpath, named)}
+    return sorted([frozen_values.NAME, *(name for name in names if not may_have_recipe(database, name))])
 
 
 def fault(port, translation):

@@ -5,7 +5,7 @@ import os
 from ..makefile import references
 from ..makefile.syntax import Kind
 from . import (default_rule, dependency_includes, folder_search, freezing, freezing_names, frozen_values, make_probes,
-    target_macros)
+    mending_lines, target_macros)
 from .make_probes import is_automatic, is_eval, is_in, is_numbered
 
 
@@ -175,14 +175,18 @@ def target_macro(port, fault):
 
 def evaluated_value(port, fault):
     """E32: a macro that evaluates its own value, as `X = $(eval X := $(shell ..))$(X)`, which a recipe is the first to
-    use: kati gets the value."""
+    use: kati gets the value. Where it stands behind a tab, and is surely none of a recipe's lines, both get spaces."""
+    for line in [line for line in port.lines() if evaluates_itself_behind_tab(port, line)]:
+        mending_lines.indent(port, line)
+        port.tell("tab")
     text = "\n".join([fault.line.now(), *recipes(port)]) if fault.line else ""
     lines = [line for line in reached(port, text) if evaluates_itself(line)]
     names = [line.assignment()[0] for line in lines]
     found = [one for one in zip(lines, names, port.run.values([f"$({name})" for name in names]))
              if one[2] is not None and "\n" not in one[2]]
     for line, name, value in found:
-        macro = port.values.add(line, freezing.wanted_name(line, ""), f"$({name})", value, freezing.joined(line.text))
+        source = freezing.joined(line.text).strip()
+        macro = port.values.add(line, freezing.wanted_name(line, ""), f"$({name})", value, source)
         port.freezer.calls_in[macro] = port.probes.of(line)
         line.wrap(lambda text, name=name, macro=macro: f"{name} = $({macro})")
         port.tell("evaluated")
@@ -197,9 +201,20 @@ def recipes(port):
 
 def evaluates_itself(line):
     """Whether a line gives a macro such a value, which is the same wherever it is asked for."""
-    name, operator, value = line.assignment() or ("", "", "")
+    return evaluates_own_name(line.assignment()) and not line.is_wrapped
+
+
+def evaluates_itself_behind_tab(port, line):
+    """Whether make reads such a line behind a tab."""
+    is_read = line.is_tab and port.probes.read.is_read(line) and port.probes.read.is_behind_tab(line)
+    return is_read and line.kind is Kind.ASSIGNMENT and evaluates_own_name(line.says[1:4])
+
+
+def evaluates_own_name(assignment):
+    """Whether an assignment gives a macro such a value, by its name, operator and value."""
+    name, operator, value = assignment or ("", "", "")
     is_plain = not is_in(is_numbered, value) and not is_in(is_automatic, value) and "$" not in name
-    return operator == "=" and is_plain and not line.is_wrapped and is_in(is_eval, value)
+    return operator == "=" and is_plain and is_in(is_eval, value)
 
 
 def by_dependencies(port, fault):

@@ -78,8 +78,11 @@ def behind_tabs(port):
             mending_lines.tabs(port, Alike(file, line, "E06"))
 
 
-def empty_names(port):
-    """E15: conditionals by names that are empty at the end."""
+def conditionals(port):
+    """E15: conditionals by names that are empty at the end, and those with a parenthesis too much."""
+    for file, line in unchanged_lines(port):
+        if line.kind is Kind.CONDITION and line.text.count("(") < line.text.count(")"):
+            mending_lines.odd_parenthesis(port, Alike(file, line, "E15"))
     meant = [(file, line, name) for file, line in unchanged_lines(port) if not line.is_body
              for name in [mending_lines.tested_name(line)] if name.startswith("$")]
     told = port.run.values([name for _, _, name in meant])
@@ -120,7 +123,7 @@ def wildcards_in(line):
     return list(filter(is_wild, statements.Rule(line.joined).words())) if has_wildcard(line.joined) else []
 
 
-ALIKE = {"E06": behind_tabs, "E15": empty_names, "E16": functions, "E17": forms, "E20": names, "E23": of_targets}
+ALIKE = {"E06": behind_tabs, "E15": conditionals, "E16": functions, "E17": forms, "E20": names, "E23": of_targets}
 
 
 def mend(port, numbers):

@@ -3,10 +3,13 @@ from ..base import words
 from ..makefile import after_references, statements
 from . import mending_exports
 from ..makefile.ported_text import MAKES_ALONE
+from ..makefile.references import BLANKS
 from ..makefile.syntax import Kind
 
 # A name that nothing has.
 NO_NAME = "KATI_NO_NAME"
+# What compares two texts.
+PAIRS = ("ifeq", "ifneq")
 
 
 def word_of(fault):
@@ -140,6 +143,36 @@ def empty_name(port, fault):
     end = found.rest_at + len(name)
     line.edits = {(0, len(line.text)): f"{text[:found.rest_at]}$(or {name},{NO_NAME}){text[end:]}"}
     port.tell("empty name")
+    return True
+
+
+def compared_texts(rest):
+    """The two texts of `(a,b)` as make finds them, which takes a parenthesis that closes none before the comma for
+    text, and ignores what stands behind the second text; None where there is none such."""
+    depth, comma, is_odd = 0, None, False
+    for at, mark in enumerate(rest[1:], 1):
+        if mark == "," and comma is None and depth <= 0:
+            comma, depth, is_odd = at, 0, depth < 0
+        elif mark == ")" and comma is not None and depth <= 0:
+            return (rest[1:comma].rstrip(BLANKS), rest[comma + 1:at].lstrip(BLANKS)) if is_odd else None
+        depth += (mark == "(") - (mark == ")")
+    return None
+
+
+def odd_parenthesis(port, fault):
+    """E15: `ifeq ($(X)),a)`: both get the two texts in quotes."""
+    line = fault.line
+    text = line.edited() if line and not line.is_body and not line.is_wrapped else ""
+    found = statements.condition(statements.without_comment(text))
+    is_pair = found is not None and (found.inner or found.word) in PAIRS and found.rest.startswith("(")
+    texts = compared_texts(found.rest) if is_pair else None
+    quote = next((one for one in "\"'" if texts and one not in "".join(texts)), None)
+    if quote is None or texts[0].startswith(tuple(BLANKS)):
+        return False
+    words = " ".join(f"{quote}{one}{quote}" for one in texts)
+    end = found.rest_at + len(found.rest)
+    line.edits = {(0, len(line.text)): f"{text[:found.rest_at]}{words}{text[end:]}"}
+    port.tell("parenthesis")
     return True
 
 

@@ -45,16 +45,16 @@ def files_beside(build):
             build.names]
 
 
-def note(build, names, folders, start):
-    """Notes what a translation came from, with these names and folders; nothing where it makes nothing but includes,
-    for a makefile of which kati has a fault."""
+def note(build, names, folders, inputs):
+    """Notes what a translation came from, with these names and folders, which it read as `inputs`; nothing where it
+    makes nothing but includes, for a makefile of which kati has a fault."""
     noted = unchanged.Noted(build.room)
     # It is of another note, or came with the tree, whose text no shell is to run.
     files.remove(os.path.join(build.room, own_files.LOOK))
     if build.looked_at is None:
         noted.forget()
     else:
-        noted.note(build.command(), [*names, *tools_of(build)], files_beside(build), folders, build.looked_at, start)
+        noted.note(build.command(), [*names, *tools_of(build)], files_beside(build), folders, build.looked_at, inputs)
 
 
 def are_values_true(build):

@@ -5,9 +5,10 @@ import shutil
 from dataclasses import dataclass, field
 
 from ..base import files
-from ..makefile import includes, quick_looks, statements, syntax
-from . import dependency_includes, double_colons, frozen_values, known, made_values, other_goals, port_report, \
-    rewriting, shell_writes, unseen_reads, watched, written_outside
+from ..build import translating
+from ..makefile import includes, ported_text, quick_looks, statements, syntax
+from . import dependency_includes, double_colons, frozen_values, known, made_values, making_makefiles, other_goals, \
+    port_report, rewriting, shell_writes, unseen_reads, watched, written_outside
 from .stuck import Stuck
 
 AT_WORK = rewriting.AT_WORK
@@ -18,9 +19,10 @@ class Outcome:
     """The words to watch; why the port is stuck, and by which program, None where it isn't. Else the folder of the
     ported makefiles and their texts, what make has made before anything, each with the file that holds it, None for a
     folder, those of them that it made by rules, before it was asked for values; the folders that their includes go
-    through; what it has found out that holds for other goals; and what kati-build keeps of it:
-    what to say, which of kati's commands differ, None where all do, the line that sums that up, None where they don't,
-    the macros of the command line that stand in the makefile, and whether make runs one job at a time."""
+    through; the makefiles for which make has no recipe; what it has found out that holds for other goals; and what
+    kati-build keeps of it: what to say, which of kati's commands differ, None where all do, the line that sums that up,
+    None where they don't, the macros of the command line that stand in the makefile, and whether make runs one job at a
+    time."""
 
     watched: list
     stuck: str = None
@@ -30,6 +32,7 @@ class Outcome:
     made: dict = field(default_factory=dict)
     by_rules: list = field(default_factory=list)
     folders: list = field(default_factory=list)
+    without_recipes: list = field(default_factory=list)
     found: dict = field(default_factory=dict)
     report: list = field(default_factory=list)
     differing: list = None
@@ -66,6 +69,7 @@ def of_rewritten(made, comparison, room):
                    made={**made.mender(shell_writes.ShellWrites).kept(),
                          **kept_in(os.path.join(room, "made"), [*made.first.made, *made.first.by_shell])},
                    by_rules=[*made.first.made], folders=folders_of(made),
+                   without_recipes=making_makefiles.without_recipes(made),
                    found=other_goals.found_by(made, comparison), report=report,
                    differing=None if differs_otherwise else [real(line) for line in comparison.katis],
                    difference=None if comparison.is_same() else report[-1], taken=sorted(made.for_kati.taken_words),
@@ -131,9 +135,16 @@ def relative_includes(text, tops):
     return "".join(with_relative_names(line, tops) for line in syntax.Makefile(text).lines)
 
 
+def may_be_whole_path(line):
+    """Whether a line includes something for kati by a name that may be a whole path. The tool's own line has none."""
+    is_makes = any(branch == 0 and block.lines[0].joined == ported_text.MAKES_ALONE for block, branch in line.around)
+    is_own = line.text == translating.INCLUDE_VALUES
+    return not (is_makes or is_own) and any("$" in name or name.startswith("/") for name in line.says.names)
+
+
 def with_relative_names(line, tops):
     """A line of such a text."""
-    if line.kind is syntax.Kind.INCLUDE:
+    if line.kind is syntax.Kind.INCLUDE and may_be_whole_path(line):
         names_at = statements.first_word(line.text)[1]
         end = len(statements.without_comment(line.text))
         names = line.text[names_at:end].strip(" \t")

@@ -6,8 +6,8 @@ from collections import Counter
 
 from ..make import command_lists, shell_reading
 from ..build import comparing, differences
-from . import by_recipes_shell, exports_of_all, folder_search, made_links, mending_exports, newer_names, scanning, \
-    shell_flags, shell_writes, taken_away, target_macros, template_faults, unseen_reads, written_outside
+from . import by_recipes_shell, exports_of_all, file_writes, folder_search, made_links, mending_exports, newer_names, \
+    scanning, shell_flags, shell_writes, taken_away, target_macros, template_faults, unseen_reads, written_outside
 from .frozen_values import NAME
 from ..base.programs import Stop
 
@@ -18,6 +18,7 @@ KINDS = {
     "evaluated": "a macro that evaluates its own value: for kati the value",
     "percent": "a quoted percent sign that takes the place of a pattern: put there behind that, for both",
     "empty name": "a name in a conditional that is empty: one that nothing has, for both",
+    "parenthesis": "a parenthesis too much in a conditional, which make takes as text: in quotes, for both",
     "dependencies": "header dependencies: for make alone; kati-build --deps reads what the compiler writes",
     "read dependencies": "header dependencies that a command writes: kati reads them, and they may be absent",
     "export": "export and unexport: for make alone",
@@ -52,7 +53,7 @@ OTHERS = {
 
 def did(port):
     """A line for each kind of what was done."""
-    frozen = [(detail, count) for (kind, detail), count in port.did.items() if kind == "frozen"]
+    frozen = [(detail, count) for (kind, detail), count in port.did.items() if kind == "frozen" and count]
     if frozen:
         details = ", ".join(f"{count} {detail}" for detail, count in frozen)
         yield f"{comparing.counted(sum(count for _, count in frozen), 'value')} in {NAME}: {details}"
@@ -144,6 +145,7 @@ class Comparison:
                 [*port.first.made, *port.first.remade], translation.statements, port.first.read)
         self.has_other_blanks = self.has_other_blanks or has_other_blanks
         self.of_the_shell = port.mender(shell_flags.ShellFlags).differences(translation)
+        self.unwritten = list(port.mender(file_writes.FileWrites).differences())
         self.newer = newer_names.Newer(port, translation)
         # What is told, and is no difference.
         self.notes = [*self.calls.told, *self.newer.notes, *made_links.told(translation)]
@@ -164,7 +166,7 @@ class Comparison:
     def is_same(self):
         """Whether kati's commands are make's."""
         return not (self.makes or self.katis or self.in_environment or self.of_the_shell or self.when_run
-                    or self.calls.differences)
+                    or self.unwritten or self.calls.differences)
 
     def told(self):
         """The lines that say so; the last one says what it comes to."""
@@ -179,6 +181,7 @@ class Comparison:
         yield from self.in_environment
         yield from self.of_the_shell
         yield from self.when_run
+        yield from self.unwritten
         yield from self.calls.differences
         yield from differences.lines(self.makes, self.katis)
         yield f"kati's commands differ{'; they differ'.join(self.summed_up())}"
@@ -195,5 +198,7 @@ class Comparison:
             yield " in the shell and its flags"
         if self.when_run:
             yield " in when they are run"
+        if self.unwritten:
+            yield " in files that they write"
         if self.calls.differences:
             yield " in what calls give that the recipe's shell runs"

@@ -23,6 +23,8 @@ class ReadLines:
 
     def __init__(self, ported):
         self.syntax, self.numbers, self.marks, self.doubtful, self.told = {}, {}, {}, set(), set()
+        # Whether each line is read, as far as that was looked for.
+        self.known = {}
         for file in ported:
             self.add(file)
 
@@ -49,6 +51,11 @@ class ReadLines:
         if len(made.lines) == len(lines):
             self.syntax.update(zip(lines, made.lines))
             self.doubtful.update(made.blocks)
+            self.known = {}
+
+    def take(self, told):
+        """Takes what make told, by the numbers of marks."""
+        self.told, self.known = set(told), {}
 
     def marked(self, line, text):
         """The text of a line with the mark before it, where it has one."""
@@ -61,9 +68,11 @@ class ReadLines:
         return block not in self.doubtful and is_come_by and self.numbers.get((block, branch + 1)) not in self.told
 
     def is_read(self, line):
-        """Whether make reads a line, and kati surely does too."""
-        found = self.syntax.get(line)
-        return found is not None and (not found.around or all(self.is_taken(*one) for one in found.around))
+        """Whether make reads a line, and kati surely does too. A port asks it of each line many times."""
+        if line not in self.known:
+            found = self.syntax.get(line)
+            self.known[line] = found is not None and all(self.is_taken(*one) for one in found.around)
+        return self.known[line]
 
     def kind(self, line):
         """What syntax.py says that a line is; None where it isn't known."""

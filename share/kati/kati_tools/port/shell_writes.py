@@ -7,6 +7,7 @@ import os
 import re
 import shutil
 
+from ..build import calls_of_recipes, comparing
 from ..make import shell_calls
 from . import command_reads, watched
 from .mender import Mender
@@ -79,13 +80,18 @@ class ShellWrites(Mender):
 
     def settle(self, translation):
         """Notes it, by kati's statements; the makefile stays."""
-        made = {os.path.normpath(name) for name in translation.outputs}
+        # Of what has no command Ninja doesn't make the folder.
+        made = {os.path.normpath(name) for one in translation.statements if one.command is not None
+                for name in one.outputs}
         for name in list(made):
             while os.path.dirname(name) and os.path.dirname(name) not in made:
                 name = os.path.dirname(name)
                 made.add(name)
         first = self.port.first
         self.folders = [name for name in first.folders if name not in made]
+        # So does what `$(file >..)` writes for kati.
+        made.update(os.path.normpath(name) for one in translation.statements if "> '" in (one.command or "")
+                    for text in comparing.unwrapped(one.command) for name in calls_of_recipes.WRITTEN.findall(text))
         self.by_recipes = {name: place for name, place in first.by_recipes.items() if name not in made}
         self.standing = standing(shell_calls.of_room(self.port.room).texts()) - made
         return False

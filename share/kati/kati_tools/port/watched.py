@@ -44,9 +44,9 @@ def is_values_file(name):
     return os.path.basename(name) == VALUES and os.path.dirname(os.path.abspath(name)) == os.getcwd()
 
 
-def is_own(name):
-    """Whether kati-build or kati-port wrote what has this name."""
-    return own_files.is_below(name) or is_values_file(name) or scratch.is_room(name)
+def others(names):
+    """Those of these names of which neither kati-build nor kati-port wrote what has them."""
+    return [name for name in own_files.others(names) if not (is_values_file(name) or scratch.is_room(name))]
 
 
 def of_wildcard(patterns):
@@ -60,7 +60,7 @@ def fitting(patterns):
     for pattern in patterns.split():
         # A name that begins with a dot fits only a pattern that does; glob has it so too.
         names = glob.glob(pattern.replace("[^", "[!")) if is_pattern(pattern) else [pattern] * os.path.lexists(pattern)
-        found += sorted((name for name in names if not is_own(name)), key=bytes_of)
+        found += sorted(others(names), key=bytes_of)
     return " ".join(found)
 
 
@@ -92,8 +92,8 @@ def fitted(word):
 def text_in(name):
     """What tells a file, or the names in a folder, from others; None where it isn't there."""
     if os.path.isdir(name):
-        return "\n".join(sorted(one for one in os.listdir(name)
-                                if one not in sources.OWN and not is_own(os.path.join(name, one))))
+        there = others([os.path.join(name, one) for one in os.listdir(name) if one not in sources.OWN])
+        return "\n".join(sorted(map(os.path.basename, there)))
     return files.read(name) if os.path.isfile(name) else "" if os.path.lexists(name) else None
 
 

@@ -92,7 +92,7 @@ def with_told_evals(line):
 def is_bare(line):
     """Whether a line is of references alone, and may evaluate something."""
     text, at = statements.without_comment(line.joined).strip(), 0
-    if line.is_tab or line.is_body or line.is_wrapped or line.is_makes or line.edits or not text:
+    if line.is_tab or line.is_body or line.is_wrapped or line.is_makes or not text:
         return False
     while at < len(text) and text[at:at + 2] in ("$(", "${"):
         at = references.end_of_reference(text, at)
@@ -155,18 +155,27 @@ def put(file, line, new):
                              frame(line, "endif")]
 
 
+def as_it_was(port, line):
+    """Takes the values out of a line again that stand in it for kati; answers their references."""
+    before, line.edits = list(line.edits.values()), {}
+    port.did.subtract(("frozen", call.kind) for call in (port.probes.of(line) if before else ()))
+    return before
+
+
 def write_out(port, lines, is_meant=bool):
     """Writes out what lines evaluate, of those for which kati is to get such lines; answers whether there are any."""
-    asked, added = Asked(port, lines), []
+    asked, added, before = Asked(port, lines), [], []
     for file in port.ported.values():
         for line in [line for line in asked.lines if line in file.lines and not follows_tab(file, line)]:
             new = katis_lines(line, asked.texts_of(line) or [""])
             if is_meant(new):
                 note(port, line)
                 put(file, line, new)
+                before += as_it_was(port, line)
                 port.probes.read.add_read(new)
                 added += new
                 port.tell("written out")
+    port.values.drop_unused(before, port.ported.values())
     if any([port.probes.add(line) for line in added]):
         port.probes.ask(list(port.ported.values()), port.run, port.room)
     return bool(added)
