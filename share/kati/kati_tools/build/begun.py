@@ -3,6 +3,7 @@
 Ninja can't see it: for a statement whose output stayed as it was, ninja 1.11 keeps the time that the newest input has
 after the run; and an output that is written is newer than an input that was saved while the run read it."""
 import os
+import stat
 import time
 
 from ..base import files, own_files
@@ -17,12 +18,15 @@ MOST_WAITS = 20
 def newest_time(name):
     """When a file, a folder or a link to one was last written or renamed; 0 where it isn't there."""
     found = 0
-    for look in (os.stat, os.lstat):
+    # A link is looked at first, and then what it leads to.
+    for look in (os.lstat, os.stat):
         try:
             status = look(name)
-            found = max(found, status.st_mtime_ns, status.st_ctime_ns)
         except (OSError, ValueError):
-            pass
+            break
+        found = max(found, status.st_mtime_ns, status.st_ctime_ns)
+        if not stat.S_ISLNK(status.st_mode):
+            break
     return found
 
 

@@ -177,7 +177,7 @@ class Looking:
         phony = {name for one in statements if ALWAYS in one.needs for name in one.outputs}
         self.doubts += [f"{name}: make runs the recipe of this include at each run, as it is phony, and ninja only "
                         "where a goal needs it" for name in names if name in phony]
-        made = {name for one in statements for name in one.outputs
+        made = {name for one in statements for name in set(names).intersection(one.outputs)
                 if one.needs or not self.asking.is_double(names, name)}
         return [name for name in names if name in made - phony]
 

@@ -82,7 +82,9 @@ class PortedLine(syntax.Line):
 
     def assignment(self):
         """The name, operator and value of an assignment, whatever stands before it; None for another line."""
-        return None if self.is_tab or self.kind is syntax.Kind.BODY else assigned(self.joined)
+        if self.is_tab or self.kind is syntax.Kind.BODY:
+            return None
+        return self.says[1:4] if self.kind is syntax.Kind.ASSIGNMENT else assigned(self.joined)
 
     def expanded_length(self):
         """Up to where the line may be expanded: to its comment, where it can have one."""
@@ -136,7 +138,9 @@ def definitions(lines):
             yield name, line
         elif line.kind is syntax.Kind.DEFINE:
             name = line.says.name
+        elif line.kind is syntax.Kind.ASSIGNMENT:
+            yield line.says.name, line
         else:
-            found = assigned(line.joined) if line.kind is syntax.Kind.ASSIGNMENT else line.assignment()
+            found = line.assignment()
             if found:
                 yield found[0], line

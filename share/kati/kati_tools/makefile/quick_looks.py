@@ -1,6 +1,7 @@
 """Quick looks at the texts of large makefiles, for which reading them whole (`syntax.py`) takes too long.
 
 Each finds what the reading finds, or more; the tests compare them."""
+import functools
 import re
 
 # What may continue a line: backslashes at its end, of which the last one isn't quoted where their number is odd.
@@ -29,6 +30,8 @@ TAKING_BACK = re.compile(r"^ *%[^:=\n]*:[ \t]*%|\.SUFFIXES\b|\bMAKEFLAGS[ \t]*[:
 NAMED, PLAIN = re.compile(r"\$[({]([^\s:,$(){}]+)"), re.compile(r"\$[({]([^\s:,$(){}]+)[)}]")
 
 
+# A few makefiles are asked for it again and again.
+@functools.lru_cache(16)
 def without_continuations(text):
     """A makefile's text with continued lines joined."""
     def blank(found):

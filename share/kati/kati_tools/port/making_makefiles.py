@@ -15,19 +15,20 @@ OF_RECIPE = "\n#  recipe to execute"
 MENDED = ("E16", "E18", "E32")
 
 
-def places_of(text, part):
-    """Where a part stands in a text."""
-    at = text.find(part)
-    while at >= 0:
-        yield at
-        at = text.find(part, at + 1)
-
-
-def may_have_recipe(database, name):
-    """Whether a file has a recipe, or may have one, as make's database tells it once make has looked for the rules of
-    all makefiles, which it does before anything."""
-    found = [database[at:database.find("\n\n", at)] for at in places_of(database, f"\n{name}:")]
-    return not found or any(OF_RECIPE in one for one in found)
+def with_recipes(port, names):
+    """Those of these files that have a recipe, or may have one, as make's database tells it once make has looked for
+    the rules of all makefiles, which it does before anything; None where it doesn't tell."""
+    database, names, told = port.run.ended_with or "", set(names), {}
+    if OF_RECIPE not in database:
+        return None
+    # Many of its paragraphs are of files, and few of these.
+    for part in database.split("\n\n"):
+        while part.startswith("#"):
+            part = part.partition("\n")[2]
+        name = part[:part.find(":")]
+        if name in names:
+            told[name] = told.get(name, False) or OF_RECIPE in part
+    return {name for name in names if told.get(name, True)}
 
 
 def names_of(port, made):
@@ -40,19 +41,17 @@ def names_of(port, made):
     own = [name for name in read if name == port.makefile and any(quick_looks.may_have_rule(text, name)
                                                                   for text in texts)]
     found = [name for name in [*(others if may_make else []), *own] if name not in made]
-    database = port.run.ended_with or ""
-    return [name for name in found if OF_RECIPE not in database or may_have_recipe(database, name)]
+    told = with_recipes(port, found) if found else None
+    return found if told is None else [name for name in found if name in told]
 
 
 def without_recipes(port):
     """The makefiles that make includes, or would where they are there, of which it has told that it has no recipe for
     them; with the file of values, which is this tool's."""
-    database = port.run.ended_with or ""
-    if OF_RECIPE not in database:
-        return []
     named = {name for file in port.ported.values() for name in includes.named_in(file.before)}
     names = {port.makefile, *port.first.read, *map(os.path.normpath, named)}
-    return sorted([frozen_values.NAME, *(name for name in names if not may_have_recipe(database, name))])
+    told = with_recipes(port, names)
+    return [] if told is None else sorted([frozen_values.NAME, *(names - told)])
 
 
 def fault(port, translation):
