@@ -4,6 +4,7 @@ Where a compiler writes such a file by itself, as by -MMD, Ninja reads it, and t
 compilation would have the makefile read again. All others kati reads, as those that a rule makes by `cc -MM`, or that
 a recipe writes by `sed` from what the compiler wrote, or moves where it differs. They may be absent for kati."""
 import fnmatch
+import functools
 import os
 import re
 
@@ -37,22 +38,21 @@ def softened(text):
 
 class DependencyIncludes(Mender):
     """The includes of header dependencies of a port. `lines` are those that stand for make alone, with the names in
-    them; `read` those of them that kati reads as well, `unread` the names that it refuses. `by_compilers` are the names
-    that compilers write, by make's commands."""
+    them; `read` those of them that kati reads as well, `unread` the names that it refuses."""
 
     def __init__(self, port):
         super().__init__(port)
         self.lines, self.read, self.unread, self.is_tried = {}, set(), [], False
-        self.by_compilers = set()
 
     def texts(self):
         """The names in all includes, where a compiler writes such files."""
         return [" ".join(line.says.names) for line in self.all_lines()] if self.has_compilers() else []
 
-    def look(self):
-        """Finds what compilers write, which may have names as those of other makefiles."""
+    @functools.cached_property
+    def by_compilers(self):
+        """The names that compilers write, by make's commands: they may be as those of other makefiles."""
         found = [header_dependencies.written_in(text) for text in self.port.first.commands[1] if WRITES.search(text)]
-        self.by_compilers = {os.path.normpath(name) for name in found if name}
+        return {os.path.normpath(name) for name in found if name}
 
     def are_meant(self, names):
         """Whether names are those of header dependencies: by what they are called, or as compilers write some of them
