@@ -68,8 +68,10 @@ def times_of(names):
     """When the files of these names were written, of those that are there."""
     found = {}
     for name in names:
-        with contextlib.suppress(FileNotFoundError, NotADirectoryError):
+        try:
             found[name] = os.lstat(name).st_mtime_ns
+        except (FileNotFoundError, NotADirectoryError):
+            pass
     return found
 
 

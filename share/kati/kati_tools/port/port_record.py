@@ -1,4 +1,5 @@
 """What a port of kati-build came from, and whether all of that is as it was: then so is the port."""
+import functools
 import hashlib
 import json
 import os
@@ -11,8 +12,9 @@ from ..base.programs import Stop, bytes_of, find_kati, own_sources
 FOLDER, RECORD = "ported", "ported.json"
 
 
+@functools.lru_cache(None)
 def sum_of_tools(kati):
-    """What tells these tools, and kati, from others, which may port otherwise."""
+    """What tells these tools, and kati, from others, which may port otherwise; a run has the same all along."""
     found = hashlib.sha256()
     for path in own_sources():
         found.update(bytes_of(f"{os.path.basename(path)}\0{files.read(path)}\0"))
