@@ -53,6 +53,9 @@ OF_MAKEFILES = {
     "what the environment has without an export":
         ("PATH := /nowhere:$(PATH)\nall: ; echo \"$$PATH\" > out\n", ["SHELL := PATH="]),
     "a home": ("export HOME = /nowhere\nall: ; echo \"$$HOME\" > out\n", []),
+    "what hangs on make's flags":
+        ("export A = $(if $(findstring p,$(firstword -$(MAKEFLAGS))),told,built)\nall: ; echo \"$$A\" > out\n",
+         ["SHELL := A="]),
     "several lines":
         ("define A\none '1' \"$$X\"\n\t\\two\\n `3`\n\nfour\nendef\nexport A\nall: ; echo \"$$A\" > out\n",
          ["A=\"$$(printf %b "]),

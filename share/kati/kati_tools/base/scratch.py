@@ -12,7 +12,8 @@ ROOMS = set()
 
 def is_room(path):
     """Whether a path is that of a scratch folder of this run, as where this folder is that of temporary files."""
-    return bool(ROOMS) and os.path.abspath(path) in ROOMS
+    # Most names are none of theirs.
+    return any(os.path.basename(one) in path for one in ROOMS) and os.path.abspath(path) in ROOMS
 
 
 @contextlib.contextmanager

@@ -9,6 +9,8 @@ from ..makefile.includes import MAKEFILES
 from ..makefile.ported_text import PortedFile, definitions
 
 WORD = re.compile(r"\w+")
+# make's option by which it tells its database, and the macros by which a makefile may look for it.
+OPTION, FLAGS = "p", re.compile(r"MAKEFLAGS|MFLAGS")
 # What commands have in their environment without an export.
 GIVEN_ANYHOW = {"PATH", "HOME", "TMPDIR"}
 RUNS_MAKE = re.compile(r"(^|[\s;&|()'\"])(\S*/)?g?make\s", re.MULTILINE)
@@ -93,6 +95,19 @@ def run_by(commands, names, are_handed_on=False):
     is_inner = not are_handed_on and RUNS_MAKE.search(text) is not None
     return [name for name in names if is_inner and MAKEFILES.search(name)
             or SCRIPTS.search(name) and os.path.basename(name) in (text if " " in name else words)]
+
+
+def may_hang_on_option(line):
+    """Whether what a line says may be another thing where make has the option by which it tells its database: by make's
+    flags, in which a look for another letter finds what it finds without."""
+    if not FLAGS.search(line.text) or line.is_tab and "eval" not in line.text:
+        return False
+    text = line.text
+    for one in references.references(text):
+        is_look = one.function == "findstring" and {OPTION, "$"}.isdisjoint(one.arguments()[0])
+        text = text.replace(one.text, "") if is_look else text
+    says = line.says if line.kind is syntax.Kind.ASSIGNMENT else None
+    return FLAGS.search(text[says.value_at:] if says and FLAGS.fullmatch(says.name) else text) is not None
 
 
 def may_export(text):

@@ -282,7 +282,7 @@ class InPlace:
 def hide_own_in(folder, names):
     """Takes away those of these names in a folder that kati-build wrote, so that the folder's time stays; answers
     them."""
-    own, times = [name for name in names if own_files.is_own(folder, name)], os.stat(folder)
+    own, times = own_files.among(folder, names), os.stat(folder)
     for name in own:
         path = os.path.join(folder, name)
         if os.path.isdir(path) and not os.path.islink(path):

@@ -73,19 +73,27 @@ def with_goals(given, goals):
     return {**given, "MAKECMDGOALS": " ".join(goals)}
 
 
-def told_environments(noop, given, ask):
-    """The environments that commands of two targets have where make is given one, None for what isn't told. `ask` has
-    it read the makefile, and a file behind that, for some words and in an environment: no options, by which values may
-    differ."""
-    names = [f"{told_by(noop)}{number}" for number in (1, 2)]
-    for name in names:
-        files.remove(name)
-    rules = f"{noop}-telling.mk"
-    telling = TELLING_RULES.format(told=shlex.quote(told_by(noop)).replace("$", "$$"))
-    files.write(rules, bytes_of(telling + recipe_shell.guard(os.path.dirname(noop))))
-    ask(rules, [*TELLING, f"SHELL={noop}"], given)
-    texts = [files.read(name) for name in names]
+def telling(noop):
+    """The text of a makefile, to be read behind others, that has commands of two targets tell their environments."""
+    for number in (1, 2):
+        files.remove(f"{told_by(noop)}{number}")
+    rules = TELLING_RULES.format(told=shlex.quote(told_by(noop)).replace("$", "$$"))
+    return rules + recipe_shell.guard(os.path.dirname(noop))
+
+
+def told(noop):
+    """The environments that these have told, None for what isn't told."""
+    texts = [files.read(f"{told_by(noop)}{number}") for number in (1, 2)]
     return [text and dict(one.split("=", 1) for one in text.split("\0") if "=" in one) for text in texts]
+
+
+def told_environments(noop, given, ask):
+    """The same where make is given one. `ask` has it read the makefile, and a file behind that, for some words and in
+    an environment: no options, by which values may differ."""
+    rules = f"{noop}-telling.mk"
+    files.write(rules, bytes_of(telling(noop)))
+    ask(rules, [*TELLING, f"SHELL={noop}"], given)
+    return told(noop)
 
 
 def added_to_environment(noop, given, goals, ask):

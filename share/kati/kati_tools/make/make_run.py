@@ -4,8 +4,8 @@ import re
 import subprocess
 
 from ..base import files
-from . import (command_environment, command_lists, kept_answers, make_commands, recipe_shell, shell_calls,
-               target_environment)
+from . import (command_environment, command_lists, exported_names, kept_answers, make_commands, recipe_shell,
+               shell_calls, target_environment)
 from .running import run_make
 from ..base.programs import Stop
 
@@ -17,8 +17,8 @@ OWN_SHELL = ("$(SHELL)", "$(.SHELLFLAGS)")
 SECONDS = 120
 # The special target in make's database, at the beginning of a line: a form of that takes ten times as long.
 NOT_PARALLEL = "\n.NOTPARALLEL:"
-# What stands before make's database, behind its commands, in its own language.
-DATABASE, DATABASE_OF = "\n# Make data base, printed on ", re.compile(r"(?:# .*\n)+")
+# What stands before what begins make's database, behind its commands, in its own language.
+DATABASE_OF = re.compile(r"(?:# .*\n)+")
 # What a recipe tells of the flags of a run that asks, and what one has make say behind those of makefiles; and flags by
 # which make runs several commands at a time.
 FLAGS = f": {ANSWER}0 $(MAKEFLAGS){END} {ANSWER}1 $(MFLAGS){END}"
@@ -85,8 +85,8 @@ class MakeRun:
         # What calls of $(shell ..) in recipes write, which is taken away before make is asked.
         self.undone = ()
         # What it told besides where it was asked for something else: the shell and flags of the makefile's own, by a
-        # run without goals; values of texts; and how it makes makefiles.
-        self.own_shell, self.told_besides, self.first = {}, {}, None
+        # run without goals; values of texts; how it makes makefiles; and the environment of commands, with an option.
+        self.own_shell, self.told_besides, self.first, self.environments_told = {}, {}, None, [None]
         # Its database at the end of what it would do for the goals, where it was asked for it.
         self.ended_with = None
         self.noop, self.extra = (os.path.join(room, name) for name in ("noop", "question.mk"))
@@ -126,20 +126,22 @@ class MakeRun:
         return self.run([*words, *goals, *self.macros, f"SHELL={self.noop}"], given)
 
     def refuse_other_shells(self):
-        """Stops where a line of a recipe would be run by another shell than the one that runs none."""
+        """Stops where a line of a recipe would be run by another shell than the one that runs none. By then make has
+        read the makefiles, and has made nothing but that commands of the tools' own tell their environment."""
         known = self.answers.known(kept_answers.SHELLS)
         if known is not None:
             self.is_not_parallel = known
             return
-        files.replace(self.extra, make_commands.UNLISTED + recipe_shell.ASKED, self.room)
-        words = ["-p", "-n", "-B", "--no-print-directory", "-f", self.makefile, "-f", self.extra, *self.goals]
+        words = [f"-{exported_names.OPTION}", "-f", self.makefile, "-f", self.extra, *make_commands.TELLING]
 
         def look(**variables):
-            given = {**self.environment(), **variables}
+            files.replace(self.extra, make_commands.telling(self.noop), self.room)
+            given = {**make_commands.with_goals(self.environment(), self.goals), **variables}
             return self.run([*words, *self.macros, f"SHELL={self.noop}"], given)[1]
 
         database = recipe_shell.refuse_others(look, self.makefile, self.room)
         self.is_not_parallel = NOT_PARALLEL in database
+        self.environments_told = make_commands.told(self.noop)
         self.answers.tell(kept_answers.SHELLS, self.is_not_parallel)
 
     def only_read(self, goal, *flags):
@@ -156,8 +158,9 @@ class MakeRun:
         """What make warns of once it has read the makefile."""
         return self.only_read(NO_GOAL)[2]
 
-    def added_to_environment(self):
-        """What make adds to the environment of its commands."""
+    def added_to_environment(self, may_hang_on_option):
+        """What make adds to the environment of its commands; whether that may hang on the option by which it was looked
+        which shell make has."""
         def ask(rules, more, given):
             self.run(["-f", self.makefile, "-f", rules, *self.macros, *more], given)
 
@@ -166,7 +169,8 @@ class MakeRun:
         if known is not None:
             told = [kept_answers.environment(one, given) for one in known]
         else:
-            told = make_commands.told_environments(self.noop, given, ask)
+            is_told = not may_hang_on_option and None not in self.environments_told
+            told = self.environments_told if is_told else make_commands.told_environments(self.noop, given, ask)
             found = [kept_answers.difference(one, given) for one in told if one is not None]
             if None not in told and not any(map(kept_answers.has_exports, found)):
                 self.answers.tell(kept_answers.ENVIRONMENT, found)
@@ -264,7 +268,7 @@ class MakeRun:
         question += f"{first} {last}: ; {BEHIND}\n-include {last}\n" if is_plain else ""
         given = {**self.environment(), "MAKEFILES": first} if is_plain else None
         status, out, said = self.ask(goals, question, ["-p"] * has_database, given)
-        out, is_told, self.ended_with = out.partition(DATABASE) if has_database else (out, "", None)
+        out, is_told, self.ended_with = out.partition(recipe_shell.DATABASE) if has_database else (out, "", None)
         start = out.rfind("# GNU Make ")
         if has_database and not (is_told and DATABASE_OF.fullmatch(out, start)):
             return self.ask_all(goals, question, False)

@@ -28,6 +28,8 @@ endif
 """
 
 
+# What stands before make's database, in the locale C.
+DATABASE = "\n# Make data base, printed on "
 # What is read behind them where make is to tell its database alone.
 ASKED = "$(error asked)\n"
 FORMS = " ".join(f"SHELL{operator}%" for operator in ("=", ":=", "::=", ":::=", "+=", "?=", "!="))
@@ -100,12 +102,20 @@ def place_before(lines):
     return None
 
 
+def database_in(text):
+    """make's database in what it printed, and commands before it: these too where it speaks another language."""
+    before, mark, database = text.partition(DATABASE)
+    return database if mark else before
+
+
 def refuse_others(look, makefile, room):
     """Stops where make's database, which `look` answers, tells of a shell that isn't one of the folder `room`; answers
     the database. The place of a fault is told in the locale C alone."""
-    database = look()
+    database = database_in(look())
     if first_fault(database, makefile, room):
-        fault = first_fault(look(LC_ALL="C"), makefile, room)
-        raise OtherShell(f"{fault}, and so lines of recipes would run while make is asked what it would do; make's own "
-                         "command line is to say which shell it has")
+        database = database_in(look(LC_ALL="C"))
+        fault = first_fault(database, makefile, room)
+        if fault:
+            raise OtherShell(f"{fault}, and so lines of recipes would run while make is asked what it would do; make's "
+                             "own command line is to say which shell it has")
     return database

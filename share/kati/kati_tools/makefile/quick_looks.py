@@ -30,6 +30,14 @@ TAKING_BACK = re.compile(r"^ *%[^:=\n]*:[ \t]*%|\.SUFFIXES\b|\bMAKEFLAGS[ \t]*[:
 NAMED, PLAIN = re.compile(r"\$[({]([^\s:,$(){}]+)"), re.compile(r"\$[({]([^\s:,$(){}]+)[)}]")
 
 
+def places_of(text, part):
+    """Where a part stands in a text."""
+    at = text.find(part)
+    while at >= 0:
+        yield at
+        at = text.find(part, at + 1)
+
+
 # A few makefiles are asked for it again and again.
 @functools.lru_cache(16)
 def without_continuations(text):

@@ -229,7 +229,7 @@ class Probes:
     def __init__(self, ported, unsettled=None, before=None):
         self.unsettled, self.by_target = unsettled or {}, frozenset()
         self.refused = refused_macros(ported) if before is None else before.refused
-        self.calls, self.numbers, self.values, self.known = {}, {}, {}, {}
+        self.calls, self.numbers, self.values, self.known, self.parted = {}, {}, {}, {}, {}
         # The words of rule lines that come to names with wildcards, by their places.
         self.words = {}
         # What each call of `wildcard`, `shell` and their kin is asked for is told as well, by numbers of their own.
@@ -253,6 +253,7 @@ class Probes:
             own.update((call, known.get((call.line, *call.chain[0]))) for call in own)
             are_all = are_all and None not in own.values()
         self.numbers, self.values, self.read, self.appends = others.numbers, others.values, others.read, others.appends
+        self.parted = others.parted
         return are_all
 
     def add(self, line, known=None):
@@ -329,19 +330,24 @@ class Probes:
         number, is_by_target = self.numbers.get((line, *span)), self.is_by_target(line, span)
         # They are many, and asked for again and again.
         if (number, is_by_target) not in self.known:
-            found = [one.split("|", 1) for one in self.values.get(number, [])]
-            self.known[number, is_by_target] = [(told_key(told, is_by_target), value) for told, value in found]
+            self.known[number, is_by_target] = [(told_key(told, is_by_target), value)
+                                                for told, value in self.told_by(number)]
         return self.known[number, is_by_target]
+
+    def told_by(self, number):
+        """What a probe told, each time in two parts: what the value hangs on, and the value."""
+        if number not in self.parted:
+            self.parted[number] = [one.split("|", 1) for one in self.values.get(number, [])]
+        return self.parted[number]
 
     def asked_of(self, call):
         """The patterns that a wildcard, the commands that a shell was asked for, and so on, each once."""
-        return dict.fromkeys(one.split("|", 1)[1] for one in self.values.get(self.asked_number(call), []))
+        return dict.fromkeys(text for _, text in self.told_by(self.asked_number(call)))
 
     def asked_in_recipes(self, call):
         """What a call was asked for where recipes have it, each time with what it depends on, which ends in the
         target."""
-        told = (one.split("|", 1) for one in self.values.get(self.asked_number(call), []))
-        found = ((key.partition(TARGET)[2], text) for key, text in told)
+        found = {(key.partition(TARGET)[2], text) for key, text in self.told_by(self.asked_number(call))}
         return {(key, text) for key, text in found if key and not key.endswith("-")}
 
     def asked_number(self, call):
@@ -360,8 +366,7 @@ class Probes:
     def asked_by(self, call):
         """The pattern that a wildcard was asked for, by what it depends on; none where that doesn't settle it."""
         found, is_by_target = {}, self.is_by_target(call.line, call.chain[0])
-        for one in self.values.get(self.patterns.get(call), []):
-            told, pattern = one.split("|", 1)
+        for told, pattern in self.told_by(self.patterns.get(call)):
             if found.setdefault(told_key(told, is_by_target), pattern) != pattern:
                 return {}
         return found
@@ -441,7 +446,7 @@ class Probes:
         if status:
             self.appends = append_probes.AppendProbes(())
             status, found = self.answers(ported, run, room, lambda line, text: text)
-        self.values, self.known = found, {}
+        self.values, self.known, self.parted = found, {}, {}
         self.read.take(found)
         self.appends.take(found)
         for file in ported:

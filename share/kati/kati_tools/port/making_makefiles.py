@@ -1,5 +1,6 @@
 """What makes the makefiles that make reads: Ninja makes them first, as make does, whether the goals need them or not.
 So kati is asked about that, too, once it takes the makefile for the goals."""
+import functools
 import os
 import re
 
@@ -15,20 +16,24 @@ OF_RECIPE = "\n#  recipe to execute"
 MENDED = ("E16", "E18", "E32")
 
 
-def with_recipes(port, names):
-    """Those of these files that have a recipe, or may have one, as make's database tells it once make has looked for
-    the rules of all makefiles, which it does before anything; None where it doesn't tell."""
-    database, names, told = port.run.ended_with or "", set(names), {}
-    if OF_RECIPE not in database:
-        return None
-    # Many of its paragraphs are of files, and few of these.
+# A database is large.
+@functools.lru_cache(1)
+def recipes_in(database):
+    """Whether files have a recipe, by their names, as make's database tells; more names may be no files."""
+    found = {}
     for part in database.split("\n\n"):
         while part.startswith("#"):
             part = part.partition("\n")[2]
         name = part[:part.find(":")]
-        if name in names:
-            told[name] = told.get(name, False) or OF_RECIPE in part
-    return {name for name in names if told.get(name, True)}
+        found[name] = found.get(name, False) or OF_RECIPE in part
+    return found
+
+
+def with_recipes(port, names):
+    """Those of these files that have a recipe, or may have one, as make's database tells it once make has looked for
+    the rules of all makefiles, which it does before anything; None where it doesn't tell."""
+    told = recipes_in(port.run.ended_with or "")
+    return {name for name in names if told.get(name, True)} if any(told.values()) else None
 
 
 def names_of(port, made):

@@ -43,8 +43,8 @@ class Exports(Mender):
     def look(self):
         """Asks make. Where all variables are exported, kati's commands are to have all that fits in them, or those that
         lines name or something asks for."""
-        self.added = self.port.run.added_to_environment()
         lines, read = list(self.port.lines()), set(self.port.ported)
+        self.added = self.port.run.added_to_environment(self.may_hang_on_option())
         texts = exported_names.named(lines)
         told = self.port.run.values([one for one in texts if "$" in one])
         named = [name for text in [*(one for one in texts if "$" not in one), *told] for name in (text or "").split()]
@@ -65,6 +65,13 @@ class Exports(Mender):
         if self.of_targets:
             self.by_target = self.port.run.environments(self.port.first.shell)
             self.asked -= targets - self.named - exports_of_all.exported_by(self.by_target)
+
+    def may_hang_on_option(self):
+        """Whether the environment may be another one where make has the option by which it tells its database: by a
+        makefile that looks for it, or that isn't known."""
+        known = {*self.port.ported, *self.port.first.hidden, frozen_values.NAME}
+        lines = (line for file in self.port.ported.values() for line in file.lines)
+        return not self.port.first.read <= known or any(map(exported_names.may_hang_on_option, lines))
 
     def begin(self):
         """Gives kati the folder that make runs in, which goes with the tree."""

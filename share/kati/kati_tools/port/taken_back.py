@@ -12,8 +12,9 @@ from . import port_report
 from .mender import Mender
 
 KNOWN = re.compile(r"\(filter ([^\s,]+),")
-# The rules of make's database, by what is made and from what; one that is taken back has no recipe.
-LISTED = re.compile(r"(\S*): %(\S+)\n#  recipe")
+# The rules of make's database, behind what they begin with, by what is made and from what; one that is taken back has
+# no recipe.
+LISTING, LISTED = "\n%", re.compile(r"(\S*): %(\S+)\n#  recipe")
 
 
 class TakenBack(Mender):
@@ -46,8 +47,8 @@ class TakenBack(Mender):
         known = KNOWN.findall(files.read(os.path.join(SHARE, translating.RULES)))
         database = self.port.run.ended_with or self.port.run.database(make_run.NO_GOAL)
         # A database is large, and few of its lines begin so.
-        rules = filter(None, map(LISTED.match, database.split("\n%")[1:]))
-        told = {f"{found.group(2)}{found.group(1)}" for found in rules}
+        rules = (LISTED.match(database, at + len(LISTING)) for at in quick_looks.places_of(database, LISTING))
+        told = {f"{found.group(2)}{found.group(1)}" for found in filter(None, rules)}
         return [one for one in known if one not in told]
 
     def tail(self):
