@@ -47,8 +47,10 @@ how make is asked:
   does nothing for a recipe, keeps it from running lines with $(MAKE), and runs what $(shell ..)
   says. What make includes it makes anew, for -B; those commands count where kati has them too, and
   are asked for by --trace where make doesn't print them. A backslash and its newline in a recipe
-  are joined as kati joins them. The environment is the user's own, without what a make hands on to
-  another; kati takes no macros from it, so what make takes is told. With --builtin make is asked
+  are joined as kati joins them. Where make says that it drops circles, it is asked once more, with
+  -o for files that have nothing left to be made from: by -B alone it would run their recipes. The
+  environment is the user's own, without what a make hands on to another; kati takes no macros from
+  it, so what make takes is told. With --builtin make is asked
   without `-r -R`, and in both builds it has its own rules in any case. What its commands have in
   their environment two targets tell that stand behind the makefile: make is asked for them without
   `-n -B`, which values may come from, and noop runs nothing then, too. Where variables may have

@@ -4,7 +4,7 @@ import re
 import shlex
 
 from ..base import files
-from . import command_environment, recipe_shell, shell_calls, shell_reading, target_environment
+from . import command_environment, dropped_circles, recipe_shell, shell_calls, shell_reading, target_environment
 from .running import run_make
 from ..base.programs import Stop, bytes_of
 
@@ -123,7 +123,8 @@ class Asking:
         self.makefile, self.has_builtin, self.shell = makefile, has_builtin, shell
         self.suffixes, self.noop, self.given, self.guard = (
             os.path.join(room, name) for name in ("suffixes", "noop", "given", "guard.mk"))
-        self.room = room
+        # The files whose recipes make would run for -B alone.
+        self.room, self.left_alone = room, []
         name = makefile.replace("$", "$$").replace("#", "\\#")
         files.write(self.given, bytes_of(NAMED.format(name=name)) + (files.content(makefile) or b""))
         files.replace(self.suffixes, SUFFIXES + NO_RULE, room)
@@ -149,10 +150,20 @@ class Asking:
     def run(self, words, has_builtin, always, more=(), **variables):
         """make's status for these words, with what it prints, which `noop` must find to be no pipe; `more` are options
         of make, and `variables` are in its environment too."""
-        call = ["-n", *(["-B"] if always else []), *([] if has_builtin else ["-r", "-R"])]
+        call = ["-n", *(self.always() if always else []), *([] if has_builtin else ["-r", "-R"])]
         call += [*more, "--no-print-directory", "-f", self.suffixes, "-f", "-", "-f", self.guard, *words]
         return run_make([*call, f"SHELL={self.noop}"], self.room, self.with_scratch(environment(**variables)),
                         self.given)
+
+    def always(self):
+        """The words by which make runs the recipes of all, but for those that it would run for -B alone."""
+        return ["-B", *dropped_circles.words(self.left_alone)]
+
+    def leaves_alone(self, words):
+        """Whether make, with these words, leaves files alone by circles that it drops; it is told to, from then on."""
+        _, out, said = self.run(words, self.has_builtin, True, ["-p"], LC_ALL="C")
+        self.left_alone = dropped_circles.Circles(out, said).files
+        return bool(self.left_alone)
 
     def ask(self, words, always=True):
         """What make prints for these words, a command a line; with `always` as if nothing were made yet."""
@@ -164,6 +175,8 @@ class Asking:
             takes_it = not self.has_builtin and self.run(words, True, always)[0] == 0
             hint = "\nmake takes it with its own rules: try --builtin" if takes_it else ""
             raise Stop(f"make ends with status {status} where kati has no fault:\n{told}{hint}")
+        if always and not self.left_alone and dropped_circles.are_told(said) and self.leaves_alone(words):
+            return self.ask(words)
         return lines_of(out)
 
     def commands(self, goals, macros):
@@ -183,7 +196,7 @@ class Asking:
     def environments(self, goals, macros):
         """What make's commands have in their environment, line by line of their recipes."""
         def ask(word):
-            call = ["-B", *([] if self.has_builtin else ["-r", "-R"]), "--no-print-directory",
+            call = [*self.always(), *([] if self.has_builtin else ["-r", "-R"]), "--no-print-directory",
                     "-f", self.suffixes, "-f", "-", "-f", self.guard, *goals, *macros, word]
             return run_make(call, self.room, self.with_scratch(environment()), self.given)[0]
 

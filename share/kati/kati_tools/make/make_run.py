@@ -4,8 +4,8 @@ import re
 import subprocess
 
 from ..base import files
-from . import (command_environment, command_lists, exported_names, kept_answers, make_commands, recipe_shell,
-               shell_calls, target_environment)
+from . import (command_environment, command_lists, database, dropped_circles, exported_names, kept_answers,
+               make_commands, recipe_shell, shell_calls, target_environment)
 from .running import run_make
 from ..base.programs import Stop
 
@@ -17,7 +17,7 @@ OWN_SHELL = ("$(SHELL)", "$(.SHELLFLAGS)")
 SECONDS = 120
 # The special target in make's database, at the beginning of a line: a form of that takes ten times as long.
 NOT_PARALLEL = "\n.NOTPARALLEL:"
-# What stands before what begins make's database, behind its commands, in its own language.
+# What stands between its commands and the first line of its database.
 DATABASE_OF = re.compile(r"(?:# .*\n)+")
 # What a recipe tells of the flags of a run that asks, and what one has make say behind those of makefiles; and flags by
 # which make runs several commands at a time.
@@ -84,6 +84,8 @@ class MakeRun:
         self.is_not_parallel = False
         # What calls of $(shell ..) in recipes write, which is taken away before make is asked.
         self.undone = ()
+        # The circles that make drops, once it has told of some.
+        self.circles = None
         # What it told besides where it was asked for something else: the shell and flags of the makefile's own, by a
         # run without goals; values of texts; how it makes makefiles; and the environment of commands, with an option.
         self.own_shell, self.told_besides, self.first, self.environments_told = {}, {}, None, [None]
@@ -121,9 +123,25 @@ class MakeRun:
         """What make would do for the goals; a question is a makefile's text that is read after the makefile. `given` is
         its environment, where it is another one."""
         files.replace(self.extra, make_commands.UNLISTED + recipe_shell.guard(self.room) + question, self.room)
-        words = [*flags, "-n", "-B", *OWN_FLAGS, "-f", self.makefile, "-f", self.extra]
+        words = [*flags, "-n", *self.always(), *OWN_FLAGS, "-f", self.makefile, "-f", self.extra]
         goals = self.goals if goals is None else goals
         return self.run([*words, *goals, *self.macros, f"SHELL={self.noop}"], given)
+
+    def always(self):
+        """The words by which make runs the recipes of all, but for those that it would run for -B alone."""
+        return ["-B", *(dropped_circles.words(self.circles.files) if self.circles else [])]
+
+    def with_database(self, **variables):
+        """What make would do for the goals, with its database; `variables` are in its environment, too."""
+        words = ["-p", "-n", "-B", "--no-print-directory", "-f", self.makefile, *self.goals, *self.macros]
+        return self.run([*words, f"SHELL={self.noop}"], {**self.environment(), **variables})
+
+    def has_circles(self, said):
+        """Whether make says for the first time that it drops circles, by which it leaves files alone."""
+        if self.circles is not None or not dropped_circles.are_told(said):
+            return False
+        self.circles = dropped_circles.Circles(*self.with_database(LC_ALL="C")[1:])
+        return bool(self.circles.files)
 
     def refuse_other_shells(self):
         """Stops where a line of a recipe would be run by another shell than the one that runs none. By then make has
@@ -180,7 +198,8 @@ class MakeRun:
         """What make's commands have in their environment, line by line of their recipes."""
         given = self.environment()
         files.replace(self.extra, make_commands.UNLISTED + recipe_shell.guard(self.room) + ".SECONDARY:\n", self.room)
-        words = ["-B", "--no-print-directory", "-f", self.makefile, "-f", self.extra, *self.goals, *self.macros]
+        words = [*self.always(), "--no-print-directory", "-f", self.makefile, "-f", self.extra, *self.goals,
+                 *self.macros]
         return target_environment.all_told(self.room, shell, lambda word: self.run([*words, word], given)[0])
 
     def make_includes(self):
@@ -241,6 +260,8 @@ class MakeRun:
         which make makefiles, where something may; in the same run it is asked for the values of texts, and for its
         database where that is of use."""
         status, out, said = self.ask_all(goals, questions(texts), has_database)
+        if self.has_circles(said):
+            status, out, said = self.ask_all(goals, questions(texts), has_database)
         if status and texts:
             # One of them may be none that make can expand.
             status, out, said = self.ask_all(goals, "", False)
@@ -268,7 +289,7 @@ class MakeRun:
         question += f"{first} {last}: ; {BEHIND}\n-include {last}\n" if is_plain else ""
         given = {**self.environment(), "MAKEFILES": first} if is_plain else None
         status, out, said = self.ask(goals, question, ["-p"] * has_database, given)
-        out, is_told, self.ended_with = out.partition(recipe_shell.DATABASE) if has_database else (out, "", None)
+        out, is_told, self.ended_with = out.partition(database.BEGIN) if has_database else (out, "", None)
         start = out.rfind("# GNU Make ")
         if has_database and not (is_told and DATABASE_OF.fullmatch(out, start)):
             return self.ask_all(goals, question, False)

@@ -7,6 +7,7 @@ import os
 import re
 
 from ..base.programs import Stop
+from .database import BEGIN
 
 WRONG = 1
 NAME = "SHELL"
@@ -28,8 +29,6 @@ endif
 """
 
 
-# What stands before make's database, in the locale C.
-DATABASE = "\n# Make data base, printed on "
 # What is read behind them where make is to tell its database alone.
 ASKED = "$(error asked)\n"
 FORMS = " ".join(f"SHELL{operator}%" for operator in ("=", ":=", "::=", ":::=", "+=", "?=", "!="))
@@ -104,7 +103,7 @@ def place_before(lines):
 
 def database_in(text):
     """make's database in what it printed, and commands before it: these too where it speaks another language."""
-    before, mark, database = text.partition(DATABASE)
+    before, mark, database = text.partition(BEGIN)
     return database if mark else before
 
 

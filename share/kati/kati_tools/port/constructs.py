@@ -4,7 +4,7 @@ Most is mended where kati has a fault, by the fault's number; the rest before ka
 makefile and means something else by it than make."""
 from typing import Callable, Mapping, NamedTuple
 
-from . import (default_goal, default_rule, dependency_includes, double_colons, environment_names, file_writes,
+from . import (circles, default_goal, default_rule, dependency_includes, double_colons, environment_names, file_writes,
     folder_search, inner_makes, literal_percents, made_folders, made_values, mending, mending_appends, mending_exports,
     mending_lines, mending_shell, of_the_run, recipe_prefix, second_expansion, shared_includes, shell_flags,
     shell_writes, suffix_names, suffix_needs, taken_away, taken_back, target_macros, value_texts, written_out)
@@ -47,6 +47,7 @@ CONSTRUCTS = (
     Construct("`X:: y` without a recipe, which make makes by an implicit rule", mender=double_colons.DoubleColons),
     Construct("`.o: ; mkdir .o`, where the goals need a file or folder of that name", mender=suffix_names.SuffixNames),
     Construct("`.c.o: defs.h` with a recipe", mender=suffix_needs.SuffixNeeds),
+    Construct("`.o.c:` or `%.c: %.o`, where `x.o` needs `x.c`", {"E28": circles.mend}, mender=circles.Circles),
     Construct("an empty `.DEFAULT_GOAL`, behind which make takes the next target for the goal",
               mender=default_goal.DefaultGoal),
     Construct("`.DEFAULT`", {"E22": mending.default}, mender=default_rule.DefaultRule),

@@ -6,7 +6,7 @@ from collections import Counter
 from ..make import command_lists
 from ..makefile import statements
 from ..makefile.syntax import Kind
-from . import folder_search, port_report, second_expansion
+from . import folder_search, port_report
 from .mender import Mender
 
 # What make knows of a target with a double colon for which it found an implicit rule.
@@ -51,7 +51,7 @@ class DoubleColons(Mender):
         commands = port_report.commands_of(translation.statements) if lines else []
         if not lines or not command_lists.alone(self.port.first.commands[1], commands):
             return False
-        made = set(made_by_implicit(self.port.run.ended_with or second_expansion.database_text(self.port)))
+        made = set(made_by_implicit(self.port.run.ended_with or self.port.run.with_database()[1]))
         told = self.port.run.values([" ".join(rule.targets) for _, rule, _ in lines])
         targets = [(names or "").split() for names in told]
         counts = Counter(name for names in targets for name in names)

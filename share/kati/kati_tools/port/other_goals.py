@@ -18,8 +18,8 @@ from . import mending_alike, watched
 NAME = "other-goals.json"
 # By what a makefile may do otherwise for other goals, wherever it does.
 GOALS = "MAKECMDGOALS"
-# Faults in recipes, which other goals may not need.
-OF_RECIPES = ("E16", "E32")
+# Faults in recipes, and circles, which other goals may not need.
+OF_GOALS = ("E16", "E28", "E32")
 
 
 class Known:
@@ -120,7 +120,7 @@ def mend_again(port, number, name, text, last, words_of_it):
     """Mends a fault once more, where its line is as it was and isn't mended yet; answers whether it did."""
     file = name and port.load(name)
     lines = [line for line in file.lines if line.text == text and not (line.is_wrapped or line.edits)] if file else []
-    if number in OF_RECIPES or not lines and name is not None:
+    if number in OF_GOALS or not lines and name is not None:
         return False
     return mending_alike.mend_alike(port, mending_alike.Alike(file, lines[0] if lines else None, number, last,
                                                               words_of_it))

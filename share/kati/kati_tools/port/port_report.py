@@ -30,6 +30,7 @@ KINDS = {
     "search": "VPATH and vpath: a rule for each folder",
     "double colon": "a double colon without a recipe: for kati a single one, so that it finds make's rule",
     "suffix needs": "prerequisites of a suffix rule, which make ignores: left out for kati",
+    "circle": "a rule of which make drops all prerequisites, as circles: for make alone",
     "suffix name": "a file or folder that is named as a suffix: for kati a rule of its own",
     "made folder": "a folder that mkdir makes: for kati before what lies in it, as Ninja makes it there otherwise",
     "taken away": "what another recipe takes away first: for kati it hangs on that one, so that it is made anew",

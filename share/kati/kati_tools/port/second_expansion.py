@@ -1,26 +1,10 @@
 """`.SECONDEXPANSION`: prerequisites that are expanded again for each target, which kati gets as make has them.
 
 A pattern rule is for kati a static one, of the targets for which make took it."""
-import re
-
+from ..make import database
 from ..makefile import statements
 from ..makefile.syntax import Kind
 from . import mending
-
-TARGET = re.compile(r"^([^\s#:=][^:=\n]*):(?: (.*))?$", re.MULTILINE)
-STEM = re.compile(r"^#  Implicit/static pattern stem: '(.*)'$", re.MULTILINE)
-RECIPE = re.compile(r"^#  recipe to execute \(from '(.*)', line (\d+)\):$", re.MULTILINE)
-
-
-class Known:
-    """What make knows of a target at the end: its prerequisites, the stem, and the line where its recipe begins; None
-    where it has none."""
-
-    def __init__(self, needs, rest):
-        self.needs = needs
-        stem, recipe = STEM.search(rest), RECIPE.search(rest)
-        self.stem = stem and stem.group(1)
-        self.recipe = recipe and (recipe.group(1), int(recipe.group(2)))
 
 
 def mend(port, fault):
@@ -29,7 +13,7 @@ def mend(port, fault):
         return False
     lines = fault.file.lines
     meant = [line for line in lines[lines.index(fault.line) + 1:] if is_meant(line)]
-    known = database(port) if meant else {}
+    known = database.targets(port.run.with_database()[1]) if meant else {}
     told = port.run.values([" ".join(statements.Rule(line.joined).targets) for line in meant])
     texts = [katis_rule(port, fault.file, line, (targets or "").split(), known) for line, targets in zip(meant, told)]
     if None in texts:
@@ -96,23 +80,6 @@ def is_meant(line):
         return False
     rule = statements.Rule(line.joined)
     return rule.is_rule and not rule.specific and "$$" in " ".join(rule.needs)
-
-
-def database_text(port):
-    """make's database at the end of a run for the goals."""
-    words = ["-p", "-n", "-B", "--no-print-directory", "-f", port.makefile, *port.run.goals, *port.run.macros,
-             f"SHELL={port.run.noop}"]
-    return port.run.run(words)[1]
-
-
-def database(port):
-    """What make knows of each target at the end, by its name."""
-    out, found = database_text(port), {}
-    for match in TARGET.finditer(out):
-        rest = out[match.end():max(out.find("\n\n", match.end()), match.end())]
-        for name in match.group(1).split():
-            found.setdefault(name, Known(match.group(2) or "", rest))
-    return found
 
 
 def for_kati(text, targets, known, head):
