@@ -47,15 +47,15 @@ how make is asked:
   does nothing for a recipe, keeps it from running lines with $(MAKE), and runs what $(shell ..)
   says. What make includes it makes anew, for -B; those commands count where kati has them too, and
   are asked for by --trace where make doesn't print them. A backslash and its newline in a recipe
-  are joined as kati joins them. Where make says that it drops circles, it is asked once more, with
-  -o for files that have nothing left to be made from: by -B alone it would run their recipes. The
+  are joined as kati joins them. Where it drops circles, it is asked once more, with `-o FILE` for
+  each file that has nothing left to be made from: by -B alone it would run the recipe. The
   environment is the user's own, without what a make hands on to another; kati takes no macros from
-  it, so what make takes is told. With --builtin make is asked
-  without `-r -R`, and in both builds it has its own rules in any case. What its commands have in
-  their environment two targets tell that stand behind the makefile: make is asked for them without
-  `-n -B`, which values may come from, and noop runs nothing then, too. Where variables may have
-  another value for another target, all recipes tell it in the same way. A makefile by which make
-  has another shell than noop, as by `override SHELL`, is refused with its line (status 1), before a line may run.
+  it, so what make takes is told. With --builtin make is asked without `-r -R`, and in both builds it
+  has its own rules in any case. What its commands have in their environment two targets tell that
+  stand behind the makefile: make is asked for them without `-n -B`, which values may come from, and
+  noop runs nothing then, too. Where variables may have another value for another target, all recipes
+  tell it in the same way. A makefile by which make has another shell than noop, as by `override
+  SHELL`, is refused with its line (status 1), before a line may run.
 
 environment:
   KATI, MAKE, NINJA   the programs kati, make and ninja
