@@ -157,8 +157,8 @@ class MakeRun:
             given = {**make_commands.with_goals(self.environment(), self.goals), **variables}
             return self.run([*words, *self.macros, f"SHELL={self.noop}"], given)[1]
 
-        database = recipe_shell.refuse_others(look, self.makefile, self.room)
-        self.is_not_parallel = NOT_PARALLEL in database
+        told = recipe_shell.refuse_others(look, self.makefile, self.room)
+        self.is_not_parallel = NOT_PARALLEL in told
         self.environments_told = make_commands.told(self.noop)
         self.answers.tell(kept_answers.SHELLS, self.is_not_parallel)
 
