@@ -155,10 +155,10 @@ class OtherGoals(Tree):
     def test_it_costs_what_is_of_its_own(self):
         self.lay_objects(100)
         anew = self.port()[1]
-        self.assertTrue(anew[0] > 4 and anew[1] > 2, anew)
+        self.assertTrue(anew[0] > 3 and anew[1] > 2, anew)
         # make's commands for the goal, the values of its own calls, what is exported now; kati once, and --check. By
         # another macro all that make tells may be another value.
-        for words, runs in ((["install"], (4, 2)), (["test"], (4, 2)), (["clean"], (4, 2)),
+        for words, runs in ((["install"], (3, 2)), (["test"], (3, 2)), (["clean"], (3, 2)),
                             (["install", "DESTDIR=x"], (anew[0], 2))):
             with self.subTest(words):
                 found = self.port(*words)[1]
