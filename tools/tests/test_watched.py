@@ -23,6 +23,7 @@ CHANGING = [
     ("find . -name '*.src' | sort", "", "mkdir src/deep; echo > src/deep/b.src"),
     ("find -name \"*.src\" | sort", "", "echo > u.src"),
     ("find . -type d | sort", "", "mkdir src/deep"),
+    ("find src \\( -name '*.txt' -o -name b.src \\) -print", "", "echo > src/b.src"),
     ("find . ! -name '*.src' -type f | sort", "", "echo > u.txt"),
     ("ls *.src", "", "echo > u.src"),
     ("ls", "", "echo > u.src"),
@@ -46,6 +47,11 @@ CHANGING = [
     ("git diff --quiet || echo dirty", GIT, "echo 2 > n.txt"),
     ("git describe --always --dirty", GIT, "echo 2 > n.txt"),
     ("git ls-files", GIT, "git add src"),
+    ("git ls-files -z -- '*.src' 'src/*'", GIT, "git add src"),
+    ("git ls-files -s", GIT, "echo 2 > n.txt; git add n.txt"),
+    ("git ls-files -m", GIT, "echo 2 > n.txt"),
+    ("git ls-files --others", GIT, "echo > src/b.src"),
+    ("git ls-files && git log --format=%s -1", GIT, "git commit -q --allow-empty -m two"),
     ("git rev-parse --abbrev-ref HEAD", GIT, "git checkout -qb other"),
     ("cat log; git log --format=%s -1", f"{GIT} && echo > log", "echo 2 > log"),
 ]
@@ -61,6 +67,11 @@ STAYING = [
     ("mkdir -p sub", "mkdir sub", "echo > sub/x"),
     ("[ -d sub ] || mkdir sub", "", "mkdir sub; echo > sub/x"),
     ("git log --format=%s -1", f"{GIT} && echo > log", "echo 2 > log"),
+    ("( git ls-files '*.src' 2> /dev/null || find . -name '*.src' )", f"{GIT} && git add src",
+     "git commit -qm two; echo 2 > src/a.src; git commit -qam three"),
+    ("git ls-files '*.src' || find . -name '*.src'", "", "echo 2 > src/a.src; echo 2 > t.src"),
+    ("find . \\( -name .git -type d -prune \\) -o \\( -name '*.src' -type f -print \\)", GIT,
+     "echo 2 > t.src; git commit -q --allow-empty -m two"),
     ("git -C . -c a.b=c --no-pager log --format=%s -1", f"{GIT} && echo > log", "echo 2 > log"),
 ]
 

@@ -4,7 +4,6 @@ import re
 
 AND = " && "
 IGNORED = " || :; }"
-STOPS = set("();<>|&")
 SPECIAL = re.compile(r"""[();<>|&'"\\]""")
 # A part of a text: plain words, a text quoted in one of three ways, or what parts commands; and what parts words.
 PART = re.compile(r"""([^();<>|&'"\\]+)|'([^']*)'|"((?:[^"\\]|\\.)*)"|\\(.)|([();<>|&]+)""", re.DOTALL)
@@ -59,6 +58,10 @@ def pieces(command):
         return None
 
 
+class Operator(str):
+    """What parts commands in a shell's text; a word of the same letters is quoted, as the `(` of `find`."""
+
+
 # A command is asked for these by many, too.
 @functools.lru_cache(1 << 16)
 def simple_commands(text):
@@ -68,7 +71,7 @@ def simple_commands(text):
         return (tuple(text.split()),) if text.strip() else ()
     found = [[]]
     for word in shell_words(text) or []:
-        if word and set(word) <= STOPS:
+        if isinstance(word, Operator):
             found.append([])
         else:
             found[-1].append(word)
@@ -88,15 +91,15 @@ def take_plain(text, word, found):
 
 
 def shell_words(text):
-    """The words of a shell's text without their quotes, and what parts commands, as shlex tells them in ten times the
-    time; None where a quote doesn't close."""
+    """The words of a shell's text without their quotes, and the operators that part commands, as shlex tells them in
+    ten times the time; None where a quote doesn't close."""
     found, word, at = [], None, 0
     for part in PART.finditer(text):
         if part.start() != at:
             return None
         at, kind, text_of_it = part.end(), part.lastindex, part.group(part.lastindex)
         if kind == OPERATOR:
-            found += [text_of_it] if word is None else [word, text_of_it]
+            found += [Operator(text_of_it)] if word is None else [word, Operator(text_of_it)]
             word = None
         elif kind == PLAIN:
             word = take_plain(text_of_it, word, found)

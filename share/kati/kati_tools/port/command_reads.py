@@ -25,9 +25,15 @@ NAMING = {"ls", "dir", "echo", "printf", "find", "basename", "dirname", "test", 
 LISTING = {"ls", "dir", "find", "tree", "du"}
 READING = {"cat", "ls", "head", "tail", "find", "sed", "awk", "grep", "sort", "wc", "cut", ".", "source", "readlink",
            "realpath", "sh", "bash", "test", "["}
+# The words of `find` behind which stands what it compares.
+COMPARING = {"-name", "-iname", "-path", "-ipath", "-wholename", "-type", "-maxdepth", "-mindepth", "-regex"}
 # What git's commands hang on beside the commit: each file's changes, or the list of files.
 OF_CHANGES = re.compile(r"--dirty|\b(?:diff|status|diff-index|diff-files|update-index)\b")
 OF_FILES = re.compile(r"\bls-files\b")
+# The words behind `git ls-files` by which it tells nothing but names of its list; by which it tells of changes, and of
+# files that it hasn't.
+NAMES_ALONE = {"-z", "-c", "--cached", "--deduplicate", "--full-name", "--recurse-submodules", "--error-unmatch", "--"}
+CHANGED, OTHERS = re.compile(r"-\w*[md]\w*|--modified|--deleted"), re.compile(r"-\w*o\w*|--others")
 
 
 class Simple(PlainCommand):
@@ -37,11 +43,15 @@ class Simple(PlainCommand):
         super().__init__(words)
         self.folder = folder
 
+    def named(self):
+        """The words that may name files; of `find` those before what it compares."""
+        if self.program != "find":
+            return self.operands()
+        return self.words[:next((at for at, one in enumerate(self.words) if one[:1] in ("-", "!", "(")), None)]
+
     def places(self):
         """What it names of a folder that it may list, this one too."""
-        names = [word for word in self.words if not word.startswith("-")]
-        if self.program == "find":
-            names = self.words[:next((at for at, one in enumerate(self.words) if one[:1] in ("-", "!")), None)]
+        names = [word for word in self.named() if not word.startswith("-")]
         return [os.path.normpath(os.path.join(self.folder, name)) for name in names or ["."]]
 
     def is_deep(self):
@@ -85,6 +95,19 @@ class Simple(PlainCommand):
         """Texts of which one begins each name that it finds."""
         return [*map(before_wild, self.patterns()), *(self.tops() if self.program in LISTING else [])]
 
+    def lists_of_git(self):
+        """Whether it tells nothing but names of git's list."""
+        is_list = self.program == "git" and "ls-files" in self.words[:1]
+        return is_list and all(word in NAMES_ALONE for word in self.words if word.startswith("-"))
+
+    def of_work_tree(self):
+        """The words to watch for what `git ls-files` tells beside git's list."""
+        options = [word for word in self.words if word.startswith("-")] if "ls-files" in self.words else []
+        if any(map(CHANGED.fullmatch, options)):
+            yield watched.GIT
+        if any(map(OTHERS.fullmatch, options)):
+            yield f".{watched.BELOW}"
+
     def is_recursive_grep(self):
         """Whether it reads all files of the folders that it names."""
         return self.program == "grep" and any(re.fullmatch(r"-\w*[rR]\w*|--recursive", one) for one in self.words)
@@ -100,9 +123,12 @@ class Simple(PlainCommand):
         """The words to watch by what this command is."""
         if self.program in LISTING:
             yield from self.listed()
-        for word in self.operands():
+        if self.program == "git":
+            yield from self.of_work_tree()
+        for word in self.named():
             place = os.path.normpath(os.path.join(self.folder, word)) if word else ""
-            if watched.is_pattern(word) and self.program not in NAMING and not re.search(r"\s", word):
+            is_read = not (self.program in NAMING or self.lists_of_git())
+            if watched.is_pattern(word) and is_read and not re.search(r"\s", word):
                 yield watched.CONTENT + place
             elif self.is_recursive_grep() and os.path.isdir(place):
                 yield watched.CONTENT + place + watched.BELOW
@@ -173,11 +199,15 @@ def subcommand_of_git(words):
 
 
 def words_of(command, simple):
-    """The words of a command that may be names: all but what git is to do, as `log`."""
+    """The words of a command that may be names: all but what git is to do, as `log`, and what `find` compares with the
+    names that it finds."""
     words = BREAKS.split(command)
-    for does in (subcommand_of_git(one.words) for one in simple if one.program == "git"):
-        if does in words:
-            words.remove(does)
+    others = [subcommand_of_git(one.words) for one in simple if one.program == "git"]
+    others += [word for one in simple if one.program == "find"
+               for before, word in zip(one.words, one.words[1:]) if before in COMPARING]
+    for word in others:
+        if word in words:
+            words.remove(word)
     return [word for word in words if word]
 
 
@@ -201,18 +231,21 @@ def reads_of(command):
     found.update(dict.fromkeys(f"{watched.ENVIRONMENT}{name}" for name in of_the_shell(command)
                                if name in os.environ and name != "PWD"))
     if "git" in BREAKS.split(command):
-        found.update(dict.fromkeys(of_git(command)))
+        is_list = BREAKS.split(command).count("git") == sum(one.lists_of_git() for one in simple)
+        found.update(dict.fromkeys(of_git(command, is_list)))
     return [word for word in found if not re.search(r"[\s,]", word)]
 
 
-def of_git(command):
+def of_git(command, is_list):
     """The words to watch for a command of git: what is checked out, its branch, the tags; the list of files, and which
-    have changes, where it asks for that."""
+    have changes, where it asks for that; or that list alone."""
     program = which("git")
     words = ["rev-parse", "--git-dir", "--git-common-dir", "--symbolic-full-name", "HEAD"]
     told = run([program, *words])[1].split("\n") if program else []
     if len(told) < 3 or not told[0]:
         return [".git"]
+    if is_list:
+        return [watched.GIT_FILES]
     own, common, branch = told[:3]
     found = [os.path.join(own, "HEAD"), os.path.join(common, "packed-refs"), f"{common}/refs/tags{watched.BELOW}"]
     found += [os.path.join(common, branch)] if branch.startswith("refs/") else []

@@ -1,7 +1,6 @@
 """Calls of `shell` of which it isn't seen what they read, as `uname`, `date` or a script: their values aren't asked for
 again where something changes, and the port names them."""
 import os
-import shlex
 
 from ..make import plain_commands, shell_text
 from . import command_reads, frozen_values
@@ -33,25 +32,19 @@ def parts(command):
 
 def programs(text):
     """The names of the programs of a shell's text without other commands in it; None where its quotes don't close."""
-    if not shell_text.SPECIAL.search(text):
-        # As most are; shlex takes a hundred times as long.
-        words = [word for word in text.split() if word not in plain_commands.KEYWORDS and "=" not in word]
-        return [os.path.basename(word) for word in words[:1]]
-    reader = shlex.shlex(text, posix=True, punctuation_chars=True)
-    reader.whitespace_split, reader.commenters = True, ""
-    found, begins, is_target = [], True, False
-    try:
-        for word in reader:
-            if set(word) <= shell_text.STOPS and word:
-                is_target = not set(word).isdisjoint("<>")
-                begins = begins if is_target else True
-            elif is_target:
-                is_target = False
-            elif begins and word not in plain_commands.KEYWORDS and "=" not in word:
-                found.append(os.path.basename(word))
-                begins = False
-    except ValueError:
+    words = shell_text.shell_words(text)
+    if words is None:
         return None
+    found, begins, is_target = [], True, False
+    for word in words:
+        if isinstance(word, shell_text.Operator):
+            is_target = not set(word).isdisjoint("<>")
+            begins = begins if is_target else True
+        elif is_target:
+            is_target = False
+        elif begins and word not in plain_commands.KEYWORDS and "=" not in word:
+            found.append(os.path.basename(word))
+            begins = False
     return found
 
 

@@ -11,6 +11,7 @@ is as it was.
 | `!name` | whether it is there |
 | `$NAME` | a variable of the environment, and whether it is there |
 | `git:changes` | which files git has that aren't as in its last commit |
+| `git:files` | which files git has |
 
 A folder's time counts for nothing, nor what kati-build and kati-port have written."""
 import fnmatch
@@ -24,7 +25,8 @@ from ..makefile import sources
 from ..base.programs import bytes_of, run, which
 
 VALUES = translating.VALUES
-BELOW, CONTENT, LINK, THERE, ENVIRONMENT, GIT = "/**", "<", "@", "!", "$", "git:changes"
+BELOW, CONTENT, LINK, THERE, ENVIRONMENT = "/**", "<", "@", "!", "$"
+GIT, GIT_FILES = "git:changes", "git:files"
 WILD = set("*?[")
 NONE = "none"
 
@@ -108,6 +110,8 @@ def text_of(word):
     """What counts of what a word names, as a text; None where there is nothing of the name."""
     if word == GIT:
         return changes()
+    if word == GIT_FILES:
+        return "\0".join(git_files())
     if word.startswith(ENVIRONMENT):
         return os.environ.get(word[1:])
     if word.startswith(LINK):
@@ -133,8 +137,8 @@ def sums_of(words):
 def told(word, was):
     """What to say of a word that had another sum, in the form of `src/*.c: other files`."""
     name, now = word.lstrip(CONTENT + LINK + THERE), sum_of(word)
-    if word == GIT:
-        return "git: other files have changes"
+    if word in (GIT, GIT_FILES):
+        return "git: other files have changes" if word == GIT else "git has other files"
     if word.startswith(ENVIRONMENT):
         return f"{word} is another one"
     if NONE in (was, now):
@@ -164,6 +168,8 @@ def inputs_of(word):
     """The files and folders of which one changes its time where a word gets another sum."""
     if word == GIT:
         return git_files()
+    if word == GIT_FILES:
+        return git_index()
     if word.startswith(ENVIRONMENT):
         # A plain ninja can't see that it changes.
         return []
@@ -178,6 +184,13 @@ def inputs_of(word):
             or word.startswith(THERE) and os.path.lexists(name):
         return [folder]
     return [name, folder] if os.path.islink(name) else [name]
+
+
+def git_index():
+    """The file in which git keeps its list, if it has one."""
+    program = which("git")
+    status, name, _ = run([program, "rev-parse", "--git-path", "index"]) if program else (1, "", "")
+    return [name.rstrip("\n")] if status == 0 else []
 
 
 def git_files():
