@@ -15,7 +15,7 @@ from ..base import files
 from ..base.programs import bytes_of
 from ..base.words import goals_of, macros_of
 from ..makefile import includes, quick_looks
-from . import ninja_text, rule_heads, translating
+from . import ninja_text, own_commands, rule_heads, translating
 from .always_run import ALWAYS
 
 GOAL = "_kati_made_includes_"
@@ -142,11 +142,17 @@ class MadeIncludes:
     def find_settled(self):
         """Finds those of which another text would change their own commands."""
         others = [name for name in self.names if name not in self.dependencies and os.path.exists(name)]
-        for name in others:
+        for name in filter(self.may_change_its_command, others):
             without = self.asking.view(self.found.asked, {name})
             made = by_output(without.statements).get(name) if without.status == 0 else None
             if made and made.command != self.by_output[name].command:
                 self.settled.add(name)
+
+
+    def may_change_its_command(self, name):
+        """Whether another text of an include may change what makes it, as far as a look tells."""
+        texts = [self.text_of(one) for one in self.found.asked if os.path.normpath(one) != name]
+        return own_commands.may_hang_on_itself(self.text_of(name), name, texts)
 
 
 class Looking:

@@ -26,6 +26,8 @@ ASSIGNING = re.compile(r":{1,3}=")
 # What may take back make's own rules.
 TAKING_BACK = re.compile(r"^ *%[^:=\n]*:[ \t]*%|\.SUFFIXES\b|\bMAKEFLAGS[ \t]*[:+?!]*=.*r|--no-builtin-rules",
                          re.MULTILINE)
+# What stands before a reference in the name of a macro, of one that a function asks of, too.
+COMPUTED = re.compile(r"\$[({](?:(?:call|value|flavor|origin)[ \t]+)?([^\s(){}$:,]*)\$")
 # References to macros by names that are written out, with what may stand behind these, and without.
 NAMED, PLAIN = re.compile(r"\$[({]([^\s:,$(){}]+)"), re.compile(r"\$[({]([^\s:,$(){}]+)[)}]")
 
@@ -111,6 +113,17 @@ def may_take_rules_back(text):
 def names_in(text):
     """The names of macros, and of functions, with which references in a text begin."""
     return NAMED.findall(text)
+
+
+def beginnings_of_computed(text):
+    """With what the names of macros begin that a text computes, each as far as it is written out."""
+    return COMPUTED.findall(text)
+
+
+def form_of(names):
+    """The form of a text that has one of these names of macros as a word, or one of a letter behind a dollar."""
+    words, letters = ("|".join(map(re.escape, some)) for some in (names, [one for one in names if len(one) == 1]))
+    return re.compile(rf"(?<![\w.-])(?:{words})(?![\w.-])" + (rf"|\$(?:{letters})" if letters else ""))
 
 
 def with_values(text, value_of):
