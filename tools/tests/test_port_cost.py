@@ -175,7 +175,7 @@ class Cost(Tree):
             katis, _, said = self.runs("--no-ninja", "-o", f"{need}.ninja", tool="kati-build")
             self.assertEqual(said, "")
             counts.append(katis)
-        self.assertEqual(counts, [4, 5])
+        self.assertEqual(counts, [3, 4])
 
     def test_an_include_that_the_port_makes_is_no_change(self):
         """What the port itself puts in its place, as make has made it, is known: kati translates once, as where it is
