@@ -5,6 +5,8 @@ import re
 from . import shell_text
 
 KEYWORDS = {"if", "then", "elif", "else", "while", "until", "do", "!", "{", "("}
+# A variable that stands before a program.
+GIVEN = re.compile(r"[A-Za-z_]\w*=")
 # How `test` asks of a file.
 ASKS_OF_FILE = re.compile(r"-[bcdefghknprstuwxLOGNS]")
 
@@ -13,7 +15,8 @@ class PlainCommand:
     """A simple command by its words: its program and the others."""
 
     def __init__(self, words):
-        words = words[next((at for at, word in enumerate(words) if word not in KEYWORDS), len(words)):]
+        words = words[next((at for at, word in enumerate(words) if word not in KEYWORDS and not GIVEN.match(word)),
+                           len(words)):]
         self.program, self.words = os.path.basename(words[0]) if words else "", words[1:]
 
     def operands(self):

@@ -199,10 +199,12 @@ def subcommand_of_git(words):
 
 
 def words_of(command, simple):
-    """The words of a command that may be names: all but what git is to do, as `log`, and what `find` compares with the
-    names that it finds."""
+    """The words of a command that may be names: all but programs without a folder, what git is to do, as `log`, and
+    what `find` compares with the names that it finds."""
     words = BREAKS.split(command)
-    others = [subcommand_of_git(one.words) for one in simple if one.program == "git"]
+    # What has no other words may be the file that `<` reads.
+    others = [one.program for one in simple if one.words and which(one.program)]
+    others += [subcommand_of_git(one.words) for one in simple if one.program == "git"]
     others += [word for one in simple if one.program == "find"
                for before, word in zip(one.words, one.words[1:]) if before in COMPARING]
     for word in others:
