@@ -164,12 +164,13 @@ class Recording:
         """The commands of ninja's build of the port, and whether kati-build says that they are make's, without calls
         that the recipe's own shell runs. Where a file makes nothing but includes, what it has is recorded, and then
         that of the translation by them, until it stays."""
-        recorder, text, is_said = Recorder(self.room / "ninja", self.asked.shell, False), None, True
+        recorder, made, is_said = Recorder(self.room / "ninja", self.asked.shell, False), None, True
         self.anew()
         for _ in range(ROUNDS):
             is_said = self.is_translated_as_make() and is_said
-            before, text = text, (self.tree / "build.kati/translated.ninja").read_text(errors="surrogateescape")
-            if text == before:
+            text = (self.tree / "build.kati/translated.ninja").read_text(errors="surrogateescape")
+            before, made = made, made_by(text)
+            if made == before:
                 break
             self.run_recorded(text, recorder)
         return recorder.commands(), is_said
@@ -195,6 +196,11 @@ class Recording:
         for names in ([includes] if includes else []) + [[]]:
             if run([programs.need("ninja"), "-f", RECORDED, *names], self.tree, self.log):
                 raise self.failed("ninja")
+
+
+def made_by(text):
+    """What a translation makes, of what, and by which commands: by other lines, as `restat`, it is no other one."""
+    return [(one.outputs, one.needs, one.command) for one in ninja_text.statements(text)]
 
 
 def told(mark, command, others):

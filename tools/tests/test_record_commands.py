@@ -27,6 +27,12 @@ class Recording(Tree):
                                   "out: ; echo $(A) $(B) > $@\n", "a.in": "A = 1\ninclude b.mk\n", "b.in": "B = 2\n"})
         self.assertEqual(self.record(".", status=0), "same: 3 commands\n")
 
+    def test_what_is_made_each_time(self):
+        """The second translation has `restat` for what hangs on it, and no other command."""
+        self.put_all({"Makefile": "all: out\nout: conf ; cp conf out\nconf: FORCE ; test -f conf || echo 1 > conf\n"
+                                  "FORCE:\n"})
+        self.assertEqual(self.record(".", status=0), "same: 2 commands\n")
+
     def test_another_text_that_is_told(self):
         self.put_all({"sub/x.mk": "all: ; @echo $(A) '$(.VARIABLES)' > out\n"})
         said = self.record("-f", "x.mk", "--most", "1", "sub", "A=1", status=1)
