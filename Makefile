@@ -1,12 +1,12 @@
-# The words by which kati is tried, built, tested and installed. GNU make takes this file, and so does kati.
+# Tries, builds, tests and installs kati. GNU make and kati accept this file.
 #
-#     make try                                   kati on the example, before anything is proved
+#     make try                                   runs kati on the example, without proofs
 #     make                                       proves and builds both programs
 #     make check                                 the gate: all proofs and tests
 #     make install PREFIX=/usr DESTDIR=root
 #     make uninstall, make deb
 #
-# install and deb take what is built, or the programs that PROGRAM=FILE and ASKED=FILE name.
+# install and deb use the programs that were built, or those that PROGRAM=FILE and ASKED=FILE name.
 
 PREFIX = /usr/local
 DESTDIR =
@@ -65,7 +65,7 @@ install: built
 	python3 $(COMPILE) -d $(SHARE)/kati_tools $(DESTDIR)$(SHARE)/kati_tools || true
 	install -m 644 $(PAGES:%=share/man/man1/%) $(DESTDIR)$(MAN)
 	install -m 644 $(PAPERS) $(DESTDIR)$(DOC)
-	install -m 644 docs/*.md $(DESTDIR)$(DOC)/docs
+	install -m 644 docs/*.md docs/*.svg $(DESTDIR)$(DOC)/docs
 	install -m 644 $(EXAMPLE:%=example/%) $(DESTDIR)$(DOC)/example
 	install -m 644 share/bash-completion/completions/kati $(DESTDIR)$(BASH)
 	for command in $(LINKED); do ln -sf kati $(DESTDIR)$(BASH)/$$command || exit 1; done

@@ -1,9 +1,9 @@
 #!/usr/bin/env python3
-"""Proves what the programs kati and kati-asked stand on, crate by crate, and builds both; `make` runs it.
+"""Proves what the programs kati and kati-asked depend on, crate by crate, and builds both; `make` runs it.
 
-A line before each crate tells which one of how many it is, and how long the rest takes: at first at the speed of the
-machine of the gate's marks (docs/GATE.md), then at that of this one, as the crates before it took. What was proved is
-kept, so that a later run does what is left.
+Before each crate it prints its number and how long the rest takes: at first at the speed of the machine of the gate's
+marks (docs/DEVELOPING.md), then at the speed that the crates before it show. What was proved is kept, so a later run
+does the rest.
 
 examples:
   scripts/build_programs.py            proves and builds
@@ -11,8 +11,8 @@ examples:
 
 exit status:
   0    both programs are built
-  1    a crate isn't proved, or a program isn't built; the toolchain says which and why
-  3    no program rt, the toolchain's
+  1    a crate is not proved or a program is not built; the toolchain prints which and why
+  3    the toolchain's program rt is not there
   64   wrong usage
   130  interrupted"""
 import argparse
@@ -68,7 +68,7 @@ class Clock:
     def rest(self):
         """What to say of the time of what is left."""
         seconds = sum(map(self.costs.reference, self.left)) * (self.took / self.known if self.known else 1)
-        whose = "as fast as before" if self.known else "on the machine of docs/GATE.md"
+        whose = "as fast as before" if self.known else "on the machine of docs/DEVELOPING.md"
         return f"the rest takes {max(1, round(seconds / 60))} min {whose}, if nothing is kept"
 
 
@@ -108,14 +108,14 @@ class Parser(argparse.ArgumentParser):
 
 def main():
     parser = Parser(description=__doc__, formatter_class=argparse.RawDescriptionHelpFormatter)
-    parser.add_argument("--list", action="store_true", help="tells the crates, and does nothing")
+    parser.add_argument("--list", action="store_true", help="print the crates, and do nothing else")
     asked = parser.parse_args()
     crates = in_order(stands_on((ROOT / "crates.txt").read_text(encoding="utf-8")), PROGRAMS)
     if asked.list:
         print("\n".join(crates))
         return 0
     if not shutil.which("rt"):
-        print("no program rt: the toolchain isn't on PATH", file=sys.stderr)
+        print("no program rt: the toolchain is not on PATH", file=sys.stderr)
         return NO_TOOLCHAIN
     try:
         return build(crates)

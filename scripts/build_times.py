@@ -1,16 +1,15 @@
 #!/usr/bin/env python3
-"""Times kati-build beside kati, and prints a table: processor time, of the user and of the system.
+"""Times kati-build next to kati, and prints a table of processor time (user and system).
 
-kati is run alone by the list that kati-build made, with its output into a file. kati-build, which runs kati-asked in
-its place, is run without ninja in a folder in which it hasn't run, again where nothing has changed, and again where the
-makefile has. The runs follow each other in turns, and the least of each counts: what else runs on the machine only adds
-to it. Every makefile is made by scripts/large_makefiles.py, and its sources are empty files. kati-build is the one of
-the checkout, or that of --tools, which starts sooner where it is installed with its bytecode.
+kati runs alone, with the list that kati-build made and with its output into a file. kati-build runs without ninja:
+first in a folder where it has not run, again with nothing changed, and again after a change of the makefile. The runs
+take turns, and the least of each counts. scripts/large_makefiles.py makes the makefiles; sources are empty files.
+--tools names another kati-build: an installed one starts faster, because its bytecode is installed, too.
 
 examples:
   scripts/build_times.py                             all cases
-  scripts/build_times.py --runs 9 rules              one of them
-  scripts/build_times.py --tools /usr/local/bin      those that are installed
+  scripts/build_times.py --runs 9 rules              one case
+  scripts/build_times.py --tools /usr/local/bin      the installed tools
 
 exit status:
   0   the table is printed

@@ -1,19 +1,20 @@
 #!/usr/bin/env python3
-"""Checks make's usual macros and rules in share/kati against those that GNU make has by itself.
+"""Compares make's usual macros and rules in share/kati with those of GNU make.
 
     scripts/check_builtin.py [--kati PROGRAM]
 
-Each macro of builtin-macros.mk must have the value that `make -p` tells, and none of make's usual ones may be absent
-but those that tell of its run. Each rule of builtin-rules.mk must have make's recipe, and no rule of the languages that
-they are for may be absent: C, C++, assembler, lex, yacc and shell scripts. Then make and kati are asked for the
-commands of a small tree of such sources. Blanks at the ends of a command don't count.
+- Each macro of builtin-macros.mk must have the value that `make -p` prints. No usual macro of make may be missing,
+  except those about make's own run.
+- Each rule of builtin-rules.mk must have make's recipe. No rule for C, C++, assembler, lex, yacc and shell scripts may
+  be missing.
+- make and kati must print the same commands for a small tree of such sources. Blanks at the ends of a command do not
+  count.
 
 examples:
   scripts/check_builtin.py
   scripts/check_builtin.py --kati crates/kati_program/out/kati_program
 
-The exit status is 0 where all agree, 1 where something differs, 3 where a program isn't there.
-"""
+The exit status is 0 if all agree, 1 if something differs, 3 if a program is missing."""
 import argparse
 import os
 import re
@@ -116,13 +117,13 @@ def differences_of_commands(kati):
     by_make = make_commands.lines_of(out)
     yield from (f"make alone: {line}" for line in comparing.alone(by_make, by_kati))
     yield from (f"kati alone: {line}" for line in comparing.alone(by_kati, by_make))
-    print(f"{len(by_make)} commands of make's compared")
+    print(f"{len(by_make)} commands compared")
 
 
 def check(asked):
     """Prints the differences; answers the exit status."""
     found = [*differences_of_texts(), *differences_of_commands(asked.kati and os.path.abspath(asked.kati))]
-    print("\n".join([*found, "share/kati differs from make" if found else "share/kati says what make says"]))
+    print("\n".join([*found, "share/kati differs from make" if found else "share/kati agrees with make"]))
     return 1 if found else 0
 
 

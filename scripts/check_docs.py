@@ -1,38 +1,43 @@
 #!/usr/bin/env python3
 """Checks that the documents say what is so.
 
-What is checked:
-  options    those of kati, its manual page, README and the completions are the same, and those of kati-asked, whose
-             words are kati's; those of each tool, its page and the completions, too
-  faults     the numbers in the code are those in docs/LANGUAGE.md; each example there gives its fault
-  cases      the makefiles of docs/PORTING.md are those of the file porting.cases, in order; no two cases have one
-             name, and none ends in a number in brackets
-  calls      docs/PROOFS.md names a test for each public call that takes memory, which is there and calls it
-  files      each file that a document names, and each link within the repository, leads somewhere
-  specs      each definition that a document names as specs/.. is there, in one of the crates; in docs/PROOFS.md in
-             the crate of its section
-  walk       the functions, types, definitions and modules that docs/DESIGN.md names stand where it says
-  shapes     docs/DESIGN.md lists at most twelve shapes of a rule, whose types stand in the crates that it says
-  names      no name of the definitions or the types of code has two meanings
-  crates     crates.txt and the table of crates in docs/DESIGN.md say of each crate that it stands on the same ones
-  lines      no line of a document has more than 120 columns, but in tables and output
-  examples   each block of README.md, example/README.md and docs/USING.md that begins with ```console is run, in a copy
-             of the repository, by bash with the built programs, the tools, make and ninja; what it prints has to be
-             what stands there. A block ```console long isn't run. Lines that begin with [N/M] may come in any order; a
-             line ... stands for any
-  scripts    each tells its examples and exit statuses by --help
+The checks:
+  options    kati's code, docs/LANGUAGE.md, manual page and completions have the same options; so have kati-asked, each
+             tool, and their pages and completions
+  faults     docs/LANGUAGE.md has the numbers of the faults in the code; each example there gives its fault
+  cases      porting.cases has the makefiles of docs/PORTING.md, in order; names of cases are unique
+  calls      docs/TESTS.md is current; a test calls each public function that allocates
+  files      each file that a document names, and each link within the repository, exists
+  specs      each definition that a document names as specs/.. exists in a crate; in docs/PROOFS.md in the crate of its
+             section
+  walk       the functions, types, definitions and modules that docs/DESIGN.md names are where it says
+  shapes     the types of a rule in the list of docs/DESIGN.md are in the crates that it says
+  names      each name of a definition or of a type of code has one meaning
+  crates     crates.txt and the table of crates in docs/DESIGN.md have the same dependencies; only crates of laws
+             and of tests depend on crates of laws
+  lemmas     no crate of the product has a lemma that no proof of its code needs, except for the laws on limits: what
+             only a law needs is in a crate of laws
+  lines      lines of documents have at most 120 columns, except in tables and output
+  sizes      documents have at most the words of scripts/document_sizes.py, outside code blocks
+  examples   each block ```console of README.md, example/README.md and docs/USING.md prints what the document has. bash
+             runs it in a copy of the repository, with the built programs, the tools, make and ninja. A block
+             ```console long is not run. Lines that begin with [N/M] may come in any order; a line ... stands for any
+             lines
+  scripts    --help of each script has examples and exit statuses; docs/DEVELOPING.md lists each script
   gate       README's test command runs .ci/run
-  picture    docs/times.svg is drawn from the table in docs/BENCHMARKS.md, as scripts/times.py --picture draws it
-  tricks     the table of what is done for speed in docs/BENCHMARKS.md is what the heads of the modules say
+  picture    docs/times.svg is drawn from the table in docs/BENCHMARKS.md
+  tricks     docs/TRICKS.md is what the heads of the modules say
+  diagrams   the diagrams of docs/DESIGN.md are current
+  trusted    docs/TRUSTED.md lists the definitions that the promise depends on, and each of them has a comment
 
 examples:
-  scripts/check_docs.py                        all, with the built programs
+  scripts/check_docs.py                        all checks, with the built programs
   scripts/check_docs.py --kati /usr/bin/kati --kati-asked /usr/bin/kati-asked
-                                               with others
-  scripts/check_docs.py faults files           these alone
+                                               with other programs
+  scripts/check_docs.py faults files           only these checks
 
-What fails is printed, then what is skipped since a program isn't there, then `N passed, M failed`, with `, K skipped`
-where there is such.
+It prints what fails, then what is skipped because a program is missing, then `N passed, M failed`, with `, K skipped`
+if anything is.
 
 exit status:
   0   nothing failed
@@ -48,39 +53,44 @@ import tempfile
 from pathlib import Path
 
 sys.dont_write_bytecode = True
+import console_blocks
 import crates_stated
 import definitions_stated
+import diagrams
+import document_sizes
+import lemmas_used
 import names_stated
 import options_stated
 import shapes_stated
 import tested_calls
 import tricks_stated
+import trusted_stated
 from timing import picture
 
 HERE = Path(__file__).resolve().parent.parent
 # The programs, and where they are built.
 BUILT = {"kati": "crates/kati_program/out/kati_program", "kati-asked": "crates/kati_asked/out/kati_asked"}
 TOOLS = ["kati-build", "kati-compare", "kati-port"]
-# What a tool says of a port that takes more than a second, as where the processors have much else to do.
+# What a tool prints if a translation takes more than a second, as on a busy machine.
 AT_WORK = re.compile(r"^kati-(?:build|port): ports .*: make is asked .*\n", re.MULTILINE)
+SCRIPTS_IN = "docs/DEVELOPING.md"
 RUN = ["README.md", "example/README.md", "docs/USING.md"]
 SECONDS = 120
 WIDTH = 120
 
 NAMED = re.compile(r"(?:docs|scripts|crates|tools|share|example|\.ci)/[\w./*{},-]*|\b[A-Z]{3,}\.md\b")
 FAULT = re.compile(r"\w+::\w+(?:\([^)]*\))? => \(?(\d+)\b")
-PROGRESS = re.compile(r"\[\d+/\d+\] ")
 MARK = "\x01done\x01"
 
 
 class Report:
-    """Counts what passed, failed and was skipped, and tells the last two."""
+    """Counts what passed, failed and was skipped, and prints the last two."""
 
     def __init__(self):
         self.passed = self.failed = self.skipped = 0
 
     def check(self, fine, what, *more):
-        """Counts a check; where it isn't fine, says what is wrong."""
+        """Counts a check; if it fails, prints what is wrong."""
         if fine:
             self.passed += 1
             return
@@ -103,7 +113,7 @@ class Report:
 
 
 class Place:
-    """The repository that is looked at, and the programs that are there, by their names."""
+    """The repository, and the programs that exist, by their names."""
 
     def __init__(self, root, programs):
         self.root, self.programs, self.kati = root, programs, programs.get("kati")
@@ -116,7 +126,7 @@ class Place:
 
 
 def said(*words, **rest):
-    """What a command writes, with its errors, and its status."""
+    """What a command prints on both outputs, and its status."""
     done = subprocess.run([str(word) for word in words], stdin=subprocess.DEVNULL, stdout=subprocess.PIPE,
                           stderr=subprocess.STDOUT, timeout=SECONDS, check=False, **rest)
     return done.stdout.decode(errors="replace"), done.returncode
@@ -133,13 +143,14 @@ def options_of_bash(place, command):
 def check_options(place, report):
     of_code = options_stated.of_code(place.text("crates/kati_args/src/command.rt"))
     wanted = dict.fromkeys(BUILT, of_code)
-    report.same(of_code, options_stated.of_table(place.text("README.md")), "options of the code and of README differ")
+    stated = options_stated.of_table(place.text("docs/LANGUAGE.md"))
+    report.same(of_code, stated, "options of the code and of docs/LANGUAGE.md differ")
     for name in BUILT:
         if name in place.programs:
             helped = options_stated.of_help(said(place.programs[name], "--help")[0])
             report.same(of_code, helped, f"options of the code and of the help of {name} differ")
         else:
-            report.skip(f"options of the help of {name}: the program isn't built")
+            report.skip(f"options of the help of {name}: the program is not built")
     for tool in TOOLS:
         wanted[tool] = options_stated.of_help(said(sys.executable, place.root / "tools" / tool, "--help")[0])
     for command, options in wanted.items():
@@ -149,7 +160,7 @@ def check_options(place, report):
             completed = options_of_bash(place, command)
             report.same(options, completed, f"options of {command} and of its completion for bash differ")
         else:
-            report.skip("completion for bash: bash isn't there")
+            report.skip("completion for bash: no bash")
     every = set().union(*wanted.values())
     zsh = place.text("share/zsh/site-functions/_kati")
     report.same(every, options_stated.of_zsh(zsh), "options and completions for zsh differ")
@@ -188,7 +199,7 @@ def check_faults(place, report):
     numbers = {number for number, _ in rows}
     report.same(faults_of_code(place), numbers, "faults of the code and of docs/LANGUAGE.md differ")
     if not place.kati:
-        report.skip("the examples of faults: the program isn't built")
+        report.skip("the examples of faults: the program is not built")
         return
     for number, example in rows:
         with tempfile.TemporaryDirectory() as folder:
@@ -218,8 +229,6 @@ def check_names_of_cases(place, report):
              for name in re.findall(rb"^case (.*)$", path.read_bytes(), re.MULTILINE)]
     twice = sorted({name.decode() for name in names if names.count(name) > 1})
     report.check(names and not twice, "cases with one name:", *twice)
-    numbered = [name.decode() for name in names if re.search(rb"\(\d+\)$", name)]
-    report.check(not numbered, "names of cases that end in a number:", *numbered)
 
 
 def check_cases(place, report):
@@ -228,12 +237,12 @@ def check_cases(place, report):
     cases = makefiles_of_cases(place.text("crates/kati_cases/data/porting.cases"))
     report.check(len(blocks) == len(cases), f"docs/PORTING.md has {len(blocks)} makefiles, porting.cases {len(cases)}")
     for block, case in zip(blocks, cases):
-        report.check(block == case, "a makefile of docs/PORTING.md isn't that of its case:", *block.splitlines())
+        report.check(block == case, "a makefile of docs/PORTING.md is not that of its case:", *block.splitlines())
 
 
 def check_calls(place, report):
     found = list(tested_calls.troubles(place.root))
-    report.check(not found, "the table of tests in docs/PROOFS.md:", *found)
+    report.check(not found, "tests of public functions that allocate:", *found)
 
 
 def named_files(text):
@@ -260,34 +269,39 @@ def check_files(place, report):
         heads = re.findall(r"^#+ (.*)$", text, re.MULTILINE)
         heads = {re.sub(r"[^\w -]", "", head).lower().replace(" ", "-") for head in heads}
         missing += ["#" + link for link in re.findall(r"\]\(#([^)]+)\)", text) if link not in heads]
-        report.check(not missing, f"{path.relative_to(place.root)} names what isn't there: {', '.join(missing)}")
+        report.check(not missing, f"{path.relative_to(place.root)} names files that do not exist: {', '.join(missing)}")
 
 
 def check_specs(place, report):
     for path in place.documents():
         missing = definitions_stated.unknown(place.root, path.read_text(encoding="utf-8"))
-        report.check(not missing, f"{path.relative_to(place.root)} names definitions that aren't there: "
+        report.check(not missing, f"{path.relative_to(place.root)} names definitions that do not exist: "
                      + ", ".join(missing))
 
 
 def check_walk(place, report):
     missing = list(definitions_stated.differing(place.root))
-    report.check(not missing, "docs/DESIGN.md names what isn't there:", *missing)
+    report.check(not missing, "docs/DESIGN.md names what does not exist:", *missing)
 
 
 def check_shapes(place, report):
     wrong = list(shapes_stated.differing(place.root))
-    report.check(not wrong, "docs/DESIGN.md lists the shapes of a rule otherwise than they are:", *wrong)
+    report.check(not wrong, "docs/DESIGN.md lists shapes of a rule that do not exist:", *wrong)
 
 
 def check_names(place, report):
     twice = list(names_stated.doubled(place.root))
-    report.check(not twice, "names with two meanings, and where they stand:", *twice)
+    report.check(not twice, "names with two meanings, and their places:", *twice)
 
 
 def check_crates(place, report):
     differ = list(crates_stated.differing(place.root))
-    report.check(not differ, "crates.txt and docs/DESIGN.md say otherwise what a crate stands on:", *differ)
+    report.check(not differ, "crates.txt and docs/DESIGN.md differ on what a crate depends on:", *differ)
+
+
+def check_lemmas(place, report):
+    found = list(lemmas_used.unneeded(place.root))
+    report.check(not found, "lemmas that no proof of code needs:", *found)
 
 
 def check_lines(place, report):
@@ -302,27 +316,13 @@ def check_lines(place, report):
         report.check(not long, f"{name} has lines of more than {WIDTH} columns: {', '.join(long)}")
 
 
+def check_sizes(place, report):
+    texts = {path.relative_to(place.root).as_posix(): path.read_text(encoding="utf-8") for path in place.documents()}
+    wrong = list(document_sizes.troubles(texts))
+    report.check(not wrong, "sizes of documents:", *wrong)
+
+
 # ---- examples
-
-
-def blocks_of(text):
-    """The console blocks of a document that are to be run: the number of the first line, and the lines."""
-    for match in re.finditer(r"^```console *\n(.*?)^```$", text, re.MULTILINE | re.DOTALL):
-        yield text.count("\n", 0, match.start()) + 1, match.group(1).splitlines()
-
-
-def commands_of(lines):
-    """The commands of a block, each with the lines that it prints; a command goes on after a backslash."""
-    found, goes_on = [], False
-    for line in lines:
-        if goes_on:
-            found[-1][0] += "\n" + line
-        elif line.startswith("$ "):
-            found.append([line[2:], []])
-        else:
-            found[-1][1].append(line)
-        goes_on = line.endswith("\\") and (goes_on or line.startswith("$ "))
-    return found
 
 
 def copy_of(place, folder):
@@ -350,31 +350,15 @@ def printed(place, commands):
         return [part.lstrip("\n") if at else part for at, part in enumerate(out.split(MARK)[:-1])]
 
 
-def in_order(lines):
-    """The lines, where those of ninja's progress are sorted and lose their numbers."""
-    plain = [PROGRESS.sub("[] ", line).rstrip() for line in lines]
-    progress = iter(sorted(line for line in plain if line.startswith("[] ")))
-    return [next(progress) if line.startswith("[] ") else line for line in plain]
-
-
-def fits(wanted, got):
-    """Whether lines are as they are wanted, where ... stands for any."""
-    if not wanted or not got:
-        return all(line == "..." for line in wanted) and (bool(wanted) or not got)
-    if wanted[0] == "...":
-        return fits(wanted[1:], got) or fits(wanted, got[1:])
-    return wanted[0] == got[0] and fits(wanted[1:], got[1:])
-
-
 def check_block(place, report, name, lines):
-    commands = commands_of(lines)
+    commands = console_blocks.commands_of(lines)
     try:
         outputs = printed(place, commands)
     except subprocess.TimeoutExpired:
         outputs = []
     for at, (command, wanted) in enumerate(commands):
         got = outputs[at].splitlines() if at < len(outputs) else ["(nothing: the shell ended, or took too long)"]
-        report.check(fits(in_order(wanted), in_order(got)), f"{name}: {command}", *(f"+ {line}" for line in got))
+        report.check(console_blocks.fits(wanted, got), f"{name}: {command}", *(f"+ {line}" for line in got))
 
 
 def check_examples(place, report):
@@ -382,11 +366,11 @@ def check_examples(place, report):
     missing += [name for name in BUILT if name not in place.programs]
     for name in RUN:
         if not (place.root / name).is_file():
-            report.check(False, f"{name} isn't there")
+            report.check(False, f"{name} does not exist")
             continue
-        for number, lines in blocks_of(place.text(name)):
+        for number, lines in console_blocks.blocks_of(place.text(name)):
             if missing:
-                report.skip(f"{name}:{number}: not there: {', '.join(missing)}")
+                report.skip(f"{name}:{number}: missing: {', '.join(missing)}")
             else:
                 check_block(place, report, f"{name}:{number}", lines)
 
@@ -402,6 +386,9 @@ def check_scripts(place, report):
         lacks = [word for word in ("usage:", "example", "exit status") if word not in told.lower()]
         fine = status == 0 and not lacks
         report.check(fine, f"{path.relative_to(place.root)} --help: status {status}, without {', '.join(lacks)}")
+    listed = re.findall(r"^\| `(?:python3 )?(scripts/\w+\.py)", place.text(SCRIPTS_IN), re.MULTILINE)
+    names = [path.relative_to(place.root).as_posix() for path in scripts]
+    report.same(names, listed, f"scripts and the table of {SCRIPTS_IN} differ")
 
 
 def check_gate(place, report):
@@ -413,18 +400,29 @@ def check_gate(place, report):
 
 def check_picture(place, report):
     drawn = picture.draw(picture.rows_of(place.text("docs/BENCHMARKS.md")))
-    report.check(drawn == place.text("docs/times.svg"), "docs/times.svg isn't that of the table in docs/BENCHMARKS.md")
+    report.check(drawn == place.text("docs/times.svg"), "docs/times.svg is not that of the table in docs/BENCHMARKS.md")
 
 
 def check_tricks(place, report):
     differ = list(tricks_stated.differing(place.root))
-    report.check(not differ, "docs/BENCHMARKS.md and the heads of the modules say otherwise what is done:", *differ)
+    report.check(not differ, "docs/TRICKS.md and the heads of the modules differ:", *differ)
+
+
+def check_diagrams(place, report):
+    wrong = list(diagrams.troubles(place.root))
+    report.check(not wrong, "diagrams:", *wrong)
+
+
+def check_trusted(place, report):
+    differ = list(trusted_stated.differing(place.root))
+    report.check(not differ, "docs/TRUSTED.md doesn't say what the promise rests on:", *differ)
 
 
 CHECKS = {"options": check_options, "faults": check_faults, "cases": check_cases, "calls": check_calls,
           "files": check_files, "specs": check_specs, "walk": check_walk, "shapes": check_shapes, "names": check_names,
-          "crates": check_crates, "lines": check_lines, "examples": check_examples, "scripts": check_scripts,
-          "gate": check_gate, "picture": check_picture, "tricks": check_tricks}
+          "crates": check_crates, "lemmas": check_lemmas, "lines": check_lines, "sizes": check_sizes,
+          "examples": check_examples, "scripts": check_scripts, "gate": check_gate, "picture": check_picture,
+          "tricks": check_tricks, "diagrams": check_diagrams, "trusted": check_trusted}
 
 
 class Parser(argparse.ArgumentParser):

@@ -1,22 +1,21 @@
 #!/usr/bin/env python3
-"""Reads all makefiles below folders as the tools do, and says where that isn't what stands in them.
+"""Checks how the tools read makefiles: all makefiles below the folders.
 
     scripts/check_syntax.py [--kati PROGRAM | --no-kati] FOLDER..
 
-Of each file with a makefile's name: put together again from its lines, and each line from its references, it is the
-text, byte for byte; the parts of assignments and rules stand where they are said to; and each line that kati names in
-a fault, a warning or a message is the first of a logical line. kati is run in the makefile's folder, and what it
-writes is thrown away.
+For each file with a makefile's name it checks three things. The lines that the tools read are the text, byte for byte,
+and the references are the line. The parts of assignments and rules are at their places. Each line that kati names in a
+fault, a warning or a message is the first of a logical line. kati runs in the makefile's folder; its output is dropped.
 
-A line tells of each makefile with which something isn't so, and the last one how many were read.
+It prints a line for each makefile with a difference, and how many makefiles were read.
 
 examples:
   scripts/check_syntax.py .
   scripts/check_syntax.py --no-kati ~/sources
 
 exit status:
-  0   all is so
-  1   something isn't
+  0   no difference
+  1   a difference
   2   wrong usage, or no kati"""
 import argparse
 import os
@@ -141,9 +140,9 @@ def arguments():
                                      formatter_class=argparse.RawDescriptionHelpFormatter)
     which = parser.add_mutually_exclusive_group()
     which.add_argument("--kati", metavar="PROGRAM", help="the program kati; without it KATI, then the built one")
-    which.add_argument("--no-kati", action="store_true", help="doesn't ask kati for the lines that it names")
+    which.add_argument("--no-kati", action="store_true", help="do not run kati")
     parser.add_argument("folders", nargs="+", metavar="FOLDER", type=Path,
-                        help="a folder below which makefiles are looked for, or a makefile")
+                        help="a folder with makefiles at any depth, or a makefile")
     asked = parser.parse_args()
     missing = next((one for one in asked.folders if not one.exists()), None)
     if missing is not None:

@@ -1,20 +1,22 @@
 #!/usr/bin/env python3
-"""Compares what kati reads of Ninja files with what Ninja reads of them.
+"""Compares how kati and Ninja read Ninja files.
 
-Each text NAME.ninja in scripts/ninja_texts says the build of the makefile NAME.mk in a spelling of its own; the
-makefile's goals stand in its first line after `# goals: `. `kati --check` tells whether a text is read as the plan of
-its makefile. Ninja tells whether it reads the text as it reads what kati writes, by the outputs, inputs and commands
-that `ninja -t targets all`, `-t query` and `-t commands -s` print. Both are asked of each text, of each beginning of
-it, and of what each byte less and some bytes more above its last `default` line make of it: some ten thousand texts, in
-a minute or two. No tool of Ninja's prints default targets, so that a text which lacks a `default` line isn't compared.
+Each text NAME.ninja in scripts/ninja_texts is the build of the makefile NAME.mk in another spelling; its first line has
+the makefile's goals after `# goals: `. `kati --check` says whether kati reads a text as the makefile's plan. Ninja
+reads a text like kati's own file if `ninja -t targets all`, `-t query` and `-t commands -s` print the same outputs,
+inputs and commands.
+
+Both read each text, each beginning of a text, and each text with one byte less or some bytes more at each place above
+its last `default` line: some ten thousand texts, in a minute or two. No tool of Ninja prints default targets, so texts
+without a `default` line are not compared.
 
 examples:
   scripts/compare_with_ninja.py           the built program
-  scripts/compare_with_ninja.py ./kati    another
+  scripts/compare_with_ninja.py ./kati    another program
 
 exit status:
-  0   both agree but for what is known
-  1   they don't
+  0   both agree, except where a difference is known
+  1   they do not
   64  wrong usage"""
 import argparse
 import re
@@ -133,7 +135,7 @@ def main():
     for path in sorted((HERE / "ninja_texts").glob("*.ninja")):
         pair = Pair(program, path)
         if not pair.is_plan(pair.text):
-            print(f"{pair.name}: kati doesn't read it as its makefile's plan")
+            print(f"{pair.name}: kati does not read it as its makefile's plan")
             wrong += 1
         texts = pair.texts()
         compared += len(texts)
@@ -149,7 +151,7 @@ def main():
     for why, count in sorted(reasons.items(), key=str):
         if why:
             print(f"{count} texts: {why}")
-    print(f"{compared} texts compared, {sum(reasons.values())} read otherwise, {wrong} of them not as known")
+    print(f"{compared} texts compared, {sum(reasons.values())} read differently, {wrong} of these unknown")
     return 1 if wrong else 0
 
 

@@ -1,4 +1,4 @@
-"""What each crate costs, by scripts/crate_costs.txt, which scripts/gate_cost.py --record writes."""
+"""The cost of each crate in the gate, from scripts/crate_costs.txt, which scripts/gate_cost.py --record writes."""
 from pathlib import Path
 from typing import Dict, NamedTuple
 

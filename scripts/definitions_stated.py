@@ -1,6 +1,6 @@
-"""What documents name of the definitions, and docs/DESIGN.md of the code, for scripts/check_docs.py: definitions by
-their files, functions and types with their files, definitions with their modules, and the modules of each crate that
-are to be reviewed."""
+"""What documents name of definitions and of code, for scripts/check_docs.py: definitions by their files, functions
+and types with their files, definitions with their modules, and the modules of each crate that a reader reviews. A
+thing of a crate may be in the crate of its laws."""
 import re
 
 NAMED = re.compile(r"(?<![\w/])specs/[\w/]+(?:\.antt)?")
@@ -11,15 +11,23 @@ REVIEWED = re.compile(r"^- \*\*(k\w+)\*\*:(.*?)(?=^- \*\*|^[^\s-])", re.MULTILIN
 SEEN = re.compile(r"^impl\b[^{]*? Model for (\w+)[^{]*\{(.*?)^\}", re.MULTILINE | re.DOTALL)
 VALUE = re.compile(r"ghost Value = \{ ([A-Z]\w+) \}")
 NOT_OWN = {"Text", "Unit"}
+# The crate of a crate's laws, where it isn't NAME_laws.
+LAWS = {"kati_args": "kati_laws"}
 NAMES = re.compile(r"^\| (k\w+) \| ((?:`\w+`: `\w+`(?:, )?)+) \|$", re.MULTILINE)
 ITEM = r"\b(?:fn|struct|enum|trait|type|const) {}\b"
 DEFINITION = r"^ *(?:[a-z]+ )*{}\b"
 
 
-def without_file(root, text, crate="*"):
-    """The definitions that a text names as specs/.. and the crate, or any, doesn't have."""
+def with_laws(root, crate):
+    """The folder of a crate, and that of the crate of its laws."""
+    return [root / "crates" / crate, root / "crates" / LAWS.get(crate, crate + "_laws")]
+
+
+def without_file(root, text, crate=None):
+    """The definitions that a text names as specs/.. and the crate, with that of its laws, or any, doesn't have."""
+    folders = with_laws(root, crate) if crate else list(root.glob("crates/*"))
     for name in dict.fromkeys(NAMED.findall(text)):
-        if not any(root.glob(f"crates/{crate}/{name}")) and not any(root.glob(f"crates/{crate}/{name}.antt")):
+        if not any((folder / end).exists() for folder in folders for end in (name, name + ".antt")):
             yield name
 
 
@@ -50,8 +58,9 @@ def misplaced(root, text):
 def unreviewed(root, text):
     """The modules and definitions to review that their crate doesn't have; a crate without any isn't looked at."""
     for crate, part in REVIEWED.findall(text):
-        modules = list((root / "crates" / crate / "specs").rglob("*.antt"))
-        code = list((root / "crates" / crate / "src").rglob("*.rt"))
+        folders = with_laws(root, crate)
+        modules = [path for folder in folders for path in (folder / "specs").rglob("*.antt")]
+        code = [path for folder in folders for path in (folder / "src").rglob("*.rt")]
         known = {path.stem for path in modules}
         for name in re.findall(r"`(\w\w+)`", part):
             if known and name not in known and not holds(modules, DEFINITION, name) and not holds(code, ITEM, name):

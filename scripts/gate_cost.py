@@ -1,26 +1,26 @@
 #!/usr/bin/env python3
-"""Runs the gate on a clean checkout of HEAD and tells what it cost.
+"""Runs the gate on a clean checkout of HEAD, and prints what it cost.
 
-LOG gets what the gate prints. The script prints the gate's last line, the minutes that it took and the processor
-minutes, and then the processor seconds of each crate: its proof, its tests and its edits, told apart by the folder and
-the arguments of each process of the prover, and last the checks that its edits took, in order. A machine with more work
-than processors takes more processor time too.
+LOG gets the output of the gate. The script prints the gate's last line, the minutes, the processor minutes, and a table
+of the processor seconds of each crate: its proof, its tests, its edits, and each check of an edit. It tells these apart
+by the folder and the arguments of each prover process. If a machine has more work than processors, processor time
+rises, too.
 
-With --speed it proves one crate as it once stood, as the gate does, and tells what that took beside what it took on the
-machine that the gate's marks were set on: processor minutes of two machines can be compared by that alone.
+--speed proves one crate of an earlier commit, as the gate does. It prints the time of this machine and of the machine
+of the gate's marks. Only by these can processor minutes of two machines be compared.
 
-With --record it does both, the speed first, and writes scripts/crate_costs.txt where the gate passes.
+--record does both, the speed first, and writes scripts/crate_costs.txt if the gate passes.
 
 examples:
   scripts/gate_cost.py                    the gate of HEAD
-  scripts/gate_cost.py --record           the same, for the file of costs
-  scripts/gate_cost.py HEAD~3 gate.log    that of an earlier commit, with what it prints
-  scripts/gate_cost.py --speed            how fast the machine is
+  scripts/gate_cost.py --record           the same, and writes the file of costs
+  scripts/gate_cost.py HEAD~3 gate.log    the gate of an earlier commit, with its output in gate.log
+  scripts/gate_cost.py --speed            the speed of the machine
 
 exit status:
-  0   the gate passed; --speed: the crate is proved
+  0   the gate passed; with --speed: the crate is proved
   64  wrong usage
-  else the status of the gate"""
+  any other status is that of the gate"""
 import argparse
 import os
 import resource
@@ -145,10 +145,10 @@ def asked():
     """What the command line asks for."""
     parser = Parser(description=__doc__, formatter_class=argparse.RawDescriptionHelpFormatter)
     which = parser.add_mutually_exclusive_group()
-    which.add_argument("--speed", action="store_true", help="one crate of an earlier commit alone")
-    which.add_argument("--record", action="store_true", help="writes scripts/crate_costs.txt too")
+    which.add_argument("--speed", action="store_true", help="only one crate of an earlier commit")
+    which.add_argument("--record", action="store_true", help="also write scripts/crate_costs.txt")
     parser.add_argument("revision", nargs="?", default="HEAD", metavar="REVISION", help="a commit; HEAD without it")
-    parser.add_argument("log", nargs="?", metavar="LOG", help="where what the gate prints goes")
+    parser.add_argument("log", nargs="?", metavar="LOG", help="the file for the output of the gate")
     return parser.parse_args()
 
 

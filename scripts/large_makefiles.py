@@ -1,9 +1,7 @@
-"""Makefiles of any size, for scripts/times.py.
+"""Makefiles of any size, for scripts/times.py and other scripts that measure.
 
-Each shape is a function of a number, and answers the files by their names, `Makefile` among them, and the names of the
-sources. All of them are written in what kati, ckati and GNU make share, but for the group of targets, which ckati
-doesn't know.
-"""
+Each shape is a function of a number. It returns the files by their names, `Makefile` among them, and the names of the
+sources. kati, ckati and GNU make accept all of them, except that ckati does not know the group of targets."""
 
 MOST = 2**24  # bytes that kati takes in one makefile
 

@@ -1,18 +1,18 @@
 #!/usr/bin/env python3
 """Makes a Debian package of the built programs, the tools, manual pages, completions and documents.
 
-The package is named kati-ninja, since Debian's package kati holds another program of the same path. Its files are those
-of `make install`. Needed are make, dpkg-deb and the built programs kati and kati-asked, but no root.
+The package is named kati-ninja, because Debian's package kati has another program with the same path. Its files are
+those of `make install`. The script needs make, dpkg-deb and the built programs kati and kati-asked, but no root.
 
 examples:
   scripts/make_deb.py                          kati-ninja_VERSION_ARCHITECTURE.deb in this folder
-  scripts/make_deb.py --output packages        the same in that folder, which has to be there
+  scripts/make_deb.py --output packages        the same in that folder, which must exist
   scripts/make_deb.py --program ./kati --asked ./kati-asked
-                                               of other built programs
+                                               with other built programs
 
 exit status:
   0   the package is made, and its path is printed
-  1   something failed, as is said
+  1   something failed, and is printed
   64  wrong usage"""
 import argparse
 import gzip
@@ -34,13 +34,12 @@ NAME = "kati-ninja"
 LIBC = "libc6 (>= 2.34)"
 TEXT = """\
 translates makefiles to Ninja files
- kati reads a makefile of POSIX make, with a named subset of GNU make, once and
- writes a Ninja file, so that each later build starts from a file that Ninja
- loads quickly. It is proved that the file says what the makefile says.
+ kati translates a makefile of POSIX make, with a named subset of GNU make, into
+ a build file for Ninja. The translation is formally verified.
  .
- The program kati-asked runs kati, and writes the names of the files that it
- asks for. The tools kati-build, kati-port and kati-compare translate and
- build, tell what in a makefile stands in the way, and compare with make.
+ kati-build translates and runs Ninja, also for makefiles that need GNU make.
+ kati-port lists what kati refuses in a makefile, kati-compare compares the
+ commands with those of make, and kati-asked prints the files that kati reads.
 """
 
 # Bytecode hangs on the Python of the machine.

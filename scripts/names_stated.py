@@ -1,5 +1,5 @@
-"""Names with two meanings in the definitions and types of the product, for scripts/check_docs.py: what two modules of
-specs/ define, what two types of code are called, and a type and a definition of one name that aren't one thing."""
+"""Names with two meanings in definitions and types, for scripts/check_docs.py: two definitions or two types of one
+name, and a type and a definition of one name that are not one thing."""
 import re
 from collections import defaultdict
 

@@ -1,4 +1,5 @@
-"""Which options the code, the help, the manual pages, README and the completions tell of, for scripts/check_docs.py."""
+"""The options in the code, the help, the manual pages, docs/LANGUAGE.md and the completions, for
+scripts/check_docs.py."""
 import re
 
 OPTION = re.compile(r"(?<![\w-])--?[A-Za-z][a-z-]*")
@@ -30,7 +31,7 @@ def of_page(text):
 
 
 def of_table(text):
-    """The options of README's table."""
+    """The options that begin a row of a table."""
     rows = re.findall(r"^\| (`-.*?) \|", text, re.MULTILINE)
     return {option for row in rows for option in OPTION.findall(row)}
 

@@ -1,32 +1,32 @@
 #!/usr/bin/env python3
-"""Builds real programs by kati-build --port, as they are unpacked, edits them, and tells whether all is as by make.
+"""Builds real programs by kati-build --port or --ask, edits them, and compares each step with make.
 
-    scripts/port_programs.py [--jobs N] FOLDER..
-    scripts/port_programs.py [--jobs N] --list FILE FOLDER
+    scripts/port_programs.py [--ask] [--jobs N] FOLDER..
+    scripts/port_programs.py [--ask] [--jobs N] --list FILE FOLDER
 
-FOLDER is a program's unpacked sources, with the makefile in it. With --list, FOLDER has such folders, and FILE one of
-them a line: its path there, and behind it what make and kati-build are given, as a goal.
+FOLDER has a program's unpacked sources, with the makefile in it. With --list, FOLDER holds such folders. FILE names one
+of them a line, and after it the arguments for make and kati-build, such as a goal.
 
-Each program is built twice, by make and by kati-build --port, in two copies that stand at the same path while something
-runs in them. Then both copies are edited in the same way, step by step, and make and a plain ninja run. A step is as by
-make where the same files are made anew, and all that was built has the same bytes:
+Each program is built twice: by make, and by kati-build --port (with --ask, by kati-build --ask). The two copies are at
+the same path while a command runs in them. Then both copies are edited in the same way, step by step, and make and a
+plain ninja run. A step is as by make if the same files are rebuilt and all products have the same bytes:
 
-  built       from nothing
+  built       from scratch
   nothing     once more, with nothing changed
   header      the header that most sources include is touched
   source      a line is added to a source
   object      the object of that source is touched
-  gone        the object is taken away
-  new source  a source is added beside that one
-  macro       the word CC='cc -fno-ident' is given, to kati-build
+  gone        the object is deleted
+  new source  a source is added beside that source
+  macro       kati-build gets the argument CC='cc -fno-ident'
 
-In the last two make begins from nothing, and the bytes alone are compared. They are as by make, too, where make, run in
-the tree that it has built, leaves the same bytes or fails as well: an inner make leaves what is built. What differs
-between two builds by make, as a date, isn't compared, nor are files of header dependencies, which Ninja takes away.
+In the last two steps make builds from scratch, and only the bytes are compared. They are also as by make if make, run
+in the tree that it built before, leaves the same bytes or fails as well: an inner make leaves what is built. Products
+that differ between two builds by make, as by a date, are not compared, nor are depfiles.
 
-A line for each program says how many files were built, each step that isn't as by make, the steps in which make and
-ninja both fail, and what kati-build tells to differ. `more` names files that ninja alone makes anew, `less` those that
-make alone does, `other` files with other bytes, `absent` those that only make built.
+A line for each program says how many files were built, each step that is not as by make, the steps in which make and
+ninja both fail, and the differences that kati-build reports. `more` names files that only ninja rebuilds, `less` those
+that only make rebuilds, `other` files with other bytes, `absent` those that only make built.
 
 exit status:
   0   all steps of all programs are as by make
@@ -66,7 +66,7 @@ WORD = "CC=cc -fno-ident"
 SOURCES = (".c", ".cc", ".cpp")
 NEW = "kati_new"
 # What the tools, ninja and compilers write beside what is built.
-OWN = re.compile(r"(^|/)(build\.kati/|build\.ninja$|\.ninja_)|\.d$")
+OWN = re.compile(r"(^|/)(build\.kati/|\.kati/|build\.ninja$|\.ninja_)|\.d$")
 INCLUDED = re.compile(r'^[ \t]*#[ \t]*include[ \t]*[<"]([^>"]+)[>"]', re.MULTILINE)
 DIFFER = re.compile(r"^kati-build: (kati's commands differ.*)", re.MULTILINE)
 
@@ -190,16 +190,16 @@ def remove(tree, name):
 
 
 class Program:
-    """A program, built by make and by kati-build --port in a room."""
+    """A program, built by make and by kati-build in a room; `mode` is --port or --ask."""
 
-    def __init__(self, folder, given, jobs, room):
-        self.copies, self.given, self.jobs = Copies(folder, room), given, jobs
+    def __init__(self, folder, given, jobs, room, mode):
+        self.copies, self.given, self.jobs, self.mode = Copies(folder, room), given, jobs, mode
         self.before = set(files_of(folder))
         self.differences, self.failing, self.told, self.restless = [], [], "", set()
 
     def build(self, copy, *given):
-        """Builds a copy by kati-build --port."""
-        return self.copies.run(copy, sys.executable, TOP / "tools/kati-build", "--port", *self.given, *given,
+        """Builds a copy by kati-build."""
+        return self.copies.run(copy, sys.executable, TOP / "tools/kati-build", self.mode, *self.given, *given,
                                "--", f"-j{self.jobs}")
 
     def make(self, copy, *given):
@@ -319,10 +319,10 @@ class Program:
             self.differences.append(Difference(step, text))
 
 
-def try_program(folder, given, jobs):
+def try_program(folder, given, jobs, mode):
     """Tells of a program; answers whether all is as by make."""
     with tempfile.TemporaryDirectory(prefix="kati-programs-") as room:
-        program = Program(folder, given, jobs, Path(room).resolve())
+        program = Program(folder, given, jobs, Path(room).resolve(), mode)
         try:
             count = program.try_all()
         except Failed as failed:
@@ -352,7 +352,7 @@ def try_programs(asked):
     """Tries all; answers the exit status."""
     for name in ("make", "ninja"):
         programs.need(name)
-    results = [try_program(folder, given, asked.jobs) for folder, given in chosen_programs(asked)]
+    results = [try_program(folder, given, asked.jobs, asked.mode) for folder, given in chosen_programs(asked)]
     print(f"{sum(results)} of {len(results)} as make")
     return AS_MAKE if all(results) else OTHERWISE
 
@@ -364,6 +364,8 @@ def main():
                                      formatter_class=argparse.RawDescriptionHelpFormatter)
     parser.add_argument("--list", metavar="FILE", type=Path,
                         help="the programs in FOLDER, one a line, with goals and words")
+    parser.add_argument("--ask", dest="mode", action="store_const", const="--ask", default="--port",
+                        help="builds by kati-build --ask")
     parser.add_argument("--jobs", type=int, default=2, metavar="N", help="how many commands ninja runs at once; 2")
     parser.add_argument("folders", nargs="+", metavar="FOLDER", type=Path, help="a program's unpacked sources")
     try:

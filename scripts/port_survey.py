@@ -1,27 +1,26 @@
 #!/usr/bin/env python3
-"""Ports makefiles of real programs by kati-port --write, each in a copy of its tree, and tells what came of it.
+"""Runs kati-port --write on makefiles of real programs, each in a copy of its tree, and prints the results.
 
     scripts/port_survey.py [--list FILE] [--jobs N] FOLDER..
 
-FOLDER holds unpacked sources, a folder for each program. Looked at is each makefile at the top of a program's folder,
-and in the folders below it down to the second, that a person wrote: one beside a configure.ac, a CMakeLists.txt or a
-meson.build isn't, nor one that a program has written. --list has the makefiles by name instead, one a line, so that
-they are chosen before they are tried.
+FOLDER holds unpacked sources, a folder for each program. The makefiles are those at the top of a program's folder and
+down to two folders below, if a person wrote them: none next to a configure.ac, a CMakeLists.txt or a meson.build, and
+none that a program has written. --list names the makefiles instead, one a line, so that they are chosen before they
+are tried.
 
 A line for each makefile says:
 
   NAME: RESULT, the lines that were changed, the seconds that it took; what stopped it
 
-RESULT is `same`: ported, and kati's commands are make's, blanks aside; `ported`: kati takes it, and some commands
-differ; `stuck`; `make fails`, where make doesn't take the makefile as it is. After each port make is asked again, and
-`make changed` is told where its commands aren't those of before, those of inner makes among them.
+RESULT is `same`: kati accepts the result, and its commands are make's, except for blanks; `ported`: kati accepts it,
+and some commands differ; `stuck`; `make fails`: make does not accept the original. After each run make prints its
+commands again. `make changed` says that they changed, those of inner makes included.
 
 Then comes a table. The exit status is 0.
 
 examples:
   scripts/port_survey.py ~/sources
-  scripts/port_survey.py --list makefiles.txt ~/sources > survey.txt
-"""
+  scripts/port_survey.py --list makefiles.txt ~/sources > survey.txt"""
 import argparse
 import difflib
 import os
@@ -187,7 +186,7 @@ def main():
     parser = argparse.ArgumentParser(prog="port_survey.py", description=__doc__,
                                      formatter_class=argparse.RawDescriptionHelpFormatter)
     parser.add_argument("--list", metavar="FILE", help="the makefiles, one a line: the program's folder, then the path")
-    parser.add_argument("--only-list", action="store_true", help="prints the makefiles that would be looked at")
+    parser.add_argument("--only-list", action="store_true", help="print the makefiles that would be tried")
     parser.add_argument("--jobs", type=int, default=1, metavar="N", help="how many at a time; 1 without it")
     parser.add_argument("folders", nargs="+", metavar="FOLDER", help="unpacked sources, a folder for each program")
     asked = parser.parse_args()

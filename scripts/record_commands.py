@@ -1,265 +1,181 @@
 #!/usr/bin/env python3
-"""Records what the commands of make's build of a tree are, and those of ninja's build of its port, and tells whether
-they are the same: each command's text as the shell reads it, the flags of the shell, and the environment.
+"""Compares the commands of make's build with those of a build by kati-build.
 
-    scripts/record_commands.py [-f FILE] [--shell SHELL] [--kati PROGRAM] [--most N] TREE [GOAL|NAME=VALUE]..
+    scripts/record_commands.py [--ask | --port] [-f FILE] TREE [GOAL|NAME=VALUE]..
+    scripts/record_commands.py [--ask | --port] --list FILE [--jobs N] FOLDER
 
-A shell is put in the way of both builds, which are made one after the other at the same path, each in a copy of TREE.
-It writes down what it was given, and hands it to the real one. make gets it by the word SHELL=.., ninja by its file, in
-which it stands in the place of SHELL. So nothing of the tools' own comparison is asked. What the shell reads is told by
-bash, which prints a function of each text. Inner makes, and what $(shell ..) runs, aren't recorded. Of the environment
-MAKEFLAGS, MFLAGS, MAKELEVEL and MAKE_TERM* don't count, nor what a shell sets by itself.
+Both builds are real, and made one after the other at the same path, each in a copy of TREE. A shell in the place of the
+makefile's own writes down what it is given, and hands that to the real shell. Compared are each
+command's text as the shell reads it (bash prints it as the body of a function), the flags of the shell and the
+environment. Inner makes and `$(shell ..)` are not recorded. MAKEFLAGS, MFLAGS, MAKELEVEL and MAKE_TERM* do not count,
+nor what a shell sets by itself.
+
+With --list, FOLDER holds unpacked programs, and FILE names one makefile a line by its path there. A makefile counts if
+`make -n` accepts it. If make's build fails, both builds go on as far as they can (-k), and their commands are compared.
+
+  same       ninja ran make's commands; `repeated N`: some ran more often than by make
+  differ     they differ; the first commands of each build alone follow
+  refused    kati-build does not build the makefile, and says why
+  failed     kati-build's build failed, and make's did not
+  not make's `make -n` does not accept the makefile; it does not count
 
 examples:
-  scripts/record_commands.py example
-  scripts/record_commands.py -f Makefile.lib src all CC=clang
+  scripts/record_commands.py --ask example
+  scripts/record_commands.py --port -f Makefile.lib src all CC=clang
+  scripts/record_commands.py --ask --list scripts/port_survey.txt --jobs 2 ~/sources
 
 exit status:
-  0   the same commands
-  1   others, and kati-build --port says that they differ, or names calls that the recipe's own shell runs
-  2   others, and kati-build --port doesn't say so
-  3   not compared: a build failed, or a program isn't there
+  0   all that count are the same
+  1   one is not
+  3   a program that is needed is absent
   64  wrong usage
 """
+from __future__ import annotations
+
 import argparse
-import os
-import re
 import shutil
-import subprocess
 import sys
 import tempfile
+import time
 from collections import Counter
+from concurrent.futures import ThreadPoolExecutor
 from pathlib import Path
-from typing import NamedTuple
+from typing import List, NamedTuple, Optional, Sequence
 
 sys.dont_write_bytecode = True
-TOP = Path(__file__).resolve().parent.parent
-sys.path.insert(0, str(TOP / "share/kati"))
+sys.path.insert(0, str(Path(__file__).resolve().parent))
 
-from kati_tools.base import programs, shims, words  # noqa: E402
-from kati_tools.build import calls_of_recipes, ninja_text  # noqa: E402
+from recording.builds import DIFFERENT, Built, Builds, Subject, accepted, shell_of  # noqa: E402
+from recording.commands import described, differences  # noqa: E402
 
-SAME, TOLD, UNTOLD, NOT_COMPARED, DIFFERS = 0, 1, 2, 3, 5
-MARK = "KATI_RECORDED"
-# So often includes may have to be made before the translation stays.
-ROUNDS = 9
-# The file that ninja runs; and what a file of kati-build says of names that may be absent.
-RECORDED, PRESENT = "build.kati/recorded.ninja", re.compile(r"^build .*: phony$", re.MULTILINE)
-# The shell in the way. What it hands on is as it was, but for a mark by which those below it write nothing.
-RECORDER = """\
-#!{python} -IS
-import os, stat, sys
-environment = dict(one.split(b"=", 1) for one in open("/proc/self/environ", "rb").read().split(b"\\0") if b"=" in one)
-is_asked = {is_makes} and stat.S_ISFIFO(os.fstat(1).st_mode)
-if {mark} not in environment and not is_asked:
-    parts = [b"\\0".join(os.fsencode(one) for one in sys.argv[1:]),
-             b"\\0".join(name + b"=" + value for name, value in sorted(environment.items()))]
-    with open("{folder}/%d" % os.getpid(), "ab") as file:
-        file.write(b"\\0\\0".join(parts) + b"\\0\\0\\0")
-    environment[{mark}] = b"1"
-os.execve("{shell}", ["{shell}", *sys.argv[1:]], environment)
-"""
-# What make, a shell or a recording has there by itself.
-OWN = {"MAKEFLAGS", "MFLAGS", "MAKELEVEL", "MAKE_TERMOUT", "MAKE_TERMERR", "MAKEOVERRIDES", "SHLVL", "_", "OLDPWD",
-       MARK}
-PRINTED = re.compile(r""""\$\(printf %b '([^']*)'\)\"""")
-# What bash prints of each text that it is given, which is a function's.
-READER = """\
-while IFS= read -r -d '' text; do
-    if eval "kati_read() {
-$text
-}" 2> /dev/null; then declare -f kati_read; else printf %s "$text"; fi
-    printf '\\0'
-done
-"""
+SAME, DIFFER, ABSENT, USAGE = 0, 1, 3, 64
+NAMES = ("GNUmakefile", "makefile", "Makefile")
+NOT_MAKES = "not make's"
 
 
-class Command(NamedTuple):
-    """A command: its flags, its text as the shell reads it, and the environment, as sorted lines."""
+class Found(NamedTuple):
+    """What came of a makefile."""
 
-    flags: str
-    text: str
-    environment: tuple
+    name: str
+    result: str
+    detail: str
+    seconds: float
 
-
-def printed(found):
-    """What a shell prints, within single quotes."""
-    told = subprocess.run(["/bin/sh", "-c", "printf '%b.' \"$1\"", "sh", found.group(1)], stdout=subprocess.PIPE,
-                          check=True).stdout
-    return "'" + os.fsdecode(told)[:-1] + "'"
+    def text(self) -> str:
+        """The lines about it."""
+        return f"{self.name}: {self.result}{', ' if self.detail else ''}{self.detail}; {self.seconds:.1f} s"
 
 
-def as_read(texts):
-    """Each text as bash prints it once it has read it."""
-    texts = [PRINTED.sub(printed, text) for text in texts]
-    given = b"".join(os.fsencode(one) + b"\0" for one in texts)
-    ran = subprocess.run([programs.need("bash"), "-c", READER], input=given, stdout=subprocess.PIPE, check=True)
-    return os.fsdecode(ran.stdout).split("\0")[:-1]
+def compared(makes: Built, ninjas: Built, most: int) -> tuple:
+    """The result and its detail: what ninja's build has otherwise than make's."""
+    found = differences(makes.commands, ninjas.commands)
+    repeated = f", repeated {found.repeated}" if found.repeated else ""
+    detail = f"{len(makes.commands)} commands{repeated}"
+    if not found.by_make and not found.by_ninja:
+        return "same", detail
+    lines = [described(mark, one, others) for mark, some, others in (("-", found.by_make, found.by_ninja),
+                                                                    ("+", found.by_ninja, found.by_make))
+             for one in some[:most]]
+    return "differ", "\n  ".join([f"{detail}, {len(found.by_make)} only make's, {len(found.by_ninja)} only ninja's",
+                                  *lines])
 
 
-class Recorder:
-    """A shell that is put in the way of a build, in a folder of its own."""
-
-    def __init__(self, folder, shell, is_makes):
-        self.folder, self.path, self.shell = folder / "told", folder / "shell", shell
-        self.folder.mkdir(parents=True)
-        self.path.write_text(RECORDER.format(python=sys.executable, is_makes=is_makes, mark=os.fsencode(MARK),
-                                             folder=self.folder, shell=shell))
-        self.path.chmod(0o755)
-
-    def plain(self, text):
-        """A text that names the real shell."""
-        return text.replace(str(self.path), self.shell)
-
-    def commands(self):
-        """The commands that were recorded."""
-        told = [one for path in sorted(self.folder.iterdir()) for one in path.read_bytes().split(b"\0\0\0")[:-1]]
-        parts = [tuple(self.plain(os.fsdecode(part)).split("\0") for part in one.split(b"\0\0", 1)) for one in told]
-        texts = as_read([given[-1] for given, _ in parts])
-        return [Command(" ".join(given[:-1]), text, tuple(one for one in has if one.split("=", 1)[0] not in OWN))
-                for (given, has), text in zip(parts, texts)]
+def result_of(subject: Subject, room: Path, given: argparse.Namespace) -> tuple:
+    """Builds a makefile both ways; the result and its detail."""
+    answer = accepted(subject, room)
+    if answer.status:
+        return NOT_MAKES, answer.last()
+    builds = Builds(subject, room, given.shell or shell_of(answer.said), given.build_jobs)
+    makes, flags = builds.by_make(), ()
+    if makes.ran.status:
+        makes, flags = builds.by_make("-k"), ("-k", "0")
+    ninjas = builds.by_ninja(given.mode, *flags)
+    if ninjas.ran.status not in (0, DIFFERENT) and not ninjas.commands and makes.commands:
+        return "refused", ninjas.ran.last()
+    if ninjas.ran.status not in (0, DIFFERENT) and not makes.ran.status:
+        return "failed", ninjas.ran.last()
+    result, detail = compared(makes, ninjas, given.most)
+    return result, f"make's build fails, {detail}" if flags else detail
 
 
-class Failed(Exception):
-    """A build failed, so that nothing is compared."""
-
-
-def run(call, folder, log):
-    """The status of a command in a folder; what it says goes into a file, by which $(shell ..) is told apart. SHELL is
-    always in the environment, since make hands on the word SHELL=.. to its commands where it isn't."""
-    environment = {"SHELL": "/bin/sh", **os.environ, "PWD": str(folder)}
-    with open(log, "wb") as file:
-        return subprocess.run([str(one) for one in call], cwd=folder, env=environment, stdin=subprocess.DEVNULL,
-                              stdout=file, stderr=subprocess.STDOUT, check=False).returncode
-
-
-class Recording:
-    """The two builds of a tree, in a room."""
-
-    def __init__(self, asked, room):
-        self.asked, self.room, self.tree, self.log = asked, room, room / asked.tree.name, room / "log"
-        self.given = [*(["-f", asked.makefile] if asked.makefile else []), *asked.words]
-
-    def anew(self):
-        """Puts the tree at its place as it was."""
-        shutil.rmtree(self.tree, ignore_errors=True)
-        shutil.copytree(self.asked.tree, self.tree, symlinks=True)
-
-    def failed(self, what):
-        """What to stop with."""
-        said = self.log.read_text(errors="replace").strip().split("\n")[-3:]
-        return Failed(f"{what} failed: " + " / ".join(said))
-
-    def by_make(self):
-        """The commands of make's build."""
-        recorder = Recorder(self.room / "make", self.asked.shell, True)
-        self.anew()
-        programs.need("make")
-        # By the name by which kati-build runs it, which is the value of $(MAKE).
-        if run([os.environ.get("MAKE") or "make", *self.given, f"SHELL={recorder.path}"], self.tree, self.log):
-            raise self.failed("make")
-        return recorder.commands()
-
-    def by_ninja(self):
-        """The commands of ninja's build of the port, and whether kati-build says that they are make's, without calls
-        that the recipe's own shell runs. Where a file makes nothing but includes, what it has is recorded, and then
-        that of the translation by them, until it stays."""
-        recorder, made, is_said = Recorder(self.room / "ninja", self.asked.shell, False), None, True
-        self.anew()
-        for _ in range(ROUNDS):
-            is_said = self.is_translated_as_make() and is_said
-            text = (self.tree / "build.kati/translated.ninja").read_text(errors="surrogateescape")
-            before, made = made, made_by(text)
-            if made == before:
-                break
-            self.run_recorded(text, recorder)
-        return recorder.commands(), is_said
-
-    def is_translated_as_make(self):
-        """Translates; answers whether kati-build says that its commands are make's."""
-        kati = ["--kati", self.asked.kati] if self.asked.kati else []
-        status = run([sys.executable, TOP / "tools/kati-build", "--port", "--no-ninja", *kati, *self.given], self.tree,
-                     self.log)
-        if status not in (0, DIFFERS):
-            raise self.failed("kati-build --port")
-        return status == 0 and calls_of_recipes.RUNS not in self.log.read_text(errors="surrogateescape")
-
-    def run_recorded(self, text, recorder):
-        """Has ninja run a translation in which a recorder stands in the shell's place: first what makes the includes on
-        which the file of kati-build depends, as that has it, and then the rest."""
-        top = (self.tree / "build.ninja").read_text(errors="surrogateescape").replace(" $\n    ", " ")
-        made = {name for one in ninja_text.statements(text) for name in one.outputs}
-        includes = [name for one in ninja_text.statements(top) if "build.ninja" in one.outputs for name in one.inputs
-                    if name in made]
-        text = re.sub(rf"(?<![\w/]){re.escape(self.asked.shell)}(?= -)", str(recorder.path), text)
-        (self.tree / RECORDED).write_text("\n".join([*PRESENT.findall(top), text]), errors="surrogateescape")
-        for names in ([includes] if includes else []) + [[]]:
-            if run([programs.need("ninja"), "-f", RECORDED, *names], self.tree, self.log):
-                raise self.failed("ninja")
-
-
-def made_by(text):
-    """What a translation makes, of what, and by which commands: by other lines, as `restat`, it is no other one."""
-    return [(one.outputs, one.needs, one.command) for one in ninja_text.statements(text)]
-
-
-def told(mark, command, others):
-    """The line for a command of one build alone: what it has otherwise than the other's of the same text."""
-    alike = [one for one in others if one.text == command.text]
-    text = re.sub(r"^kati_read \(\) *\n\{ *\n|\n\}\n?$", "", command.text).strip()
-    if not alike:
-        return f"{mark} {text!r}"
-    if alike[0].flags != command.flags:
-        return f"{mark} flags {command.flags}: {text!r}"
-    own = sorted(set(command.environment) - set(alike[0].environment))
-    return f"{mark} {' '.join(own) or 'nothing more'}: {text!r}"
-
-
-def compare(asked, room):
-    """Tells how the two builds compare; answers the exit status."""
-    recording = Recording(asked, room)
-    makes, (ninjas, is_said) = recording.by_make(), recording.by_ninja()
-    alone = [list((Counter(one) - Counter(other)).elements()) for one, other in ((makes, ninjas), (ninjas, makes))]
-    for mark, lines, others in zip("-+", alone, reversed(alone)):
-        for command in lines[:asked.most]:
-            print(told(mark, command, others))
-        if len(lines) > asked.most:
-            print(f"{mark} .. and {len(lines) - asked.most} more")
-    if not any(alone):
-        print(f"same: {len(makes)} commands" + ("" if is_said else "; kati-build says that they differ"))
-        return SAME
-    print(f"differ: {len(alone[0])} of make's alone, {len(alone[1])} of ninja's alone, of {len(makes)}; kati-build "
-          f"{'says that they are the same' if is_said else 'says so'}")
-    return UNTOLD if is_said else TOLD
-
-
-def record(asked):
-    """Answers the exit status."""
-    asked.tree = asked.tree.resolve()
-    if not asked.tree.is_dir():
-        raise programs.Stop(f"no folder {asked.tree}", words.WRONG_USAGE)
+def found(subject: Subject, name: str, given: argparse.Namespace) -> Found:
+    """What came of one makefile."""
+    start = time.monotonic()
     with tempfile.TemporaryDirectory(prefix="kati-record-") as room:
-        try:
-            return compare(asked, Path(room).resolve())
-        except Failed as failed:
-            raise programs.Stop(str(failed), NOT_COMPARED) from None
+        result, detail = result_of(subject, Path(room).resolve(), given)
+    return Found(name, result, detail, time.monotonic() - start)
 
 
-def main():
-    # make gets the PATH that the tools have.
-    shims.put_back()
+def listed(given: argparse.Namespace) -> List[Subject]:
+    """The makefiles of --list."""
+    top, names = given.tree, Path(given.list).read_text(encoding="utf-8").split()
+    return [Subject(top / name.split("/")[0], Path(*name.split("/")[1:-1]), name.split("/")[-1]) for name in names]
+
+
+def single(given: argparse.Namespace) -> Subject:
+    """The makefile of a tree."""
+    tree = given.tree.resolve()
+    makefile = given.makefile or next((name for name in NAMES if (tree / name).exists()), "Makefile")
+    return Subject(tree, Path("."), makefile, tuple(given.words))
+
+
+def table(all_found: Sequence[Found]) -> str:
+    """How many makefiles came to what."""
+    counts = Counter(one.result for one in all_found)
+    counted = len(all_found) - counts[NOT_MAKES]
+    rows = [("makefiles", len(all_found)), ("that count", counted),
+            *((name, counts[name]) for name in ("same", "differ", "refused", "failed"))]
+    return "\n".join(f"{name:12} {number}" for name, number in rows)
+
+
+def survey(given: argparse.Namespace) -> int:
+    """Compares each makefile of a list."""
+    subjects = [(one, str(one.program.name / one.folder / one.makefile)) for one in listed(given)]
+    with ThreadPoolExecutor(given.jobs) as pool:
+        all_found = []
+        for one in pool.map(lambda pair: found(*pair, given), [pair for pair in subjects if pair[0].program.is_dir()]):
+            print(one.text(), flush=True)
+            all_found.append(one)
+    absent = [name for subject, name in subjects if not subject.program.is_dir()]
+    print(table(all_found) + (f"\nabsent: {' '.join(absent)}" if absent else ""))
+    return SAME if all(one.result in ("same", NOT_MAKES) for one in all_found) else DIFFER
+
+
+def options() -> argparse.ArgumentParser:
+    """The command line."""
     parser = argparse.ArgumentParser(description=__doc__, formatter_class=argparse.RawDescriptionHelpFormatter)
+    mode = parser.add_mutually_exclusive_group()
+    for name in ("--port", "--ask"):
+        mode.add_argument(name, dest="mode", action="store_const", const=name, help=f"builds by kati-build {name}")
+    parser.set_defaults(mode="--port")
     parser.add_argument("-f", dest="makefile", metavar="FILE", help="the makefile")
-    parser.add_argument("--shell", default="/bin/sh", help="the shell of the makefile; /bin/sh without it")
-    parser.add_argument("--kati", metavar="PROGRAM", help="the program kati; without it KATI, then the built one")
-    parser.add_argument("--most", type=int, default=10, metavar="N", help="how many commands are shown of each build")
-    parser.add_argument("tree", metavar="TREE", type=Path, help="a folder with a makefile, as it is unpacked")
-    parser.add_argument("words", nargs="*", metavar="GOAL|NAME=VALUE", help="what make and kati-build are asked for")
+    parser.add_argument("--list", metavar="FILE", help="the makefiles, one a line")
+    parser.add_argument("--jobs", type=int, default=1, metavar="N", help="makefiles at a time")
+    parser.add_argument("--build-jobs", type=int, default=2, metavar="N", help="jobs of each build; 2 without it")
+    parser.add_argument("--shell", help="the real shell; that of the makefile without it")
+    parser.add_argument("--most", type=int, default=3, metavar="N", help="commands shown of each build")
+    parser.add_argument("tree", metavar="TREE|FOLDER", type=Path, help="a folder with a makefile, or one of programs")
+    parser.add_argument("words", nargs="*", metavar="GOAL|NAME=VALUE", help="for make and kati-build alike")
+    return parser
+
+
+def main(argv: Optional[Sequence[str]] = None) -> int:
     try:
-        asked = parser.parse_args()
+        given = options().parse_args(argv)
     except SystemExit as ended:
-        sys.exit(words.WRONG_USAGE if ended.code else 0)
-    return programs.ending("record_commands.py", record, asked)
+        return USAGE if ended.code else 0
+    for name in ("make", "ninja", "bash"):
+        if not shutil.which(name):
+            print(f"record_commands.py: {name} is not on the PATH", file=sys.stderr)
+            return ABSENT
+    if not given.tree.is_dir():
+        print(f"record_commands.py: no folder {given.tree}", file=sys.stderr)
+        return USAGE
+    if given.list:
+        return survey(given)
+    one = found(single(given), given.tree.name or ".", given)
+    print(one.text())
+    return SAME if one.result == "same" else DIFFER
 
 
 if __name__ == "__main__":

@@ -1,14 +1,14 @@
 #!/usr/bin/env python3
-"""Runs a built kati on the cases with each growth, read and write refused in turn.
+"""Runs a built kati on the cases, and refuses each allocation, read and write in turn.
 
-A growth is a call of malloc, calloc or realloc. The Nth is refused, for N from 1 until none is; the Nth read of a
-file fails, and gets one byte; the Nth write fails, takes one byte, and takes none. Of a case with more than 2,000
-growths (or reads, or writes) 2,000 of them are tried, evenly spread. Each outcome must be one that README and
-docs/PROOFS.md allow; scripts/refusing/outcomes.py says which. A wrong one is printed with its case and its call. The
-last lines are figures, and then `N passed, M failed`, by cases.
+An allocation is a call of malloc, calloc or realloc. The Nth is refused, for N from 1 until none is left. The Nth read
+of a file fails, then gets one byte. The Nth write fails, takes one byte, then takes none. Of a case with more than
+2,000 allocations (or reads, or writes) 2,000 are tried, evenly spread. scripts/refusing/outcomes.py has the outcomes
+that the documents allow. A wrong outcome is printed with its case and its call. The last lines are
+figures, and then `N passed, M failed`, by cases.
 
-The calls are counted and refused by a shared object that is put before the C library by LD_PRELOAD; cc compiles it
-from scripts/refusing/refuse.c into a scratch folder. It counts from the program's main on.
+A shared object counts and refuses the calls; LD_PRELOAD puts it before the C library. cc compiles it from
+scripts/refusing/refuse.c into a temporary folder. It counts from the program's main on.
 
 examples:
   scripts/refuse_growths.py crates/kati_program/out/kati_program
@@ -16,10 +16,9 @@ examples:
   scripts/refuse_growths.py --case 'one rule' --case 'empty makefile' --jobs 1 PROGRAM
 
 exit statuses:
-  0  each outcome is one that may be
+  0  each outcome is allowed
   1  an outcome is wrong
-  2  wrong usage, an unknown case, no C compiler, or a program that can't be tried so (one that is linked statically)
-"""
+  2  wrong usage, an unknown case, no C compiler, or a program that cannot be tried (a static one)"""
 import argparse
 import glob
 import os
@@ -162,12 +161,12 @@ def arguments():
     """The command line."""
     parser = argparse.ArgumentParser(description=__doc__, formatter_class=argparse.RawDescriptionHelpFormatter)
     parser.add_argument("program", metavar="PROGRAM", help="the built program, linked dynamically")
-    parser.add_argument("--case", metavar="NAME", action="append", help="only the case of this name; may stand again")
+    parser.add_argument("--case", metavar="NAME", action="append", help="only the case of this name; may be repeated")
     parser.add_argument("--quick", action="store_true", help="only these cases: " + "; ".join(QUICK))
     parser.add_argument("--most", metavar="N", type=natural, default=2000,
                         help="refuse at most N growths, reads and writes of each case (%(default)s)")
     parser.add_argument("--jobs", metavar="N", type=natural, default=os.cpu_count() or 1,
-                        help="cases that are tried at a time (as many as there are processors: %(default)s)")
+                        help="cases at a time (the number of processors: %(default)s)")
     return parser, parser.parse_args()
 
 

@@ -1,8 +1,8 @@
 #!/usr/bin/env python3
 """Runs a built kati on the cases, each in an empty folder of its own.
 
-Cases that fail are printed, then 'N passed, M failed'. docs/CASES.md says how a case is written. What a case doesn't
-name isn't looked at; the names that kati asks for aren't seen from outside.
+It prints the cases that fail, then 'N passed, M failed'. docs/DEVELOPING.md has the format of a case. What a case does
+not name is not compared, and neither are the names of the files that kati tries to read.
 
 examples:
   scripts/run_cases.py crates/kati_program/out/kati_program     all of crates/kati_cases/data
@@ -13,8 +13,8 @@ scripts/try_cases.py tries the cases before a program is built.
 
 exit status:
   0   each case passed
-  1   one failed
-  64  wrong usage, also a case that isn't there"""
+  1   a case failed
+  64  wrong usage, or an unknown case"""
 import argparse
 import glob
 import os
@@ -131,9 +131,9 @@ class Parser(argparse.ArgumentParser):
 def main():
     parser = Parser(description=__doc__, formatter_class=argparse.RawDescriptionHelpFormatter)
     parser.add_argument("program", metavar="PROGRAM", help="the built program")
-    parser.add_argument("--case", action="append", metavar="NAME", help="a case by its name; may stand several times")
+    parser.add_argument("--case", action="append", metavar="NAME", help="only the case of this name; may be repeated")
     parser.add_argument("files", nargs="*", metavar="FILE.cases",
-                        help="files of cases; without one all of the repository")
+                        help="files of cases; without one, all of the repository")
     words = parser.parse_args()
     program, asked = os.path.abspath(words.program), {name.encode() for name in words.case or ()}
     paths = words.files or sorted(glob.glob(os.path.join(DATA, "*.cases")))

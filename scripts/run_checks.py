@@ -4,7 +4,8 @@
     scripts/run_checks.py [--gate COMMAND | --no-gate]
 
 The checks are the gate, `rt ci`, which proves and builds everything; then, on what it built, the tests of the
-tools (tools/tests), of which a short run of refuse_growths.py is one, and check_docs.py. Their lines come through
+tools (tools/tests), of which a short run of refuse_growths.py is one, the tests of the package katibuild
+(tools/katibuild_tests), and check_docs.py. Their lines come through
 as they are written. Each ends with a line `N passed, M failed` or `N passed, M failed, K skipped`; one that ends
 without such a line, or with another status than 0 and no failure, counts as one failure. Where tests were skipped,
 a line before the last says how many; which and why is among the lines of the check.
@@ -71,6 +72,7 @@ def checks(gate):
     if gate:
         yield gate
     yield [sys.executable, "tools/tests"]
+    yield [sys.executable, "tools/katibuild_tests"]
     yield [sys.executable, "scripts/check_docs.py"]
 
 

@@ -1,13 +1,13 @@
 #!/usr/bin/env python3
-"""Tries shorter proofs: one call of a tactic in the place of what is written out over several lines.
+"""Replaces proofs of several lines by one call of a tactic, where the checker accepts it.
 
 Each equation of a crate's lemmas that takes several lines, or with --answers of its answers, is tried as
-`grind (arith, ..)` and then as `search (rules, ..)`, with the lemmas that it names. What the check refuses is put back.
-The work tree is changed. All that stays passes the check with half of the search's limits; imports that nothing uses
-are dropped by `rt check --fix-imports`. A definition isn't touched, as its text is more than a proof.
+`grind (arith, ..)` and then as `search (rules, ..)`, with the lemmas that it names. What the checker refuses is put
+back. What stays passes with half of the search's limits; `rt check --fix-imports` drops imports that nothing uses.
+Definitions stay as they are. The script changes the work tree.
 
-A check of all of a crate after each round takes long. With --only, the check is of that function alone: one that
-calls little, and whose answers name a lemma of each file by a `use` line, so that all lemmas are checked with it.
+It checks the crate after each round, which takes long. --only checks one function instead. Choose one that calls
+little, and whose answers name a lemma of each file by a `use` line, so that all lemmas are checked with it.
 
 examples:
   scripts/shorter_proofs.py kt_list
@@ -16,7 +16,7 @@ examples:
 
 exit status:
   0   the check passes
-  1   it doesn't
+  1   it does not
   2   wrong usage"""
 import argparse
 import subprocess
@@ -39,8 +39,8 @@ def parser():
     """The command line."""
     made = argparse.ArgumentParser(description=__doc__, formatter_class=argparse.RawDescriptionHelpFormatter)
     made.add_argument("crate", metavar="CRATE")
-    made.add_argument("--answers", action="store_true", help="answers, in place of lemmas")
-    made.add_argument("--only", metavar="FUNCTION", help="check this function alone")
+    made.add_argument("--answers", action="store_true", help="try answers instead of lemmas")
+    made.add_argument("--only", metavar="FUNCTION", help="check only this function")
     made.add_argument("--jobs", type=int, default=2, help="jobs of each check")
     return made
 
@@ -57,7 +57,7 @@ def main():
     trial = rounds.Rounds(crate, [rounds.ProofFile(path, words) for path in paths], command,
                           lambda line: print(f"{asked.crate}: {line}", flush=True))
     passes = trial.run()
-    print(f"{asked.crate}: {trial.gained()} lines fewer" if passes else f"{asked.crate}: the check doesn't pass")
+    print(f"{asked.crate}: {trial.gained()} lines fewer" if passes else f"{asked.crate}: the check does not pass")
     return 0 if passes else 1
 
 

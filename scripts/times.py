@@ -1,20 +1,20 @@
 #!/usr/bin/env python3
-"""Times the built kati beside ckati, make and ninja, and prints the tables of docs/BENCHMARKS.md.
+"""Times the built kati next to ckati, make and ninja, and prints the tables of docs/BENCHMARKS.md.
 
-TABLE is one of translating, units, layers, text, reading, hostile; all of them without one. Every makefile is made by
-scripts/large_makefiles.py. The tools run in turn, side by side, and the least time of the runs counts; the memory is
-the most that any run took. Needed are /usr/bin/time and, for their columns, the Debian packages ckati, make and
-ninja-build. kati gets a stack of 8 MB, and the others one of 1 GB, without which ckati doesn't end on a chain of
-100,000 targets. --small takes a hundredth of each size, to try the script. The table "units" wants a C compiler, which
-makes the object that counts the allocations, and valgrind, which counts the instructions: both figures are the same at
-each run.
+TABLE is one of translating, units, layers, text, reading, hostile, files, nothing; without one, all tables are made.
+scripts/large_makefiles.py makes the makefiles. The tools run in turn. The least time of the runs counts, and the most
+memory. kati has a stack of 8 MB, the others 1 GB, because ckati needs it for a chain of 100,000 targets.
+
+Needed are /usr/bin/time and, for their columns, the Debian packages ckati, make and ninja-build. The table "units"
+needs a C compiler for the object that counts allocations, and valgrind, which counts instructions. Both counts are the
+same in each run.
 
 examples:
   scripts/times.py                      all tables
-  scripts/times.py --runs 1 hostile     one of them, each case once
-  scripts/times.py --small              to try the script
-  scripts/times.py --record units       puts the table into docs/BENCHMARKS.md, too
-  scripts/times.py --picture            docs/times.svg from the first table of docs/BENCHMARKS.md
+  scripts/times.py --runs 1 hostile     one table, each case once
+  scripts/times.py --small              a hundredth of each size, to try the script
+  scripts/times.py --record units       also puts the table into docs/BENCHMARKS.md
+  scripts/times.py --picture            draws docs/times.svg from the first table of docs/BENCHMARKS.md
 
 exit status:
   0   the tables are printed
@@ -22,28 +22,25 @@ exit status:
 import argparse
 import os
 import re
-import resource
 import shutil
-import signal
 import subprocess
 import sys
 import tempfile
-import threading
-import time
 from pathlib import Path
 
 sys.dont_write_bytecode = True
 import large_makefiles as large
 from refusing.runs import CannotTry, Record, RECORD, built_object
-from timing import picture, recording
+from timing import ninja_files, nothing, picture, recording
+from timing.tools import LIST, MEGABYTE, Tool, ratio, run_all, write
 
 ROOT = Path(__file__).resolve().parent.parent
 BUILT = ROOT / "crates/kati_program/out/kati_program"
+BUILT_ASKED = ROOT / "crates/kati_asked/out/kati_asked"
 FIGURES, PICTURE = ROOT / "docs/BENCHMARKS.md", ROOT / "docs/times.svg"
-MEGABYTE = 2**20
 # How often the memory of a unit is measured.
 PEAKS = 3
-LIST, PLAN = "files.txt", "plan.ninja"
+PLAN = "plan.ninja"
 MAKE = ["make", "-n", "-r", "-R"]
 CKATI = ["ckati", "--ninja", "--no_builtin_rules", "-f", "Makefile"]
 
@@ -87,56 +84,6 @@ HOSTILE = [
 ]
 
 
-class Tool:
-    """A command, with the least time and the most memory that its runs took."""
-
-    def __init__(self, name, words, stack):
-        self.name, self.words, self.stack = name, words, stack
-        self.seconds, self.bytes, self.status = None, 0, None
-        self.before = None
-
-    def next_size(self):
-        """Forgets the runs, but for the time by which growth is told, and that there was no end."""
-        self.before, self.seconds, self.bytes = self.seconds, None, 0
-        self.status = "no end" if self.status == "no end" else None
-
-    def run(self, folder, limit):
-        """One run, whose output goes to a file beside the makefile."""
-        if self.status == "no end":
-            return
-        note = folder / "memory.txt"
-        words = ["/usr/bin/time", "-q", "-f", "%M", "-o", str(note), *self.words]
-        with open(folder / f"{self.name}.out", "wb") as out:
-            start = time.perf_counter()
-            process = subprocess.Popen(words, cwd=folder, stdin=subprocess.DEVNULL, stdout=out,
-                                       stderr=subprocess.DEVNULL, start_new_session=True, preexec_fn=self.take_stack)
-            # A wait with a limit of its own looks only every 50 milliseconds.
-            ends = threading.Timer(limit, os.killpg, (process.pid, signal.SIGKILL))
-            ends.start()
-            status = process.wait()
-            seconds = time.perf_counter() - start
-            ends.cancel()
-        if seconds >= limit:
-            self.status, self.seconds = "no end", None
-            return
-        self.status = status
-        self.seconds = seconds if self.seconds is None else min(self.seconds, seconds)
-        self.bytes = max(self.bytes, int(note.read_text().split()[-1]) * 1024)
-
-    def take_stack(self):
-        resource.setrlimit(resource.RLIMIT_STACK, (self.stack, resource.getrlimit(resource.RLIMIT_STACK)[1]))
-
-    def told(self):
-        """Milliseconds and megabytes; with the status where it isn't 0."""
-        if self.seconds is None:
-            return str(self.status or "-")
-        failed = f", status {self.status}" if self.status else ""
-        return f"{self.seconds * 1000:,.0f} ({self.bytes / MEGABYTE:.0f}){failed}"
-
-    def growth(self):
-        return "" if self.before is None or self.seconds is None else f"{self.seconds / self.before:.1f}"
-
-
 def tools(asked, with_ckati=True):
     """kati, ckati and make, as far as they are there."""
     found = [Tool("kati", [asked.kati, "-f", "Makefile", "--files", LIST], 8 * MEGABYTE)]
@@ -145,28 +92,6 @@ def tools(asked, with_ckati=True):
     if shutil.which("make"):
         found.append(Tool("make", MAKE, 1024 * MEGABYTE))
     return found
-
-
-def write(folder, files, sources):
-    """Writes the files, an empty file for each source, and the list of the sources; answers the bytes of the
-    makefiles."""
-    for name, text in {**files, **dict.fromkeys(sources, ""), LIST: "\n".join([*sources, ""])}.items():
-        (folder / name).parent.mkdir(parents=True, exist_ok=True)
-        (folder / name).write_text(text)
-    return sum(len(text) for text in files.values())
-
-
-def run_all(found, folder, asked):
-    """Runs the tools in turn; one that took long enough that its next runs would tell nothing new isn't run again."""
-    for number in range(asked.runs):
-        for tool in found:
-            if number == 0 or tool.seconds is not None and tool.seconds < asked.seconds / 10:
-                tool.run(folder, asked.seconds)
-
-
-def ratio(one, other, part):
-    values = getattr(one, part), getattr(other, part)
-    return f"{values[0] / values[1]:.2f}" if all(values) else "-"
 
 
 def compare(rows, asked):
@@ -305,6 +230,8 @@ TABLES = {
     "text": ("Text functions", lambda asked: compare(TEXT, asked)),
     "reading": ("Reading a Ninja file", read_back),
     "hostile": ("Hostile makefiles", hostile),
+    "files": ("The Ninja files of kati and ckati", lambda asked: ninja_files.print_table(asked, CKATI)),
+    "nothing": ("A build with nothing to do", nothing.print_table),
 }
 
 
@@ -321,23 +248,25 @@ def main():
     parser = argparse.ArgumentParser(description=__doc__, formatter_class=argparse.RawDescriptionHelpFormatter)
     parser.add_argument("tables", nargs="*", metavar="TABLE", choices=[[], *TABLES], help=", ".join(TABLES))
     parser.add_argument("--kati", default=str(BUILT), metavar="PROGRAM", help="the built program")
+    parser.add_argument("--kati-asked", default=str(BUILT_ASKED), metavar="PROGRAM",
+                        help="the built kati-asked, for the table `nothing`")
     parser.add_argument("--runs", type=int, default=3, metavar="N", help="runs of each, 3 without it")
     parser.add_argument("--seconds", type=int, default=60, metavar="N",
-                        help="the most that a run may take, 60 without it")
+                        help="the limit of a run; 60 without it")
     parser.add_argument("--small", action="store_true", help="a hundredth of each size")
     parser.add_argument("--picture", action="store_true",
                         help="draw docs/times.svg from docs/BENCHMARKS.md, and run nothing")
     parser.add_argument("--record", action="store_true",
-                        help="puts each table into docs/BENCHMARKS.md in the place of the one of before")
+                        help="put each table into docs/BENCHMARKS.md")
     asked = parser.parse_args()
     if asked.record and asked.small:
         parser.error("--record wants the sizes of the document")
     if asked.picture:
         PICTURE.write_text(picture.draw(picture.rows_of(FIGURES.read_text())))
         return
-    asked.kati = os.path.abspath(asked.kati)
+    asked.kati, asked.kati_asked = map(os.path.abspath, (asked.kati, asked.kati_asked))
     if not os.access(asked.kati, os.X_OK):
-        sys.exit(f"{asked.kati} isn't built: (cd crates/kati_program && rt run -- --help > /dev/null)")
+        sys.exit(f"{asked.kati} is not built: (cd crates/kati_program && rt run -- --help > /dev/null)")
     for name in asked.tables or TABLES:
         title, print_table = TABLES[name]
         print(f"## {title}\n", flush=True)

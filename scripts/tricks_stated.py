@@ -1,20 +1,20 @@
 #!/usr/bin/env python3
-"""The table of what is done for speed in docs/BENCHMARKS.md, made from the heads of the modules that do it.
+"""Writes docs/TRICKS.md, the table of what is done for speed, from the heads of the modules that do it.
 
-A head is the lines //! that a module of crates/*/src begins with. Each trick stands there, and nowhere else by hand:
+A head is the lines //! at the beginning of a module of crates/*/src. A trick is described only there:
 
     //! Fast: a name is hashed in one write, and looked up before it is copied. Spares half of a look-up of a long name.
 
-It has at most three such lines, of fewer than 120 columns, and ends where another one begins, or the head. The table
-has the crates in the order of crates.txt. scripts/check_docs.py compares it as its check `tricks`.
+A trick has at most three such lines of fewer than 120 columns, and ends at the next trick or with the head. The table
+has the crates in the order of crates.txt. The check `tricks` of scripts/check_docs.py compares it.
 
 examples:
-  scripts/tricks_stated.py             says where the table isn't what the heads say
-  scripts/tricks_stated.py --write     puts the table into docs/BENCHMARKS.md, between two comments
+  scripts/tricks_stated.py             prints how docs/TRICKS.md and the heads differ
+  scripts/tricks_stated.py --write     writes docs/TRICKS.md
 
 exit status:
-  0   the table is what the heads say, or it was written
-  1   it isn't, or a head has a trick of another form
+  0   docs/TRICKS.md is what the heads say, or was written
+  1   it is not, or a head has a trick of another form
   64  wrong usage"""
 import argparse
 import re
@@ -22,9 +22,17 @@ import sys
 from pathlib import Path
 
 ROOT = Path(__file__).resolve().parent.parent
-DOCUMENT = "docs/BENCHMARKS.md"
-BEGIN, END = "<!-- made by scripts/tricks_stated.py --write -->\n", "<!-- made up to here -->\n"
-TITLES = "| What is done in all cases | What it spares | In |\n|---|---|---|\n"
+DOCUMENT = "docs/TRICKS.md"
+BEGINNING = """\
+<!-- made by scripts/tricks_stated.py --write -->
+# What is done for speed
+
+Each row is a line `//! Fast: .. Spares ..` at the head of a module. docs/BENCHMARKS.md has the times. docs/DESIGN.md
+says how the modules work together.
+
+| What is done | What it spares | Module |
+|---|---|---|
+"""
 HEAD = re.compile(r"(?://!.*\n)*")
 TRICK = re.compile(r"Fast: (.+)\. Spares (.+)\.")
 MARK, WIDTH, MOST = "//! Fast:", 120, 3
@@ -51,7 +59,7 @@ def modules(root):
 
 
 def cells(lines):
-    """What is done and what it spares, by the lines of a trick; none where these have another form."""
+    """What a trick does and what it spares; None if its lines have another form."""
     told = TRICK.fullmatch(" ".join(line[len("//!"):].strip() for line in lines))
     fits = len(lines) <= MOST and max(map(len, lines)) < WIDTH
     return told.groups() if told and fits and not any("|" in line for line in lines) else None
@@ -67,43 +75,29 @@ def rows(root):
 
 
 def misshapen(root):
-    """The modules with a trick of another form, with the first line of it."""
+    """The modules with a trick of another form, and its first line."""
     for crate, module, head in modules(root):
         for lines in tricks_of(head):
             if not cells(lines):
                 yield f"crates/{crate}/src/{module}: {lines[0]}"
 
 
-def parts(root):
-    """The document before the table, the table, and what comes after it; none where the two comments aren't there."""
-    text = (root / DOCUMENT).read_text(encoding="utf-8")
-    before, begin, rest = text.partition(BEGIN)
-    table, end, after = rest.partition(END)
-    return (before + begin, table, end + after) if begin and end else None
+def document(root):
+    """The document that the heads make."""
+    return BEGINNING + "".join(rows(root))
 
 
 def differing(root):
-    """Where heads and table differ, a line each."""
+    """How the document and the heads differ, a line each."""
     yield from misshapen(root)
-    found = parts(root)
-    if found is None:
-        yield f"{DOCUMENT} has no place for the table: {BEGIN.strip()} .. {END.strip()}"
+    path = root / DOCUMENT
+    wanted, found = document(root), path.read_text(encoding="utf-8") if path.is_file() else ""
+    if found == wanted:
         return
-    wanted, told = [TITLES, *rows(root)], found[1]
-    if told == "".join(wanted):
-        return
-    lines = told.splitlines()
-    yield from (f"not in the table: {row.strip()}" for row in wanted[1:] if row.strip() not in lines)
-    yield from (f"in no head: {row}" for row in lines[2:] if row + "\n" not in wanted)
-    yield f"scripts/tricks_stated.py --write puts the table into {DOCUMENT}"
-
-
-def write(root):
-    """Puts the table into the document, if there is a place for it."""
-    found = parts(root)
-    if found:
-        text = found[0] + TITLES + "".join(rows(root)) + found[2]
-        (root / DOCUMENT).write_text(text, encoding="utf-8")
+    lines, others = wanted.splitlines(), found.splitlines()
+    yield from (f"not in {DOCUMENT}: {line}" for line in lines if line not in others)
+    yield from (f"in no head: {line}" for line in others if line not in lines)
+    yield f"scripts/tricks_stated.py --write writes {DOCUMENT}"
 
 
 class Parser(argparse.ArgumentParser):
@@ -116,13 +110,13 @@ class Parser(argparse.ArgumentParser):
 
 def main():
     parser = Parser(description=__doc__, formatter_class=argparse.RawDescriptionHelpFormatter)
-    parser.add_argument("--write", action="store_true", help=f"put the table into {DOCUMENT}")
+    parser.add_argument("--write", action="store_true", help=f"write {DOCUMENT}")
     parser.add_argument("--root", metavar="FOLDER", default=str(ROOT),
-                        help="the repository; without it that of this script")
+                        help="the repository; without this option, that of the script")
     asked = parser.parse_args()
     root = Path(asked.root).resolve()
     if asked.write:
-        write(root)
+        (root / DOCUMENT).write_text(document(root), encoding="utf-8")
     troubles = list(differing(root))
     for line in troubles:
         print(line)

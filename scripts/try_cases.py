@@ -1,14 +1,14 @@
 #!/usr/bin/env python3
-"""Tries the cases over memory before anything is proved: builds crates/kati_cases by `rt try`, and runs it.
+"""Tries the cases in memory, before anything is proved: builds crates/kati_cases with `rt try`, and runs it.
 
-All cases are tried, or those of the files named, or those with the names that --case gives. Cases that fail are
-printed, each with what it fails by (status, output, error output, names asked for), then `N passed, M failed`, with
-`, K skipped` where cases want a host: scripts/run_cases.py runs those by the built program. docs/CASES.md says how a
-case is written. Where all cases are tried, the stored run crates/kati_cases/stdout is compared as well: a line that it
-lacks, or that no case prints, is a failure.
+It tries all cases, those of the named files, or those of --case. It prints each case that fails with the part that
+differs (status, output, error output, names asked for), then `N passed, M failed`. `K skipped` counts cases that need a
+host: scripts/run_cases.py runs these with the built program. docs/DEVELOPING.md has the format of a case. With all
+cases, the stored run crates/kati_cases/stdout is compared, too: a line that it lacks, or that no case prints, is a
+failure.
 
-`rt try` compiles the crates with checks and proves nothing. That takes two to three minutes of a processor, whatever
-is tried, since it keeps nothing.
+`rt try` compiles the crates with checks and proves nothing. It keeps nothing, and takes two to three processor minutes
+each time.
 
 examples:
   scripts/try_cases.py                                 all of crates/kati_cases/data
@@ -17,9 +17,9 @@ examples:
 
 exit status:
   0   each case passed, and the stored run is that of the cases
-  1   one failed, or the stored run is another
-  2   nothing was tried: the program wasn't built, or stopped
-  64  wrong usage, also a file or a case that isn't there"""
+  1   a case failed, or the stored run differs
+  2   nothing was tried: the program was not built, or stopped
+  64  wrong usage, or an unknown file or case"""
 import argparse
 import difflib
 import re
@@ -123,10 +123,10 @@ def compare_with_stored(lines):
 
 def main():
     parser = Parser(description=__doc__, formatter_class=argparse.RawDescriptionHelpFormatter)
-    parser.add_argument("--case", action="append", metavar="NAME", help="a case by its name; may stand several times")
+    parser.add_argument("--case", action="append", metavar="NAME", help="only the case of this name; may be repeated")
     parser.add_argument("--rt", default="rt", metavar="COMMAND", help="the toolchain's command; rt without it")
     parser.add_argument("--seconds", type=int, default=300, metavar="N",
-                        help="the most that the program may take, 300 without it")
+                        help="the limit of the program; 300 without it")
     parser.add_argument("files", nargs="*", metavar="FILE.cases",
                         help="files of cases, under names that crates/kati_cases reads; without one all")
     words = parser.parse_args()

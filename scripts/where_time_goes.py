@@ -1,13 +1,13 @@
 #!/usr/bin/env python3
-"""Tells what the built kati's time goes into, case by case, in a table that stands in no document.
+"""Shows where the built kati's time goes, case by case, in a table that is in no document.
 
-Each case of the table "The whole program" of docs/BENCHMARKS.md is run at half its larger size under `perf record`
-(Debian's package linux-perf), and each sample is put to the first group that its function belongs to. The shares are
-hundredths of a run's samples; those below one are left out. --small takes a hundredth of each size, to try the script.
+Each case of the table "The whole program" of docs/BENCHMARKS.md runs at half its larger size under `perf record`
+(Debian's package linux-perf). Each sample counts for the first group that its function belongs to. Shares are in
+percent of a run's samples; those below one percent are left out.
 
 examples:
   scripts/where_time_goes.py            the table, of the built program
-  scripts/where_time_goes.py --small    to try the script
+  scripts/where_time_goes.py --small    a hundredth of each size, to try the script
 
 exit status:
   0   the table is printed

@@ -1,22 +1,23 @@
 #!/usr/bin/env python3
-"""Tries the wrong bodies of crates, many at a time: each must be refused by the prover.
+"""Tries the wrong bodies of crates, many at a time: the prover must refuse each.
 
 An edit is a file of crates/CRATE/wrong-bodies, NAME.edit: a line 'file: src/x.rt', then pairs of lines 'old: TEXT' and
-'new: TEXT', each old text standing once in the file. A round applies edits of different functions to one copy of the
-repository with what earlier checks kept, runs one check, and reads whom it blames. An edit is
+'new: TEXT'. Each old text is in the file exactly once. A round copies the repository with what earlier checks kept,
+applies edits of different functions, runs one check, and reads which functions the check blames. An edit is
 
-    refused      its function is blamed for a goal of its own
-    no evidence  it is, but it has answers by hand, to which another shape of its body (its branches, ways out and
-                 calls) may be enough, and the edit changes that: NAME.control of wrong-bodies, which has the new shape
-                 and means the same, isn't let through or isn't there
-    let through  its function is proved although it was edited, or nothing but its callees kept it from being proved
-    no refusal   the edited code doesn't compile, only a name of a proof file went away, or the check gives no verdict:
-                 it wants another body
+    refused      the check blames its function for a goal of the function's own
+    no evidence  the check blames it, but the function is proved by hand (Invariants.antt counts) or by lemmas that its
+                 attribute names; the edit changes the shape of the body (branches, ways out, calls), which may be
+                 enough for a refusal; and NAME.control of wrong-bodies, which has the new shape and the old meaning, is
+                 absent or not let through
+    let through  its function is proved in spite of the edit, or only its callees kept it from being proved
+    no refusal   the edited code does not compile, only a name of a proof file is gone, or the check gives no verdict:
+                 write another body
 
-An edit of a type, of a constant or of a function of a cycle has a round to itself. A function that couldn't be judged,
-since one that it calls was edited too, comes again in a later round without that one. After a round without a verdict
-that names no place, half of its edits are tried, until the one is found by which there is none. The work tree isn't
-touched. What came of an edit is printed as soon as it is known.
+An edit of a type, of a constant or of a function of a cycle has a round to itself. A function that calls an edited
+function may not be judged; its edit is tried again in a later round. After a round without a verdict that names no
+place, half of its edits are tried, until the edit that prevents the verdict is found. The work tree stays as it is. The
+result of an edit is printed as soon as it is known.
 
 examples:
   scripts/wrong_bodies.py                       all of wrong-bodies/

@@ -6,6 +6,7 @@ HEADER = re.compile(r"^(\s*)(?:pub(?:\([a-z]+\))? )?(?:const )?(?:unsafe )?fn (\
 IMPL = re.compile(r"^(\s*)impl(?:<.*?>)? (?:(?P<trait>[\w:]+)(?:<(?P<of>[^>]*)>)? for )?(?P<type>\w+)")
 BEFORE = re.compile(r"\s*(#\[|///|//)")
 CYCLE = re.compile(r"\s*#\[cycle\(")
+NAMED_LEMMAS = re.compile(r"\s*#\[tactic\(.*\b(?:using|unfolding)\(")
 # What answers by hand are named after: branches, ways out and calls.
 TEXT = re.compile(r"""b?"(?:[^"\\]|\\.)*"|b?'(?:[^'\\]|\\.)'""")
 SHAPE = re.compile(r"\b(?:if|else|match|loop|while|for|return|break|continue)\b|=>|\?|&&|\|\||\w+(?=!?\()")
@@ -18,7 +19,7 @@ class Edit:
     def __init__(self, name, file, pairs, control=None):
         self.name, self.file, self.pairs, self.control = name, file, pairs, control
         self.outcome, self.why, self.rounds = None, "", 0
-        self.owners, self.is_in_cycle = [], False
+        self.owners, self.is_in_cycle, self.has_named_lemmas = [], False, False
 
     def applied(self, text):
         """The text with the edit, after noting whose code it changes; None where an old text isn't there once."""
@@ -29,7 +30,9 @@ class Edit:
             at = text.index(old)
             self.owners.append(owner(text, at))
             text = text[:at] + new + text[at + len(old):]
-        self.is_in_cycle = any(name is not None and is_in_cycle(text, name) for name in self.owners)
+        names = [name for name in self.owners if name is not None]
+        self.is_in_cycle = any(has_attribute(text, name, CYCLE) for name in names)
+        self.has_named_lemmas = any(has_attribute(text, name, NAMED_LEMMAS) for name in names)
         return text
 
     def keeps_shape(self):
@@ -119,10 +122,10 @@ def span(text, name):
     return 0, 0
 
 
-def is_in_cycle(text, name):
-    """Whether a function is one of a cycle, by its attribute."""
+def has_attribute(text, name, attribute):
+    """Whether a function has such an attribute."""
     first, last = span(text, name)
-    return any(CYCLE.match(line) for line in text.split("\n")[max(first - 1, 0):last])
+    return any(attribute.match(line) for line in text.split("\n")[max(first - 1, 0):last])
 
 
 def module_of(crate, file):

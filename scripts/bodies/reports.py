@@ -6,8 +6,6 @@ ONLY_A_NAME = re.compile(r"has no field|can be named from here|is not in scope|n
 STATE = re.compile(r"(?:fn|impl|struct|enum) (\S+): (.*)")
 NOTE = re.compile(r"(?:note: |error: )?(?:\./)?(src/\S+?\.rt):(\d+):\d+: (.*)")
 ANSWER = re.compile(r"\./proofs/(\S+)/\w+\.antt:\d+:\d+: error: (.*)")
-# What a file of proofs is called that has no answers: the order of a cycle and what loops keep.
-INVARIANTS = "Invariants.antt"
 
 
 class Report:
@@ -77,14 +75,14 @@ def folder_of(path):
 
 
 def is_by_hand(crate, path):
-    """Whether answers of a function are written by hand, in the folder `crate`: then any other shape of its body, also
-    one that means the same, may be refused."""
+    """Whether answers of a function, or what its loops keep, are written by hand, in the folder `crate`: then any other
+    shape of its body, also one that means the same, may be refused."""
     folder = crate / "proofs" / folder_of(path)
-    if any(one.name != INVARIANTS for one in folder.glob("*.antt")):
+    if any(folder.glob("*.antt")):
         return True
-    answer = re.compile(rf"^(?:[a-z]+ )*{re.escape(folder.name)}-", re.MULTILINE)
-    shared = [one for one in folder.parent.glob("+*/*.antt") if one.name != INVARIANTS]
-    return any(answer.search(one.read_text(encoding="utf-8")) for one in shared)
+    # Of a cycle all stands in one folder. That a call goes down is asked of every body.
+    answer = re.compile(rf"^(?:[a-z]+ )*(?:invariant-)?{re.escape(folder.name)}-", re.MULTILINE)
+    return any(answer.search(one.read_text(encoding="utf-8")) for one in folder.parent.glob("+*/*.antt"))
 
 
 def check(crate, jobs):

@@ -42,8 +42,9 @@ class Trial:
     """The wrong bodies of one crate; `tell` is called with each as soon as it is known what came of it.
 
     In a cycle of functions the blame goes to each of them, so an edit of such a function is tried alone. Of a function
-    with answers by hand any other shape of the body may be refused, so an edit that changes the shape counts as refused
-    only where a control, which has that shape and means the same, is let through."""
+    that is proved by hand, or by lemmas that its attribute names, any other shape of the body may be refused. An edit
+    that changes the shape counts as refused only where a control, which has that shape and means the same, is let
+    through."""
 
     def __init__(self, root, crate, tried, jobs, tell):
         self.root, self.crate, self.tried, self.jobs, self.tell = root, crate, tried, jobs, tell
@@ -86,15 +87,21 @@ class Trial:
 
     def refused(self, edit, why, paths):
         """An edit is refused: that counts, unless a control has to be asked."""
-        counts = id(edit) in self.by_control or edit.keeps_shape()
-        if counts or not any(reports.is_by_hand(self.folder, path) for path in paths):
+        how = self.how_proved(edit, paths)
+        if id(edit) in self.by_control or edit.keeps_shape() or how is None:
             self.end(edit, REFUSED, why)
         elif edit.control is None:
-            self.end(edit, NO_EVIDENCE, f"proved by hand, and no control is beside it; {why}")
+            self.end(edit, NO_EVIDENCE, f"{how}, and no control is beside it; {why}")
         else:
             edit.why = why
             self.waiting[self.waiting.index(edit)] = edit.control
             self.by_control[id(edit.control)] = edit
+
+    def how_proved(self, edit, paths):
+        """How the functions are proved whose proof may fit one shape alone; None where no other shape is refused."""
+        if any(reports.is_by_hand(self.folder, path) for path in paths):
+            return "proved by hand"
+        return "proved by named lemmas" if edit.has_named_lemmas else None
 
     def candidates(self):
         """The edits that a round may take: the half of those among which one is the trouble, else all that wait."""

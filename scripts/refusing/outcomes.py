@@ -1,15 +1,14 @@
-"""What a run of kati may do of which one call was refused.
+"""What a run of kati may do if one of its calls was refused.
 
-The rules are those of README, "Status", and of docs/PROOFS.md, `run` and `whole`:
+The rules are those of the exit statuses in docs/LANGUAGE.md, and of `run` and `whole` in docs/PROOFS.md:
 
-- Out of memory: status 4, nothing on the output, the line alone on the error output; the messages come before it
-  where the file of `--check` was being read.
-- A file that can't be read: status 3, the same with the line of that file's name.
-- A failure of the output: status 3. It has a prefix of its text, the error output all of its and then the line.
-- A failure of the error output: status 3. It has a prefix of its text and then the line; the output has nothing.
-- Lines that tell of a failure, and what is told where the words ask for no run, leave the status as it is where they
-  can't be written.
-- A read or write of fewer bytes than asked for is no failure; a write that takes nothing is one.
+- Out of memory: status 4. Standard output is empty, standard error has only the line of the status. If the file of
+  `--check` was being read, the messages come before the line.
+- A file that cannot be read: status 3, and the same with the line that names the file.
+- Standard output fails: status 3. It has a prefix of its text; standard error has all of its text and then the line.
+- Standard error fails: status 3. It has a prefix of its text and then the line; standard output is empty.
+- If the line about a failure, or the message about wrong arguments (status 64), cannot be written, the status stays.
+- A read or write of fewer bytes than asked for is no failure. A write that takes nothing is one.
 """
 from collections import namedtuple
 

@@ -1,4 +1,4 @@
-"""What may stand in the place of a proof: one call of a tactic, with the lemmas that the proof names."""
+"""What may replace a proof: one call of a tactic, with the lemmas that the proof names."""
 import re
 
 from . import proof_files

@@ -1,4 +1,4 @@
-"""Tries calls of tactics in the place of proofs, many at a time, and puts back what the check refuses."""
+"""Replaces proofs by calls of tactics, many at a time, and puts back what the check refuses."""
 import re
 import subprocess
 

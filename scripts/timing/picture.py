@@ -1,4 +1,4 @@
-"""The picture of docs/BENCHMARKS.md: time and memory of kati beside ckati and make, drawn from the table there."""
+"""The picture of docs/BENCHMARKS.md: time and memory of kati next to ckati and make, drawn from its table."""
 import re
 from collections import namedtuple
 from html import escape
@@ -74,11 +74,11 @@ def draw(rows):
     width, height = LABELS + 2 * (PANEL + GAP), TOP + ROW * len(rows) + 12
     lines = [f'<svg xmlns="http://www.w3.org/2000/svg" width="{width}" height="{height}" font-family="sans-serif" '
              'font-size="12" role="img">',
-             "<title>Time and memory of kati beside ckati and make</title>",
+             "<title>Time and memory of kati next to ckati and make</title>",
              f'<rect width="{width}" height="{height}" fill="#ffffff"/>',
              *legend(),
              *panel("Time, over the faster of ckati and make", lefts["time"], height),
-             *panel("Peak memory, over ckati's (a chain: make's)", lefts["memory"], height)]
+             *panel("Peak memory, over that of ckati", lefts["memory"], height)]
     for place, row in enumerate(rows):
         top = TOP + place * ROW
         lines.append(f'<text x="12" y="{top + 15}">{escape(row.label.replace("`", ""))}</text>')

@@ -1,4 +1,4 @@
-"""Puts tables that a script printed into a document, each in the place of the first one below its title."""
+"""Puts tables that a script printed into a document: each replaces the first table below its title."""
 import contextlib
 import io
 import re

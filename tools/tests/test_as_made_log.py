@@ -1,4 +1,4 @@
-"""What kati-build says of files that stand there, and what --as-made writes, refuses and leaves."""
+"""What kati-build says of files that exist before a first build, and what it writes of them, refuses and leaves."""
 import os
 import unittest
 
@@ -62,26 +62,29 @@ class FirstBuilds(Tree):
         self.assertEqual(ran.status, 0, ran.all)
         return ran.said
 
-    def test_what_is_made_anew_is_told_before_ninja_starts(self):
-        self.assertEqual(self.build(), "kati-build: files that stand here and are made anew, since ninja has no log of "
-                                       "them: 2; --as-made takes them as made\n")
+    def test_what_exists_is_told_before_ninja_starts(self):
+        self.assertEqual(self.build(), "kati-build: files that exist and stay as they are: 2\n")
         self.assertEqual(self.build(), "")
 
     def test_by_ninjas_words_it_is_told_of_what_it_makes(self):
         for words in (["-n"], ["-t", "targets"], ["--version"], ["-nv", "out"]):
             self.assertEqual(self.build("--", *words), "", words)
-        self.assertIn(" of them: 1; ", self.build("--", "-j", "2", "out"))
+            os.unlink(self.top / "build.kati/.ninja_log")
+        self.assertEqual(self.build("--", "-j", "2", "out"), "kati-build: files that exist and stay as they are: 1\n")
 
     def test_what_is_made_at_each_run_does_not_count(self):
         self.write(clean="")
         self.assertEqual(self.build("clean"), "")
 
-    def test_as_made_has_ninja_make_what_make_makes(self):
-        os.unlink(self.top / "other")
-        self.assertEqual(self.build("--no-ninja", "--as-made"),
-                         "kati-build: --as-made: files that stand here and are taken as made: 1\n")
-        self.assertEqual(self.made_anew(lambda: self.ninja()), ["other"])
-        self.assertIn("no work to do", self.ninja())
+    def test_ninja_makes_what_make_makes(self):
+        for words in ([], ["--as-made"]):
+            self.run_in("make")
+            os.unlink(self.top / "other")
+            self.assertEqual(self.build("--no-ninja", *words),
+                             "kati-build: files that exist and stay as they are: 1\n")
+            self.assertEqual(self.made_anew(lambda: self.ninja()), ["other"])
+            self.assertIn("no work to do", self.ninja())
+            self.assertEqual(self.tool("kati-build", "--remove").status, 0)
 
     def test_a_log_that_is_there_stays(self):
         self.build()
@@ -93,25 +96,33 @@ class FirstBuilds(Tree):
     def test_it_is_refused_beside_another_ninja_file(self):
         self.build("-o", "debug.ninja", "--no-ninja")
         for words in ([], ["-o", "new.ninja"]):
-            ran = self.tool("kati-build", "--as-made", *words)
-            self.assertEqual((ran.status, ran.said), (64, "kati-build: --as-made: debug.ninja is here too, and what "
-                                                          "stands here may be of its words\n"))
-            self.assertFalse((self.top / "build.ninja").exists())
-        self.assertIn("of them: 2\n", self.build())
+            for more in ([], ["--as-made"]):
+                ran = self.tool("kati-build", *more, *words)
+                self.assertEqual((ran.status, ran.said),
+                                 (64, "kati-build: debug.ninja is here too, and the files that exist may be made by "
+                                      "its words\nhelp: kati-build --anew rebuilds everything\n"))
+                self.assertFalse((self.top / "build.ninja").exists())
+        self.assertEqual(self.build("--anew"), "kati-build: files that exist and are rebuilt: out, other\n")
 
-    def test_a_ninja_with_another_log_gets_none(self):
+    def test_a_ninja_with_another_log_is_refused_where_files_exist(self):
         other = self.program("other-ninja", 'ninja "$@" && sed -i "1s/v[0-9]*/v99/" "$2/.ninja_log"')
-        self.assertEqual(self.build("--as-made", "--no-ninja", NINJA=other),
-                         "kati-build: --as-made: the log of this ninja is of no kind that is known, so nothing is "
-                         "taken as made\n")
+        for words in ([], ["--no-ninja"], ["--as-made"]):
+            ran = self.tool("kati-build", *words, NINJA=other)
+            self.assertEqual((ran.status, ran.said),
+                             (64, f"kati-build: the log of {other} is of no kind that is known, so all files that "
+                                  "exist would be rebuilt\nhelp: kati-build --anew rebuilds everything\n"))
+            self.assertFalse((self.top / "build.ninja").exists())
+        self.build("--anew", "--no-ninja", NINJA=other)
         self.assertFalse((self.top / "build.kati/.ninja_log").exists())
 
     def test_a_command_that_is_told_to_differ_gets_no_line(self):
         self.write(Makefile="all: out other\nout: in ; echo '$(.VARIABLES)' > out\nother: in ; cp in other\n")
         self.assertEqual(self.run_in("make").status, 0)
-        said = self.tool("kati-build", "--port", "--as-made", "--no-ninja").said
+        said = self.tool("kati-build", "--port", "--no-ninja").said
         self.assertIn("kati's commands differ", said)
-        self.assertIn("taken as made: 1; made anew by another command than make's: 1\n", said)
+        self.assertIn("kati-build: files that exist and stay as they are: 1\n"
+                      "kati-build: files that exist and are rebuilt: out\n"
+                      "kati-build: rebuilt for another command than make's: 1\n", said)
 
 
 @needs("kati", "kati-asked", "make", "ninja", "cc")

@@ -221,7 +221,7 @@ class Regenerating(Tree):
     def test_an_absent_include_comes_into_being(self):
         for name in ("local.mk", "conf/deep/local.mk"):
             with self.subTest(name):
-                self.write(Makefile=f"-include {name}\nout: ; echo '$(A)' > out\n")
+                self.write(Makefile=f"-include {name}\nout: Makefile ; echo '$(A)' > out\n")
                 self.start()
                 self.assertEqual(self.read("out"), "\n")
                 self.assertIn("no work to do", self.ninja())
@@ -233,7 +233,7 @@ class Regenerating(Tree):
                 self.assertEqual(self.read("out"), "\n")
 
     def test_an_absent_include_of_a_list_in_a_file(self):
-        self.write(Makefile="-include conf/local.mk\nout: ; echo '$(A)' > out\n", list_txt="x.c\n")
+        self.write(Makefile="-include conf/local.mk\nout: Makefile ; echo '$(A)' > out\n", list_txt="x.c\n")
         self.start("--files-from", "list.txt")
         self.put("conf/local.mk", "A = there\n")
         self.ninja()
@@ -250,7 +250,7 @@ class Regenerating(Tree):
 
     def test_an_absent_include_among_many(self):
         names = [f"mk/m{number}.mk" for number in range(1200)]
-        self.write(Makefile=f"A = absent\n-include {' '.join(names)}\nout: ; echo '$(A)' > out\n")
+        self.write(Makefile=f"A = absent\n-include {' '.join(names)}\nout: Makefile ; echo '$(A)' > out\n")
         for name in names[:7] + names[8:]:
             self.put(name, "")
         self.start()
@@ -362,7 +362,7 @@ class Regenerating(Tree):
         # With kati-asked, where it is there, and without it.
         for context in (contextlib.nullcontext(), self.without_asked()):
             with self.subTest(context), context:
-                self.write(Makefile="ARCH = x86\ninclude conf/$(ARCH).mk\nout: ; echo $(A) > out\n",
+                self.write(Makefile="ARCH = x86\ninclude conf/$(ARCH).mk\nout: Makefile ; echo $(A) > out\n",
                            conf__x86_mk="A = one\n")
                 self.start()
                 self.put("conf/x86.mk", "A = two\n")
@@ -373,7 +373,7 @@ class Regenerating(Tree):
     def test_what_kati_asks_for_is_watched_and_nothing_else(self):
         makefile = "ARCH = x86\ndefine read\n-include $(1)/$(ARCH).mk\nendef\n" \
             "$(foreach one,conf more,$(eval $(call read,$(one))))\nifdef NO\ninclude no.mk\nendif\n" \
-            "out: ; echo '$(A) $(B)' > out\n"
+            "out: Makefile ; echo '$(A) $(B)' > out\n"
         self.write(Makefile=makefile, conf__x86_mk="A = one\n", conf__arm_mk="A = no\n", no_mk="")
         self.start()
         watched = self.watched()
@@ -386,8 +386,8 @@ class Regenerating(Tree):
         self.assertIn("more/x86.mk", self.watched())
 
     def test_kati_asked_tells_what_is_watched(self):
-        self.write(Makefile="ARCH = x86\ninclude conf/$(ARCH).mk\nout: ; echo $(A) > out\n", conf__x86_mk="A = one\n",
-                   conf__arm_mk="A = three\n")
+        self.write(Makefile="ARCH = x86\ninclude conf/$(ARCH).mk\nout: Makefile ; echo $(A) > out\n",
+                   conf__x86_mk="A = one\n", conf__arm_mk="A = three\n")
         self.start("--kati-asked", self.program("asked", ASKED))
         self.assertIn("conf/x86.mk", self.watched())
         self.assertNotIn("conf/arm.mk", self.watched())

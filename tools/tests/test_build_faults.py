@@ -95,10 +95,10 @@ class Faults(Tree):
 
     @needs("kati-asked")
     def test_a_run_that_is_killed_before_it_cuts_off_the_names(self):
-        self.write(Makefile="out: ; echo > out\n")
+        self.write(Makefile="out: Makefile ; echo > out\n")
         self.one_line(self.tool("kati-build"), 0)
         before = self.read("build.kati/translated.ninja")
-        self.put("Makefile", "out: ; echo 2 > out\n")
+        self.put("Makefile", "out: Makefile ; echo 2 > out\n")
         ran = self.tool("kati-build", **self.around('"$PROGRAM" "$@"; kill -9 $PPID; exit'))
         self.assertEqual(ran.status, -signal.SIGKILL)
         self.assertIn("echo 2 > out", self.read("build.kati/translated.ninja.new"))
@@ -122,7 +122,7 @@ class Faults(Tree):
         self.assertEqual([path.name for path in self.top.iterdir()], ["Makefile"])
 
     def test_an_interrupt_of_ninja_is_ninja_s(self):
-        self.write(Makefile="out: ; kill -2 $$PPID; sleep 1; echo > out\n")
+        self.write(Makefile="out: Makefile ; kill -2 $$PPID; sleep 1; echo > out\n")
         status, said = self.interrupted(TOOLS / "kati-build")
         self.assertIn("interrupted by user", said)
         self.assertNotIn("Traceback", said)

@@ -40,7 +40,8 @@ class Names(Tree):
         return sorted(self.read("build.kati/files.txt").split())
 
     def test_one_run_is_enough(self):
-        self.write(Makefile="N = a\ninclude $(N).mk\n-include b.mk\nall: $(X) ; echo > all\n", a_mk="A = 1\n", x_c="")
+        self.write(Makefile="N = a\ninclude $(N).mk\n-include b.mk\nall: Makefile $(X) ; echo > all\n",
+                   a_mk="A = 1\n", x_c="")
         self.assertEqual((self.runs(), self.runs()), (1, 1))
         self.put("a.mk", "include c.mk\n")
         self.put("c.mk", "")
@@ -53,7 +54,7 @@ class Names(Tree):
         self.assertEqual(self.read("build.kati/asked.txt").split(), ["makefile", *names])
 
     def test_the_translation_is_katis_own(self):
-        self.write(Makefile="-include a.mk\nall: ; echo $(A) > all\n", a_mk="A = 1\n")
+        self.write(Makefile="-include a.mk\nall: Makefile ; echo $(A) > all\n", a_mk="A = 1\n")
         self.assertEqual(self.runs(), 1)
         self.assertEqual(self.read("build.kati/translated.ninja"), self.run_in(kati(), "--files", os.devnull).out)
 
@@ -93,7 +94,7 @@ class Names(Tree):
         self.assertIn("../up/x.c", self.listed())
 
     def test_a_run_that_did_not_come_to_its_end(self):
-        self.write(Makefile="all: ; echo > all\n")
+        self.write(Makefile="all: Makefile ; echo > all\n")
         self.assertEqual(self.runs(), 1)
         before = [self.read(f"build.kati/{name}") for name in ("translated.ninja", "asked.txt", "files.txt")]
         self.write(Makefile="include a.mk\nall: ; echo $(A) > all\n", a_mk="%.o: ../src/%.c ; cp $< $@\n")
@@ -126,7 +127,7 @@ class Names(Tree):
                 self.assertEqual([path.name for path in self.top.iterdir()], ["Makefile"])
 
     def test_kati_is_run_where_no_kati_asked_is(self):
-        self.write(Makefile="include $(X)a.mk\nall: ; echo $(A) > all\n", a_mk="A = 1\n", b_mk="A = 2\n")
+        self.write(Makefile="include $(X)a.mk\nall: Makefile ; echo $(A) > all\n", a_mk="A = 1\n", b_mk="A = 2\n")
         with self.without_asked():
             self.assertEqual(self.tool("kati-build", "--no-ninja").status, 0)
         self.assertNotIn("--kati-asked", self.read("build.ninja"))
@@ -162,7 +163,7 @@ class Names(Tree):
     def test_what_make_reads_is_watched(self):
         for text, is_read in self.TEXTS:
             with self.subTest(text):
-                self.write(Makefile=text + "all: ; true\n", d_mk="$(info d is read)\n")
+                self.write(Makefile=text + "all: Makefile ; true\n", d_mk="$(info d is read)\n")
                 self.assertEqual("d is read" in self.run_in("make", "-n").out, is_read)
                 self.assertEqual((self.runs(), self.is_watched("d.mk")), (1, is_read))
 

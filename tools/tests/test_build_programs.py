@@ -59,12 +59,13 @@ class Building(Tree):
         self.assertEqual([line.split(":")[0] for line in ran.out.splitlines()],
                          [f"[{number}/{len(done)}] {name}" for number, name in enumerate(done, 1)])
         self.assertNotIn("kt_text_tests", done)
+        self.assertNotIn("kt_text_laws", done)
 
     def test_how_long_the_rest_takes(self):
         # At half the speed of the machine of the marks: 60 and 240 seconds there, and nothing known of the others.
         self.put("scripts/crate_costs.txt", "speed 120 60\nkt_list 120 0 0 0\nkt_text 480 0 0 0\n")
         lines = self.build().out.splitlines()
-        known, rest = "on the machine of docs/GATE.md", "if nothing is kept"
+        known, rest = "on the machine of docs/DEVELOPING.md", "if nothing is kept"
         self.assertEqual(lines[0], f"[1/{len(lines)}] kt_list: the rest takes 5 min {known}, {rest}")
         # The stand-in takes no time, so that it tells nothing of this machine.
         self.assertEqual(lines[1], f"[2/{len(lines)}] kt_text: the rest takes 4 min {known}, {rest}")
@@ -83,7 +84,7 @@ class Building(Tree):
         for name in ("sh", "env"):
             (self.top.parent / "bin" / f"only-{name}").mkdir()
         ran = self.run_in(sys.executable, "-B", "scripts/build_programs.py", PATH=str(self.top.parent / "bin/only-sh"))
-        self.assertEqual((ran.status, ran.said), (3, "no program rt: the toolchain isn't on PATH\n"))
+        self.assertEqual((ran.status, ran.said), (3, "no program rt: the toolchain is not on PATH\n"))
         self.assertEqual(self.build("--no-such-word").status, 64)
         self.assertEqual(self.build("--list").out.split()[-2:], list(PROGRAMS))
 

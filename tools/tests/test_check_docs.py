@@ -49,12 +49,12 @@ class Spoiling(unittest.TestCase):
         return done.stdout
 
     def test_as_it_is(self):
-        self.check("options", "cases", "calls", "files", "specs", "walk", "shapes", "names", "crates", "lines", "gate",
-                   "picture", "tricks", failed=0)
+        self.check("options", "cases", "calls", "files", "specs", "walk", "shapes", "names", "crates", "lemmas",
+                   "lines", "sizes", "gate", "picture", "tricks", "diagrams", "trusted", failed=0)
 
     def test_an_option_that_only_the_code_has(self):
         self.spoil("crates/kati_args/src/command.rt", '.long("depth")', '.long("deep")')
-        # README; the help, the manual page and the completion for bash of both programs; zsh and fish.
+        # docs/LANGUAGE.md; the help, the manual page and the completion for bash of both programs; zsh and fish.
         self.assertIn("--deep", self.check("options", failed=7 + len(PROGRAMS)))
 
     def test_an_option_that_a_manual_page_lacks(self):
@@ -87,34 +87,34 @@ class Spoiling(unittest.TestCase):
         self.spoil("crates/kati_cases/data/worked.cases", "case one rule\n", "case empty makefile\n")
         self.assertIn("    empty makefile\n", self.check("cases", failed=1))
 
-    def test_a_case_whose_name_ends_in_a_number(self):
-        self.spoil("crates/kati_cases/data/worked.cases", "case one rule\n", "case one rule (2)\n")
-        self.assertIn("    one rule (2)\n", self.check("cases", failed=1))
-
     def test_a_call_without_a_test(self):
-        self.spoil("docs/PROOFS.md", "| kt_text | `findstring` | `needles_are_found` |\n", "")
-        self.assertIn("kt_text: findstring stands in the code alone", self.check("calls", failed=1))
-
-    def test_a_test_that_is_not_there(self):
-        self.spoil("docs/PROOFS.md", "`needles_are_found`", "`needles_are_lost`")
-        self.assertIn("kt_text: there is no test needles_are_lost", self.check("calls", failed=1))
-
-    def test_a_call_that_its_tests_do_not_make(self):
         tests = "crates/kt_text_tests/src/calls.rt"
         self.spoil(tests, 'functions::findstring(rt.alloc(), b"a", b"a b c")', 'b"a"')
         self.spoil(tests, 'functions::findstring(rt.alloc(), b"a", b"b c")', 'b""')
-        self.assertIn("kt_text: the tests don't call findstring", self.check("calls", failed=1))
+        said = self.check("calls", failed=1)
+        self.assertIn("    kt_text: no test calls findstring\n", said)
+        self.assertIn("    docs/TESTS.md is not current", said)
+
+    def test_tests_that_are_written_anew(self):
+        self.spoil("docs/TESTS.md", "`needles_are_found`", "`needles_are_lost`")
+        self.check("calls", failed=1)
+        self.is_written_by("tested_calls.py", "docs/TESTS.md")
+
+    def test_a_method_and_a_function_of_one_name(self):
+        # MemSink::new is called by its type; the many other calls of a `new` do not count.
+        self.spoil("crates/kt_ninja_tests/src/writing.rt", "MemSink::new(", "OtherSink::new(")
+        self.assertIn("docs/TESTS.md is not current", self.check("calls", failed=1))
 
     def test_a_file_that_is_not_there(self):
-        self.spoil("docs/GATE.md", "scripts/run_cases.py", "scripts/walk_cases.py")
+        self.spoil("docs/DEVELOPING.md", "scripts/run_cases.py", "scripts/walk_cases.py")
         self.assertIn("scripts/walk_cases.py", self.check("files", failed=1))
 
     def test_a_definition_that_is_not_there(self):
         proofs = self.root / "docs/PROOFS.md"
         proofs.unlink()
-        self.spoil("docs/DESIGN.md", "`specs/Rows`", "`specs/Rowz`")
+        self.spoil("docs/DESIGN.md", "`specs/FaultKinds.antt`", "`specs/FaultKindz.antt`")
         said = self.check("specs", failed=1)
-        self.assertIn("docs/DESIGN.md names definitions that aren't there: specs/Rowz\n", said)
+        self.assertIn("docs/DESIGN.md names definitions that do not exist: specs/FaultKindz.antt\n", said)
 
     def test_a_definition_of_another_crate(self):
         self.spoil("docs/PROOFS.md", "`specs/RuleLine.antt`", "`specs/NinjaRead.antt`")
@@ -124,18 +124,21 @@ class Spoiling(unittest.TestCase):
         for old, new, said in (("`line_marks`, kt_text `logical.rt`", "`line_marks`, kt_text `cut.rt`",
                                 "line_marks, kt_text cut.rt"),
                                ("| `blocks_of` in `Blocks`", "| `blocks_of` in `Kinds`", "blocks_of in Kinds"),
-                               ("- **kt_text**: `Words`;", "- **kt_text**: `Wordz`;", "Wordz of kt_text")):
+                               ("- **kt_text**: `Sorted` (", "- **kt_text**: `Sorts` (", "Sorts of kt_text")):
             self.spoil("docs/DESIGN.md", old, new)
             self.assertIn(f"    {said}\n", self.check("walk", failed=1))
 
     def test_a_shape_of_a_rule_that_is_no_type(self):
-        self.spoil("docs/DESIGN.md", "| `RuleParts` | kt_syntax |", "| `RuleHalves` | kt_syntax |")
-        self.assertIn("    kt_syntax has no type RuleHalves", self.check("shapes", failed=1))
+        for old, new, crate in (("| `RuleParts` |", "| `RuleHalves` |", "kt_syntax"),
+                                ("(`RuleNumbers`, ", "(`RuleDigits`, ", "kt_rules"),
+                                ("`TargetView`, `NeedsView` |", "`TargetView`, `NeedsLook` |", "kt_rules")):
+            name = re.search(r"`(\w+)`[^`]*$", new).group(1)
+            self.spoil("docs/DESIGN.md", old, new)
+            self.assertIn(f"    {crate} has no type {name}", self.check("shapes", failed=1))
 
-    def test_more_shapes_of_a_rule_than_there_may_be(self):
-        shape = "| `RuleParts` | kt_syntax |"
-        self.spoil("docs/DESIGN.md", shape, "| `Line` | kt_text | | |\n" + shape)
-        self.assertIn("    13 shapes, which are more than 12", self.check("shapes", failed=1))
+    def test_a_list_of_shapes_that_is_gone(self):
+        self.spoil("docs/DESIGN.md", "### A rule, shape by shape", "### A rule")
+        self.assertIn("    docs/DESIGN.md has no list below ### A rule, shape by shape", self.check("shapes", failed=1))
 
     def test_names_with_two_meanings(self):
         for name, old, new, said in (
@@ -149,6 +152,31 @@ class Spoiling(unittest.TestCase):
     def test_a_crate_that_stands_on_another_one(self):
         self.spoil("crates.txt", "kati_args: kt_list kt_text clap", "kati_args: kt_text kt_list kt_rules clap")
         self.assertIn("kati_args: kt_list kt_rules kt_text | kt_list kt_text\n", self.check("crates", failed=1))
+
+    def test_a_crate_that_stands_on_laws(self):
+        self.spoil("crates.txt", "kati_args: kt_list kt_text clap", "kati_args: kt_list kt_text kt_text_laws clap")
+        self.assertIn("    kati_args: it stands on laws: kt_text_laws\n", self.check("crates", failed=1))
+
+    def test_a_lemma_that_no_proof_of_code_needs(self):
+        # In a block, so that its head belongs to it; and one by which a law alone is proved.
+        lemmas, block = "crates/kt_text/proofs/GroupLemmas.antt", "module _ {A : Type 0}\n    (a : A) where\n"
+        self.spoil(lemmas, "-- ", block + "  pub spare : a ≡ a\n  spare = refl\n\n-- ")
+        self.assertIn("    kt_text: spare in proofs/GroupLemmas.antt\n", self.check("lemmas", failed=1))
+        answers = self.root / "crates/kt_text/proofs/laws/spare/Answers.antt"
+        answers.parent.mkdir(parents=True)
+        answers.write_text("use Rattle.kt_text.proofs.GroupLemmas.{spare}\n", encoding="utf-8")
+        self.assertIn("    kt_text: spare in proofs/GroupLemmas.antt\n", self.check("lemmas", failed=1))
+        # The laws on limits are by the code.
+        answers.parent.rename(answers.parent.with_name("one_deeper"))
+        self.check("lemmas", failed=0)
+
+    def test_a_lemma_that_an_attribute_needs_by_another(self):
+        one = "spare : ℕ\nspare = 1\n\npub nearer : ℕ\nnearer = spare\n\n-- "
+        self.spoil("crates/kt_text/proofs/GroupLemmas.antt", "-- ", one)
+        said = self.check("lemmas", failed=1)
+        self.assertEqual(re.findall(r"^    kt_text: (\w+) in", said, re.MULTILINE), ["spare", "nearer"])
+        self.spoil("crates/kt_text/src/logical.rt", "PhysicalLemmas::nul_places", "GroupLemmas::nearer")
+        self.assertEqual(self.check("lemmas", failed=1).count("GroupLemmas"), 0)
 
     def test_a_crate_that_the_table_lacks(self):
         self.spoil("docs/DESIGN.md", "| kati_host | the host's", "| kati_hosts | the host's")
@@ -166,8 +194,8 @@ class Spoiling(unittest.TestCase):
 
     @SKIPS
     def test_an_example_that_prints_something_else(self):
-        self.spoil("README.md", "still the same\n```", "the same\n```")
-        self.assertIn("+ still the same", self.check("examples", failed=1))
+        self.spoil("README.md", "-o prog main.o list.o'\n```", "-o prog list.o main.o'\n```")
+        self.assertIn("-o prog main.o list.o'", self.check("examples", failed=1))
 
     @SKIPS
     def test_an_example_that_prints_nothing(self):
@@ -177,6 +205,10 @@ class Spoiling(unittest.TestCase):
     def test_a_script_without_help(self):
         self.spoil("scripts/make_deb.py", "exit status:", "ends:")
         self.assertIn("make_deb.py --help: status 0, without exit status", self.check("scripts", failed=1))
+
+    def test_a_script_that_no_document_lists(self):
+        self.spoil("docs/DEVELOPING.md", "| `scripts/make_deb.py` |", "| `make deb` |")
+        self.assertIn("docs/DEVELOPING.md differ: scripts/make_deb.py\n", self.check("scripts", failed=1))
 
     def test_a_gate_that_readme_does_not_name(self):
         self.spoil("README.md", "$ make check", "$ .ci/run")
@@ -190,28 +222,92 @@ class Spoiling(unittest.TestCase):
         self.spoil("crates/kt_list/src/names.rt", "hashed in one write. Spares", "hashed. Spares")
         said = self.check("tricks", failed=1)
         names = "| the names lie one after another in one vector, and a name is hashed"
-        self.assertIn(f"    not in the table: {names} | 40 bytes", said)
+        self.assertIn(f"    not in docs/TRICKS.md: {names} | 40 bytes", said)
         self.assertIn(f"    in no head: {names} in one write | 40 bytes", said)
 
     def test_a_trick_that_does_not_say_what_it_spares(self):
         self.spoil("crates/kt_list/src/names.rt", ". Spares ", ", which spares ")
         self.assertIn("    crates/kt_list/src/names.rt: //! Fast: the names lie", self.check("tricks", failed=1))
 
-    def test_a_table_that_is_made_anew(self):
-        self.spoil("docs/BENCHMARKS.md", "a name is hashed in one write |", "a name is hashed |")
-        self.check("tricks", failed=1)
-        words = [sys.executable, "-B", ROOT / "scripts/tricks_stated.py", "--root", self.root]
+    def is_written_by(self, script, name):
+        """Whether a script says that a document is not current, and writes it as it is in the repository."""
+        words = [sys.executable, "-B", ROOT / "scripts" / script, "--root", self.root]
         variables = {name: os.environ[name] for name in ("PATH", "HOME") if name in os.environ}
         for more, status in (([], 1), (["--write"], 0), ([], 0), (["--wrong"], 64)):
             with self.subTest(more):
                 done = subprocess.run(words + more, env=variables, stdout=subprocess.PIPE, stderr=subprocess.STDOUT)
                 self.assertEqual(done.returncode, status, done.stdout)
-        written = (self.root / "docs/BENCHMARKS.md").read_bytes()
-        self.assertEqual(written, (ROOT / "docs/BENCHMARKS.md").read_bytes())
+        self.assertEqual((self.root / name).read_bytes(), (ROOT / name).read_bytes())
 
-    def test_a_document_without_a_place_for_the_table(self):
-        self.spoil("docs/BENCHMARKS.md", "<!-- made up to here -->\n", "")
-        self.assertIn("docs/BENCHMARKS.md has no place for the table", self.check("tricks", failed=1))
+    def test_tricks_that_are_written_anew(self):
+        self.spoil("docs/TRICKS.md", "a name is hashed in one write |", "a name is hashed |")
+        self.check("tricks", failed=1)
+        self.is_written_by("tricks_stated.py", "docs/TRICKS.md")
+
+    def test_diagrams_that_are_not_current(self):
+        for name, old, new, said in (
+                ("docs/crates.svg", "</svg>", "</svg >", "docs/crates.svg is not current"),
+                ("crates.txt", "kati_args: kt_list kt_text clap", "kati_args: kt_list kt_text kt_rules clap",
+                 "docs/crates.svg is not current"),
+                ("docs/pipeline.svg", ">read_rule<", ">read_rules<", "docs/pipeline.svg is not current"),
+                ("crates/kati/src/goals.rt", "fn chosen_goals", "fn goals", "kati has no function chosen_goals")):
+            self.spoil(name, old, new)
+            self.assertIn(said, self.check("diagrams", failed=1))
+            shutil.copy2(ROOT / name, self.root / name)
+
+    def test_libraries_and_tests_are_no_crates_of_the_diagram(self):
+        self.spoil("crates.txt", "kt_text_tests: kt_testing kt_text", "kt_text_tests: kt_testing kt_text kt_list")
+        self.check("diagrams", failed=0)
+
+    @unittest.skipUnless(shutil.which("dot"), "not there: dot")
+    def test_diagrams_that_are_drawn_anew(self):
+        for name in ("docs/crates.svg", "docs/pipeline.svg"):
+            (self.root / name).unlink()
+        words = [sys.executable, "-B", ROOT / "scripts/diagrams.py", "--root", self.root, "--write"]
+        self.assertEqual(subprocess.run(words, check=False).returncode, 0)
+        self.check("diagrams", failed=0)
+        self.assertIn("<title>kt_eval</title>", (self.root / "docs/crates.svg").read_text())
+
+    def test_diagrams_without_dot(self):
+        (self.root / "docs/crates.svg").unlink()
+        words = [sys.executable, "-B", ROOT / "scripts/diagrams.py", "--root", self.root, "--write"]
+        done = subprocess.run(words, env={"PATH": "/nowhere"}, stderr=subprocess.PIPE, universal_newlines=True)
+        self.assertEqual((done.returncode, done.stderr), (3, "diagrams.py: no program dot: install graphviz\n"))
+
+    def test_sizes(self):
+        words, before = "word " * 2800 + "\n", "\n## Cases\n"
+        for text, is_long in ((words, True), (f"```\n{words}```\n", False), (f"    {words}", False),
+                              (f"Words\n    {words}", True), (f"- Words\n\n  - | - {words}", True)):
+            self.spoil("docs/DEVELOPING.md", before, f"\n{text}\n## Cases\n")
+            with self.subTest(text[:20]):
+                found = self.check("sizes", failed=int(is_long))
+                self.assertEqual("docs/DEVELOPING.md has " in found, is_long)
+            before = f"\n{text}\n## Cases\n"
+
+    def test_a_document_without_a_limit(self):
+        (self.root / "docs/OTHER.md").write_text("# Other\n")
+        self.assertIn("    docs/OTHER.md has no limit in scripts/document_sizes.py", self.check("sizes", failed=1))
+        (self.root / "docs/OTHER.md").rename(self.root / "docs/TRUSTED.md")
+        self.check("sizes", failed=0)
+
+    def test_a_limit_without_a_document(self):
+        (self.root / "docs/PROVING.md").unlink()
+        self.assertIn("    docs/PROVING.md has a limit, and does not exist", self.check("sizes", failed=1))
+
+    def test_a_trusted_definition_with_another_comment(self):
+        self.spoil("crates/kt_text/specs/Words.antt", "-- whether a byte is a colon\n", "-- whether a byte is `:`\n")
+        self.assertIn("docs/TRUSTED.md isn't what the definitions say", self.check("trusted", failed=1))
+
+    def test_a_trusted_definition_without_a_comment(self):
+        self.spoil("crates/kt_text/specs/Words.antt", "-- whether a byte is a colon\n", "")
+        self.assertIn("    no comment: is_colon in kt_text.specs.Words", self.check("trusted", failed=1))
+
+    def test_a_definition_that_becomes_trusted(self):
+        self.spoil("crates/kati/specs/Exits.antt", "code_of statuses.Done = 0", "code_of statuses.Done = largest")
+        self.check("trusted", failed=0)
+        self.spoil("crates/kati/specs/Exits.antt", "usage_code = 64\n",
+                   "usage_code = 64\n\n-- the largest\nabbrev pub largest : ℕ\nlargest = 9\n")
+        self.assertIn("docs/TRUSTED.md isn't what the definitions say", self.check("trusted", failed=1))
 
     def test_a_check_that_is_none(self):
         words = [sys.executable, "-B", ROOT / "scripts/check_docs.py", "everything"]

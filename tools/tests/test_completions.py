@@ -36,7 +36,7 @@ ASKED = [
     ("kati-asked --files s", ["sources.txt"]),
     ("kati-asked --check b", ["build.ninja"]),
     ("kati-asked -f other.mk ", ["other", "OTHER="]),
-    ("kati-build --", ["--port", "--files-from", "--files", "--deps", "--builtin", "--no-ninja", "--as-made",
+    ("kati-build --", ["--port", "--files-from", "--files", "--deps", "--builtin", "--no-ninja", "--anew", "--as-made",
                        "--compile-commands", "--kati"]),
     ("kati-build --files-from g", ["git"]),
     ("kati-build l", ["lib"]),
@@ -46,11 +46,36 @@ ASKED = [
     ("kati-port --write -f other.mk o", ["other"]),
     ("kati-compare --", ["--build", "--builtin", "--files-from", "--kati", "--depth"]),
 ]
+# Names of which a shell would run a part, or expand it, where a completion evaluated them; each recipe's file is made
+# where that happens. A blank ends a name.
+HOSTILE = """\
+bq`>made-1`: y
+bq`touch made-2`: y
+dl$(shell touch made-3): y
+dl$$(>made-4): y
+sq'>made-5': y
+dq">made-6"`>made-7`": y
+sc;>made-8;: y
+st*: y
+bl\\ ank: y
+pl: `>made-9` $(shell >made-10)
+M = `>made-11`
+`>made-12` = x
+"""
+# The beginning of a word, and the names that have to be offered for it.
+HOSTILE_ASKED = [("bq", ["bq`>made-1`", "bq`touch"]), ("sq", ["sq'>made-5'"]), ("dq", ["dq\">made-6\"`>made-7`\""]),
+                 ("sc", ["sc;>made-8;"]), ("st", ["st*"]), ("bl", ["bl\\"]), ("pl", ["pl"]), ("M", ["M="]),
+                 ("", ["pl"])]
 COMMANDS = "kati kati-asked kati-build kati-port kati-compare"
 # What a terminal is told beside text.
 CODES = re.compile(r"\x1b\[[0-9;?]*[a-zA-Z]|\x07")
 # What is never offered.
 NEVER = {"%.o", ".PHONY", "cc"}
+
+
+def backslashed(name):
+    """A name with a backslash before each character that a shell may evaluate."""
+    return re.sub(r"[^\w.=-]", r"\\\g<0>", name)
 
 
 class Completing(unittest.TestCase):
@@ -68,17 +93,32 @@ class Completing(unittest.TestCase):
                 self.assertEqual([word for word in wanted if word not in words], [], words)
                 self.assertEqual(NEVER & set(words), set())
 
+    def ask_hostile(self, offered, quoted=backslashed):
+        """Asks for the names of a makefile that a shell must not evaluate; `quoted` is a name as the shell has it."""
+        Path(self.folder, "Makefile").write_text(HOSTILE, encoding="utf-8")
+        before = sorted(os.listdir(self.folder))
+        for command in ("kati", "kati-port"):
+            for beginning, wanted in HOSTILE_ASKED:
+                with self.subTest(f"{command} {beginning}"):
+                    words = offered(f"{command} {beginning}")
+                    self.assertEqual([name for name in wanted if quoted(name) not in words], [], words)
+                    self.assertEqual(sorted(os.listdir(self.folder)), before)
+
+    def in_bash(self, line):
+        """The words that bash offers."""
+        script = (f'source {SHARE}/bash-completion/completions/kati; COMP_WORDS=("$@"); COMP_CWORD=$(($# - 1)); '
+                  f'_kati "$1"; printf "%s\\n" "${{COMPREPLY[@]}}"')
+        done = subprocess.run(["bash", "-c", script, "bash", *line.split(" ")], cwd=self.folder,
+                              stdout=subprocess.PIPE, text=True, check=True)
+        return done.stdout.split("\n")
+
     @unittest.skipUnless(shutil.which("bash"), "not there: bash")
     def test_bash(self):
-        def offered(line):
-            words = line.split(" ")
-            script = (f'source {SHARE}/bash-completion/completions/kati; COMP_WORDS=("$@"); COMP_CWORD=$(($# - 1)); '
-                      f'_kati "$1"; printf "%s\\n" "${{COMPREPLY[@]}}"')
-            done = subprocess.run(["bash", "-c", script, "bash", *words], cwd=self.folder, stdout=subprocess.PIPE,
-                                  text=True, check=True)
-            return done.stdout.split("\n")
+        self.ask(self.in_bash)
 
-        self.ask(offered)
+    @unittest.skipUnless(shutil.which("bash"), "not there: bash")
+    def test_bash_evaluates_no_text_of_a_file(self):
+        self.ask_hostile(self.in_bash)
 
     @unittest.skipUnless(shutil.which("bash"), "not there: bash")
     def test_bash_asks_for_each_command(self):
@@ -86,25 +126,57 @@ class Completing(unittest.TestCase):
         done = subprocess.run(["bash", "-c", script], stdout=subprocess.PIPE, text=True, check=True)
         self.assertEqual(len(done.stdout.splitlines()), len(COMMANDS.split()))
 
+    @unittest.skipUnless(shutil.which("bash"), "not there: bash")
+    def test_a_name_that_bash_completes_is_one_argument(self):
+        Path(self.folder, "Makefile").write_text(HOSTILE, encoding="utf-8")
+        Path(self.folder, "z file;>made-13").touch()
+        before = sorted(os.listdir(self.folder))
+        shell = Terminal(["bash", "--norc", "--noprofile", "-i"], self.folder)
+        self.addCleanup(shell.close)
+        shell.send(f"source {SHARE}/bash-completion/completions/kati; PS1='> '; unset HISTFILE\n")
+        for command in ("kati", "kati-port"):
+            shell.send(f"{command}() {{ printf '<%s>\\n' \"$@\"; }}; print''f 'rea''dy\\n'\n")
+            shell.read_until("ready\r\n")
+        for line, wanted in (("kati st", "<st*>"), ("kati sc", "<sc;>made-8;>"), ("kati sq", "<sq'>made-5'>"),
+                             ("kati-port z", "<z file;>made-13>"), ("kati -f z", "<-f>\r\n<z file;>made-13>")):
+            with self.subTest(line):
+                shell.send(f"{line}\t\nprint''f 'do''ne\\n'\n")
+                self.assertIn(f"\n{wanted}\r\n", shell.read_until("done\r\n"))
+                self.assertEqual(sorted(os.listdir(self.folder)), before)
+
+    def in_fish(self, line):
+        """The words that fish offers."""
+        script = f"source {SHARE}/fish/vendor_completions.d/kati.fish; complete -C '{line}'"
+        done = subprocess.run(["fish", "--no-config", "-c", script], cwd=self.folder, stdout=subprocess.PIPE,
+                              text=True, env={**os.environ, "HOME": self.folder}, check=True)
+        return [word.split("\t")[0] for word in done.stdout.splitlines()]
+
     @unittest.skipUnless(shutil.which("fish"), "not there: fish")
     def test_fish(self):
-        def offered(line):
-            script = f"source {SHARE}/fish/vendor_completions.d/kati.fish; complete -C '{line}'"
-            done = subprocess.run(["fish", "--no-config", "-c", script], cwd=self.folder, stdout=subprocess.PIPE,
-                                  text=True, env={**os.environ, "HOME": self.folder}, check=True)
-            return [word.split("\t")[0] for word in done.stdout.splitlines()]
+        self.ask(self.in_fish)
 
-        self.ask(offered)
+    @unittest.skipUnless(shutil.which("fish"), "not there: fish")
+    def test_fish_evaluates_no_text_of_a_file(self):
+        self.in_fish("kati ")
+        self.ask_hostile(self.in_fish, str)
 
-    @unittest.skipUnless(shutil.which("zsh"), "not there: zsh")
-    def test_zsh(self):
+    def zsh(self):
+        """A zsh that lists its completions by control-X."""
         shell = Terminal(["zsh", "-f", "-i"], self.folder)
         self.addCleanup(shell.close)
         shell.send(f"fpath=({SHARE}/zsh/site-functions $fpath); autoload -Uz compinit; compinit -u -D\n")
         shell.send("bindkey '^X' list-choices; LISTMAX=1000; PS1='> '; print re''ady\n")
         shell.read_until("ready\r\n")
         shell.read_until("> ")
-        self.ask(shell.offered)
+        return shell
+
+    @unittest.skipUnless(shutil.which("zsh"), "not there: zsh")
+    def test_zsh(self):
+        self.ask(self.zsh().offered)
+
+    @unittest.skipUnless(shutil.which("zsh"), "not there: zsh")
+    def test_zsh_evaluates_no_text_of_a_file(self):
+        self.ask_hostile(self.zsh().offered)
 
 
 class Terminal:

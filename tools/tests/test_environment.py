@@ -94,7 +94,7 @@ class Asked(Tree):
         self.assertIn(" -O1 -Iinc /opt/y x2 plain", found)
 
     def test_kati_build_asks_again_where_a_listed_variable_has_changed(self):
-        self.put("Makefile", "V := $(shell echo $$MY_PATH)\nout: ; echo '$(V) $(GIVEN)' > $@\n")
+        self.put("Makefile", "V := $(shell echo $$MY_PATH)\nout: Makefile ; echo '$(V) $(GIVEN)' > $@\n")
         build = ("kati-build", "--port")
         self.assertEqual(self.tool(*build, MY_PATH="/a", GIVEN="1").status, 0)
         self.assertEqual(self.read("out"), "/a 1\n")

@@ -32,5 +32,5 @@ class Help(Tree):
 
     def test_tools_leave_nothing_beside_themselves(self):
         self.tool("kati-port", "--help")
-        left = [path for path in TOOLS.rglob("__pycache__") if path.parent.name != "tests"]
+        left = [path for path in TOOLS.rglob("__pycache__") if not path.parent.name.endswith("tests")]
         self.assertEqual([*left, *(TOP / "share").rglob("__pycache__")], [])

@@ -21,6 +21,10 @@ QUIET = {key: value for key, value in os.environ.items() if not key.startswith((
 QUIET["PATH"] = QUIET.get("PATH", os.defpath) + ":/usr/sbin:/sbin"
 
 
+# A link of a document to a file, or to a part of one.
+LINK = re.compile(r"\]\((?!\w+:)([^)#]+)[)#]")
+
+
 def needs(*names):
     """Skips a test where a command isn't there."""
     missing = [name for name in names if not shutil.which(name)]
@@ -150,6 +154,14 @@ class Installing(Scratch):
         doc = self.install() / "share/doc/kati-ninja"
         for path in sorted(ROOT.joinpath("docs").glob("*.md")) + [ROOT / "README.md"]:
             self.assertTrue((doc / path.relative_to(ROOT)).is_file(), path)
+
+    @needs("make")
+    def test_links_of_installed_documents_lead_to_installed_files(self):
+        doc = self.install() / "share/doc/kati-ninja"
+        links = [(path, link) for path in sorted(doc.rglob("*.md")) for link in LINK.findall(path.read_text())]
+        self.assertIn("docs/times.svg", {str((path.parent / link).relative_to(doc)) for path, link in links})
+        for path, link in links:
+            self.assertTrue((path.parent / link).is_file(), f"{path}: {link}")
 
     @needs("make")
     def test_the_whole_example_and_nothing_that_was_built(self):

@@ -41,7 +41,7 @@ def unused(path):
     others = [line for line in lines if not line.lstrip().startswith(("import ", "from "))]
     words = set(re.findall(r"\w+", "\n".join(others)))
     for node in imports(path):
-        if "noqa" not in lines[node.lineno - 1]:
+        if "noqa" not in lines[node.lineno - 1] and getattr(node, "module", None) != "__future__":
             names = [(one.asname or one.name).split(".")[0] for one in node.names]
             yield from [f"{path.relative_to(TOP)}:{node.lineno}: {name}" for name in names if name not in words]
 

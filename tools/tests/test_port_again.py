@@ -52,7 +52,7 @@ class Asked(Ported):
 
     def test_a_list_of_files_has_what_make_makes_first(self):
         self.put("Makefile", "N := $(sort $(shell find . -name '*.mk') $(wildcard *.mk))\n"
-                             "out: ; echo $(N) $(U) > out\ninclude made.mk\nmade.mk: made.in ; cp $< $@\n")
+                             "out: Makefile ; echo $(N) $(U) > out\ninclude made.mk\nmade.mk: made.in ; cp $< $@\n")
         self.put("made.in", "U = made\n")
         self.assertNotIn("asked again", self.build())
         self.assertEqual(self.read("out"), "./made.mk made.mk made\n")
@@ -96,7 +96,7 @@ class Asked(Ported):
 
     def test_what_no_command_reads(self):
         self.put("Makefile", "V := $(file < n.txt)$(notdir $(realpath link)) $(notdir $(realpath absent))\n"
-                             "out:\n\techo \"$(V)\" > $@\n")
+                             "out: Makefile\n\techo \"$(V)\" > $@\n")
         self.put_all({"n.txt": "1\n", "other": ""})
         (self.top / "link").symlink_to("n.txt")
         self.build()
@@ -166,11 +166,11 @@ class Meanwhile(Ported):
         self.assertIn("no work to do", self.ninja())
 
     def test_one_that_is_saved_in_place_while_ninja_has_it_translated(self):
-        self.put("Makefile", "out:\n\techo one > $@\n")
+        self.put("Makefile", "out: Makefile\n\techo one > $@\n")
         self.build_with("test -s ../edit && sed s/two/three/ Makefile > ../new && cat ../new > Makefile; : > ../edit")
         self.ninja()
         self.put("../edit", "1\n")
-        self.put("Makefile", "out:\n\techo two > $@\n")
+        self.put("Makefile", "out: Makefile\n\techo two > $@\n")
         self.ninja()
         self.assertEqual(self.read("out"), "three\n")
         self.assertIn("no work to do", self.ninja())
@@ -188,7 +188,7 @@ class Meanwhile(Ported):
         self.assertEqual(self.read("out"), "y\n")
 
     def test_a_makefile_that_changes_each_time(self):
-        self.put("Makefile", "out:\n\techo one > $@\n")
+        self.put("Makefile", "out: Makefile\n\techo one > $@\n")
         said = self.build_with("echo '# more' >> Makefile", status=3)
         self.assertIn("kati-build: Makefile changes each time while it is read: run kati-build again ", said)
         self.assertFalse((self.top / "build.ninja").exists())
@@ -224,7 +224,7 @@ class OwnFiles(Ported):
 
     def setUp(self):
         super().setUp()
-        self.put("Makefile", "V := $(shell echo 1)\nO := $(CURDIR)\nout:\n\techo \"[$(V)] $(O)\" > $@\n")
+        self.put("Makefile", "V := $(shell echo 1)\nO := $(CURDIR)\nout: Makefile\n\techo \"[$(V)] $(O)\" > $@\n")
         self.build()
         self.wanted = self.read("out")
         (self.top / "out").unlink()
@@ -291,7 +291,8 @@ class OwnFiles(Ported):
     def test_all_that_was_written_is_taken_away(self):
         before = {"Makefile"}
         self.ninja()
-        self.assertEqual(self.tool("kati-build", "--port", "-o", "more.ninja", "--compile-commands").status, 0)
+        ran = self.tool("kati-build", "--port", "--anew", "-o", "more.ninja", "--compile-commands")
+        self.assertEqual(ran.status, 0)
         self.put("mine.ninja", "# mine\n")
         self.assertEqual(self.tool("kati-build", "--remove", "all").status, 64)
         ran = self.tool("kati-build", "--remove")

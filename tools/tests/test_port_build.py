@@ -70,7 +70,7 @@ class Building(Tree):
 
     def test_a_file_that_commands_in_loops_and_macros_name(self):
         self.put("Makefile", "get = $(shell cat $(1).txt)\nX := $(foreach f,a b,$(shell cat $f.txt))\n"
-                             "all: out\nout: ; echo $X $(call get,c) $(firstword $(shell cat $@.txt)) > $@\n")
+                             "all: out\nout: Makefile ; echo $X $(call get,c) $(firstword $(shell cat $@.txt)) > $@\n")
         for name in ("a", "b", "c", "out"):
             self.put(f"{name}.txt", f"{name}\n")
         self.build()
@@ -272,7 +272,7 @@ class Again(Tree):
                     (self.top / name).unlink()
 
     def test_a_wildcard_by_arguments_is_asked_for(self):
-        self.put("Makefile", "define R\n$(1).out: ; echo $(if $(wildcard $(1).x),with,without) > $$@\nendef\n"
+        self.put("Makefile", "define R\n$(1).out: Makefile ; echo $(if $(wildcard $(1).x),with,without) > $$@\nendef\n"
                              "all: a.out b.out\n$(foreach n,a b,$(eval $(call R,$(n))))\n")
         self.assertTrue(self.asks())
         self.assertFalse(self.asks("ninja"))
@@ -453,7 +453,7 @@ class Values(Tree):
         self.assertEqual((self.read("a"), self.read("b")), ("without\n", "with\n"))
 
     def test_values_by_arguments_are_asked_for_again_once(self):
-        self.put("Makefile", "define prog\n$(1): ; echo $(shell cat $(1).txt) > $$@\nendef\nall: a b\n"
+        self.put("Makefile", "define prog\n$(1): Makefile ; echo $(shell cat $(1).txt) > $$@\nendef\nall: a b\n"
                              "$(foreach p,a b,$(eval $(call prog,$(p))))\n")
         for name in ("a", "b"):
             self.put(f"{name}.txt", f"{name}\n")

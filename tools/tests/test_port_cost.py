@@ -172,8 +172,8 @@ class Cost(Tree):
         for need in ("conf.mk", "a.c"):
             self.put_all({"a.c": "", "conf.in": "", "conf.mk": "C = 1\n", "Makefile":
                           f"prog: a.c {need}\n\techo $(C) > $@\ninclude conf.mk\nconf.mk: conf.in\n\tcp $< $@\n"})
-            katis, _, said = self.runs("--no-ninja", "-o", f"{need}.ninja", tool="kati-build")
-            self.assertEqual(said, "")
+            katis, _, said = self.runs("--anew", "--no-ninja", "-o", f"{need}.ninja", tool="kati-build")
+            self.assertEqual(said, "kati-build: files that exist and stay as they are: 1\n")
             counts.append(katis)
         self.assertEqual(counts, [3, 4])
 
@@ -199,7 +199,7 @@ class Cost(Tree):
             self.put_all({"a.c": "", "conf.mk": "C = 1\n", "b.mk": "", "Makefile":
                           f"N := $(shell echo 1)\nprog: a.c {need}\n\techo $(C) $(N) > $@\ninclude conf.mk b.mk\n"
                           "-include c.mk\nconf.mk: ; echo C = 1 > $@\n.SUFFIXES:\n$(X): ; echo > $@\nX := d\n"})
-            self.runs("--port", "--no-ninja", "-o", f"{need}.ninja", tool="kati-build")
+            self.runs("--port", "--anew", "--no-ninja", "-o", f"{need}.ninja", tool="kati-build")
             counts.append(self.counted.read_text().split().count("asked"))
         self.assertEqual(counts, [2, 4])
 

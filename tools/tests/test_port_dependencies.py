@@ -30,8 +30,12 @@ BY_RULE = """prog: a.o
 include .depend
 """
 WRITTEN = "OBJS = a.o\nprog: $(OBJS)\n\tcc -o $@ $^\n%.o: %.c\n\tcc -MMD -MP -c -o $@ $<\n-include $(OBJS:.o=.d)\n"
+LEFT = WRITTEN.replace("-MMD -MP -c -o $@ $<", "-c -o $@ $<\n\t@cc -MM -MP $*.c > $*.d")
+LEFT_TOLD = ("kati-build: only make reads the header dependencies in a.d: ninja doesn't rebuild for a changed header\n"
+             "kati-build: help: write header dependencies by -MMD in the command that compiles, which ninja reads; or "
+             "run kati-build --anew after a header has changed\n")
 MADE = ("all: out\ninclude gen.mk\nV := $(shell echo 1)\ngen.mk: gen.in\n\tsed s/^/GEN=/ gen.in > $@\n"
-        "out:\n\techo $(GEN) > $@\n")
+        "out: Makefile\n\techo $(GEN) > $@\n")
 
 
 @needs("kati", "kati-asked", "make", "ninja", "cc")
@@ -43,6 +47,22 @@ class Dependencies(Tree):
         ran = self.tool("kati-build", "--port", *words)
         self.assertEqual(ran.status, 0, ran.all)
         return ran.all
+
+    def test_what_is_left_to_make_is_told_at_each_run(self):
+        # kati refuses one header by two names.
+        self.put_all({"Makefile": LEFT, "h.h": "#ifndef H\n#define H 1\n#endif\n", "sub/s.h": '#include "../h.h"\n',
+                      "a.c": '#include "h.h"\n#include "sub/s.h"\nint main(void) { return H; }\n'})
+        self.build()
+        self.assertIn(LEFT_TOLD, self.ninja())
+        for _ in range(2):
+            self.assertIn(LEFT_TOLD, self.build())
+        self.put("h.h", "#define H 2\n")
+        self.assertNotEqual(self.run_in("make", "-q").status, 0)
+        self.assertNotIn("cc ", self.ninja())
+        self.build("--anew")
+        self.assertEqual(self.run_in("./prog").status, 2)
+        self.put("Makefile", WRITTEN.replace("-MMD", "-MMD -MF $*.d"))
+        self.assertNotIn("only make reads", self.build())
 
     def assert_quiet(self):
         """Tries that the second of two runs has nothing to do."""
@@ -141,7 +161,8 @@ class Dependencies(Tree):
         for rule in ("gen.mk: gen.in\n", "%.mk: %.in $(wildcard *.ins)\n", ".SUFFIXES:\n%.mk: %.in\n"):
             with self.subTest(rule):
                 self.put_all({"Makefile": f"NAME = $(shell echo GEN)\nall: out\ninclude gen.mk\n{rule}"
-                                          "\tsed 's/^/$(NAME)=/' $< > $@\nout: ; echo $(GEN) > $@\n", "gen.in": "a\n"})
+                                          "\tsed 's/^/$(NAME)=/' $< > $@\nout: Makefile ; echo $(GEN) > $@\n",
+                              "gen.in": "a\n"})
                 self.assertNotIn("makes no include", self.build())
                 self.put("gen.in", "b\n")
                 self.ninja()
@@ -152,7 +173,7 @@ class Dependencies(Tree):
         for value, copied in ((":= $(shell echo 1)", "Makefile.in"), ("= 1", "$(shell echo Makefile).in")):
             with self.subTest(copied):
                 text = (f"V {value}\nall: out\nMakefile: Makefile.in\n\tcp {copied} Makefile\n"
-                        "out:\n\techo {} $(V) > out\n")
+                        "out: Makefile\n\techo {} $(V) > out\n")
                 self.put_all({"Makefile": text.format("one"), "Makefile.in": text.format("one")})
                 self.build()
                 self.ninja()

@@ -188,7 +188,7 @@ class Told(Meant):
     """A difference is told, in a line and by the status."""
 
     # make's own shell is dash or bash; each reads a quoted text that ends with a newline, which no shell prints.
-    OTHER = "all: out\nout:\n\tprintf %s 'a\\\n\t' > out\n"
+    OTHER = "all: out\nout: Makefile\n\tprintf %s 'a\\\n\t' > out\n"
 
     def test_a_text_that_nothing_mends_is_told_by_what_differs(self):
         self.put_all({"Makefile": self.OTHER})

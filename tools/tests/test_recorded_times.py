@@ -1,9 +1,12 @@
-"""scripts/times.py --record: a table takes the place of the one below its title, and of no other."""
+"""scripts/times.py: what it measures of built trees and of Ninja files; --record replaces the table below its title."""
 import importlib
+import re
+import subprocess
 import sys
 import unittest
+from pathlib import Path
 
-from support import TOP
+from support import LONG, TOP, kati, kati_asked, needs
 
 sys.path.append(str(TOP / "scripts"))
 
@@ -50,3 +53,21 @@ class Recording(unittest.TestCase):
         for name, (title, _) in times.TABLES.items():
             with self.subTest(name):
                 self.assertEqual(self.recording.first_table(lines, title) is None, name == "text")
+
+
+@needs("kati", "kati-asked", "make", "ninja", "ckati")
+class Measuring(unittest.TestCase):
+    """Tables at a hundredth of their size: milliseconds and megabytes in each cell, and no status but 0."""
+
+    @unittest.skipUnless(Path("/usr/bin/time").is_file(), "not there: /usr/bin/time")
+    def test_cells(self):
+        cell = r"[\d,]+ \(\d+\)"
+        for table, rows, wanted in (("nothing", 3, r"\| [\d,]+ " + rf"\| {cell} " * 5 + r"\|"),
+                                    ("files", 2, rf"\| [\w -]+ \| 1,000 \| 0\.\d \| {cell} \| 0\.\d \| {cell} \|")):
+            words = ["--kati", kati(), "--kati-asked", kati_asked(), "--small", "--runs", "1", table]
+            done = subprocess.run([sys.executable, "-B", TOP / "scripts/times.py", *words], stdout=subprocess.PIPE,
+                                  stderr=subprocess.DEVNULL, universal_newlines=True, timeout=LONG, check=True)
+            found = [line for line in done.stdout.splitlines() if line.startswith("|")][2:]
+            with self.subTest(table):
+                self.assertEqual([line for line in found if not re.fullmatch(wanted, line)], [])
+                self.assertEqual(len(found), rows)

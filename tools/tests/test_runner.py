@@ -16,8 +16,10 @@ class Running(Tree):
         super().setUp()
         (self.top / "scripts").mkdir()
         (self.top / "tools/tests").mkdir(parents=True)
+        (self.top / "tools/katibuild_tests").mkdir()
         shutil.copy(TOP / "scripts/run_checks.py", self.top / "scripts")
         self.check("tools/tests/__main__.py", "3 passed, 0 failed, 0 skipped")
+        self.check("tools/katibuild_tests/__main__.py", "2 passed, 0 failed")
         self.check("scripts/check_docs.py", "0 passed, 0 failed")
 
     def check(self, name, *lines, status=0):
@@ -33,11 +35,12 @@ class Running(Tree):
         gate = self.check("gate.py", "== one crate", "one: its tests passed", "12 passed, 0 failed")
         self.check("scripts/check_docs.py", "5 passed, 0 failed")
         status, lines = self.run_checks("--gate", gate)
-        self.assertEqual((status, lines[-1]), (0, "20 passed, 0 failed"))
+        self.assertEqual((status, lines[-1]), (0, "22 passed, 0 failed"))
         self.assertEqual(lines[:3], ["== one crate", "one: its tests passed", "12 passed, 0 failed"])
 
     def test_a_failure_of_any_fails_all(self):
-        for name in ("gate.py", "scripts/check_docs.py", "tools/tests/__main__.py"):
+        for name in ("gate.py", "scripts/check_docs.py", "tools/tests/__main__.py",
+                     "tools/katibuild_tests/__main__.py"):
             with self.subTest(name):
                 self.setUp()
                 gate = self.check("gate.py", "12 passed, 0 failed")
@@ -59,7 +62,7 @@ class Running(Tree):
     def test_skipped_tests_are_told_before_the_last_line(self):
         self.check("tools/tests/__main__.py", "skipped: test_x.A.b: without ninja", "2 passed, 0 failed, 1 skipped")
         status, lines = self.run_checks("--no-gate")
-        self.assertEqual((status, lines[-2:]), (0, ["1 skipped: test_x.A.b", "2 passed, 0 failed"]))
+        self.assertEqual((status, lines[-2:]), (0, ["1 skipped: test_x.A.b", "4 passed, 0 failed"]))
 
     def test_the_gate_calls_it(self):
         lines = (TOP / ".ci/run").read_text().split("\n")

@@ -3,7 +3,7 @@ import os
 import signal
 import subprocess
 
-from support import LONG, TOP, Tree, kati, kati_asked, needs
+from support import LONG, Tree, kati, kati_asked, needs
 
 DEEP = 395
 
@@ -48,9 +48,3 @@ class Limits(Tree):
         for program, told in ((kati(), ""), (kati_asked(), "\0makefile\nMakefile\n")):
             ran = self.run_in(program)
             self.assertEqual((ran.status, ran.out), (2, told))
-
-    def test_what_the_document_names(self):
-        text = " ".join((TOP / "SECURITY.md").read_text().split())
-        for words in ("kati ends with status 4", f"{DEEP} nested `$(if a,..)` at `--depth 400`", "`timeout 60 kati`",
-                      "kati-asked writes the names"):
-            self.assertIn(words, text)

@@ -2,6 +2,7 @@
 import collections
 import importlib
 import os
+import re
 import shutil
 import sys
 import unittest
@@ -53,6 +54,11 @@ pub fn second() {
 
 pub fn by_hand() {
     by_hand_is
+}
+
+#[tactic(auto, using(crate::proofs::Lemmas::one))]
+pub fn by_lemmas() {
+    by_lemmas_is
 }
 """
 
@@ -136,6 +142,29 @@ class WrongBodies(Tree):
         self.assertEqual(self.tried(status=0), [f"demo wrong: refused ({why})",
                                                 "demo: 1 edits, 1 refused, 0 without evidence, 2 rounds"])
 
+    def test_lemmas_of_an_attribute_want_a_control(self):
+        self.edit("wrong", "    by_lemmas_is", "    WRONG")
+        self.assertEqual(self.tried(status=0)[0], "demo wrong: refused (goal ensures)")
+        self.edit("wrong", "    by_lemmas_is", "    if WRONG { x }")
+        why = "proved by named lemmas, and no control is beside it; goal ensures"
+        self.assertEqual(self.tried(status=1)[0], f"demo wrong: no evidence ({why})")
+        self.edit("wrong", "    by_lemmas_is", "    if SAME { x }", "control")
+        self.assertEqual(self.tried(status=0)[0], "demo wrong: refused (goal ensures)")
+
+    def test_what_loops_keep_wants_a_control(self):
+        self.edit("wrong", "    as_it_was", "    if WRONG { x }")
+        # A refusal under plain `auto` counts.
+        self.assertEqual(self.tried(status=0)[0], "demo wrong: refused (goal ensures)")
+        self.put("crates/demo/proofs/plain/Invariants.antt", "invariant-loop : goal.invariant-loop\n")
+        why = "no evidence (proved by hand, and no control is beside it; goal ensures)"
+        self.assertEqual(self.tried(status=1)[0], f"demo wrong: {why}")
+        self.edit("wrong", "    one", "    if WRONG { x }")
+        self.put("crates/demo/proofs/+round/Invariants.antt", "decreases-first : goal.decreases-first\n")
+        # That calls go down is asked of every body; what a loop keeps is written for one.
+        self.assertEqual(self.tried(status=0)[0], "demo wrong: refused (goal ensures)")
+        self.put("crates/demo/proofs/+round/Invariants.antt", "invariant-first-loop : goal.invariant-first-loop\n")
+        self.assertEqual(self.tried(status=1)[0], f"demo wrong: {why}")
+
     def test_controls_stand_in_one_folder(self):
         self.edit("wrong", "    by_hand_is", "    if other { x }", folder="must-fail")
         self.edit("wrong", "    by_hand_is", "    if SAME { QUIET }", "control")
@@ -172,11 +201,12 @@ class Recorded(unittest.TestCase):
         found = collections.Counter(path.parent.parent.name for path in edits)
         self.assertEqual({crate: int(lines[0].split()[1]) for crate, lines in self.rows.items()}, found)
 
-    def test_the_gate_names_each_edit_that_is_not_refused(self):
-        gate = (TOP / "docs/GATE.md").read_text()
+    def test_the_document_names_each_edit_that_is_not_refused(self):
+        document = (TOP / "docs/DEVELOPING.md").read_text()
         for crate, (counts, *others) in self.rows.items():
             with self.subTest(crate):
                 tried, refused = map(int, counts.split()[1:3])
                 self.assertEqual(tried - refused, len(others))
-                for line in others:
-                    self.assertIn(f"(`{line.split(':')[0].strip()}` of {crate})", gate)
+                rows = " ".join(re.findall(rf"^\| {crate} \| (`.*`) \|$", document, re.MULTILINE))
+                for name in (line.split(":")[0].strip() for line in others):
+                    self.assertTrue(f"(`{name}` of {crate})" in document or f"`{name}`" in rows, name)

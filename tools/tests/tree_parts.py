@@ -34,7 +34,7 @@ FIRST = $(shell head -1 notes/a.txt)
 ifeq ($(shell cat mode.txt),debug)
 MORE = $(shell wc -c < version.txt)
 endif
-values.out:
+values.out: Makefile
     echo '$(VERSION) $(MODE) $(FIRST) $(MORE) {}' > $@
 """, "values.out", {"version.txt": "1.{}\n", "mode.txt": "{debug|fast}\n", "notes/a.txt": "a {}\nb {}\n"})
 
@@ -97,11 +97,11 @@ FLAGS = base{}
 deep.out: KIND = deep{}
 deep.out: under.out
     cat under.out > $@
-under.out:
+under.out: Makefile
     echo '$(KIND) $(FLAGS)' > $@
 one.flag: FLAGS += one{}
 %.flag: PATTERN = p{}
-one.flag two.flag:
+one.flag two.flag: Makefile
     echo '$(FLAGS) $(PATTERN)' > $@
 unused: FLAGS = unused{}
 unused: one.flag
@@ -121,11 +121,11 @@ export TEXT
 override OPTIONS += over{}
 OPTIONS += never
 FOUR ?= four{}
-env.out:
+env.out: Makefile
     echo "$$ONE $$TWO $${THREE-none} $$TEXT" > $@
     echo '$(OPTIONS) $(FOUR)' >> $@
 own.out: export FIVE = five{}
-own.out:
+own.out: Makefile
     echo "$$FIVE $$ONE" > $@
 """, "env.out own.out", {"exported.txt": "{}\n"})
 
@@ -181,7 +181,7 @@ m/made.gen: made.in
 GLOB_INCLUDE = Part("""\
 include mk/*.mk
 -include local.mk
-glob.out:
+glob.out: Makefile
     echo '$(GLOB) $(LOCAL)' > $@
 """, "glob.out", {"mk/a.mk": "GLOB += a{}\n", "mk/b.mk": "GLOB += b{}\n"},
                     {"mk/c.mk": "GLOB += c{}\n", "local.mk": "LOCAL = {}\n"}, ("mk/a.mk",))
@@ -201,7 +201,7 @@ recipe.out: rec/one.txt rec/two.txt
     echo "$(foreach f,$^,$(shell sed 1q $(f))) $(shell cat rec/other.txt)" >> $@
 fitting.out: fit/*.t
     cat $^ > $@
-told.out:
+told.out: Makefile
     echo '$(CURDIR) $(notdir $(realpath link)) $(file < told.txt) $(wildcard fit/*)' > $@
 """, "recipe.out fitting.out told.out", {
     "rec/one.txt": "1 {}\n", "rec/two.txt": "2 {}\n", "rec/other.txt": "{}\n", "told.txt": "{}\n", "fit/a.t": "{}\n",

@@ -33,7 +33,7 @@ pub use Rattle.kt_ninja.specs.Plan.{names_of}
 pub use Rattle.kt_ninja.specs.View.{made_by}
 pub use Rattle.kt_ninja.specs.Writable.{HasWritableTexts, is_command_byte, is_empty, is_name, is_writable_making, no_output, not_an_output, repeated, told_obstacle}
 pub use Rattle.kt_ninja_reader.proofs.PrintThenRead.{printed_is_read}
-pub use Rattle.kt_recipe.proofs.CommandLemmas.{gave_both}
+pub use Rattle.kt_recipe.proofs.GaveLemmas.{gave_both}
 pub use Rattle.kt_rules.specs.Entry.{needs_for}
 pub use Rattle.kt_rules.specs.Names.{is_among, with_name}
 unfoldable pub use Rattle.kt_rules.specs.Names.{after_dots, without_dots, without_repeats}

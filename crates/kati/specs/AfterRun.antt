@@ -91,15 +91,15 @@ Leaves args store (Err faults.Memory) old new = IsUntouched args store faults.Me
 
 -- ---- the output after a run, whatever the files hold
 
--- it has a plan's text, or a prefix of it; the plan can be written and is sound
+-- an output has a plan's text, or a prefix of that text, as `Has` says; the plan can be written and is sound
 pub record HasPlanText (Has : SinkSeen → SinkSeen → Text → Type 0) (old new : SinkSeen) : Type 0 where
   pub plan : Plan
   pub writable : IsWritable plan
   pub sound : IsSoundPlan plan
   pub has : Has old new (plan_text plan)
 
--- it has a plan's text only after a run that wrote one, and a prefix only where it failed; otherwise nothing is
--- written, and nothing is if a file is to be checked
+-- what the output has after a run, whatever the files hold: a plan's text if the run wrote one, a prefix of it if the
+-- output failed, and otherwise nothing. If a file is to be checked, nothing is written
 abbrev pub LeavesOut : Option Text → Result Status RunFault → SinkSeen → SinkSeen → Type 0
 LeavesOut (Some checked) result old new = new ≡ old
 LeavesOut None (Ok statuses.Done) old new = HasPlanText Takes old new
@@ -121,7 +121,7 @@ BlamesDevice (Err faults.Memory) old new = new.files.failed ≡ old.files.failed
 BlamesDevice (Err faults.WriteOut) old new = Rises old.out.failed new.out.failed × (new.files.failed ≡ old.files.failed)
 BlamesDevice (Err faults.WriteErr) old new = Rises old.err.failed new.err.failed × (new.files.failed ≡ old.files.failed)
 
--- the same for a step that only reads
+-- what caused a fault of a step that only reads: the failures of the files rose, or memory ran out and no file failed
 abbrev pub ReadBlames : {A : Type 0} → Result A RunFault → FilesSeen → FilesSeen → Type 0
 ReadBlames (Ok x) old new = new.failed ≡ old.failed
 ReadBlames (Err (faults.Read name)) old new = Rises old.failed new.failed × (last new.names ≡ Some (string_bytes name))
@@ -145,7 +145,7 @@ pub record RunExits (args : Args) (code : ℕ) (old new : Devices) : Type 0 wher
   pub exit : code ≡ exit_code run
   pub told : ReportsEnd run ended new
 
--- words that ask for no run ask for no file, either
+-- how a program ends, by what its words ask for; words that ask for no run ask for no file, either
 abbrev pub ExitsBy : (Args → ℕ → Devices → Devices → Type 0) → Text → Result Args ArgFault → ℕ → Devices → Devices
     → Type 0
 ExitsBy Runs lead (Ok args) code old new = Runs args code old new
@@ -159,6 +159,6 @@ pub record Exits (Runs : Args → ℕ → Devices → Devices → Type 0) (lead 
   pub answers : AnswersWords words answered
   pub exits : ExitsBy Runs lead answered code old new
 
--- kati
+-- kati as a whole program: its words, its exit status, and the devices before and after it
 abbrev pub KatiExits : List Text → ℕ → Devices → Devices → Type 0
 KatiExits words code old new = Exits RunExits [] words code old new

@@ -8,5 +8,6 @@ pub record Devices : Type 0 where
   pub out : SinkSeen
   pub err : SinkSeen
 
+-- the devices, from what is seen of the files, of the output and of the error output
 abbrev pub devices : FilesSeen → SinkSeen → SinkSeen → Devices
 devices files out err = record { files = files; out = out; err = err }

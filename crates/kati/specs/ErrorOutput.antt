@@ -9,6 +9,7 @@ use Rattle.kati.specs.Meaning.{Meaning}
 
 -- ---- messages, and the makefile's fault
 
+-- the line that reports the makefile's fault, or an empty text if there is a plan
 abbrev pub fault_text : Result Plan Fault → Text
 fault_text (Ok plan) = []
 fault_text (Err fault) = fault_line fault ++ codes "\n"
@@ -47,7 +48,7 @@ GivesHelp text code out out' err err' =
     ⊎ ((code ≡ fault_code faults.WriteOut) × Rises out.failed out'.failed × GrowsByFront out out' text
     × WritesOrFails (fault_words faults.WriteOut) err err')
 
--- all other results of words that ask for no run go to the error output
+-- the text for words that ask for no run goes to the error output, with the expected exit status
 abbrev pub RefusesWith : ℕ → Text → ℕ → SinkSeen → SinkSeen → SinkSeen → SinkSeen → Type 0
 RefusesWith expected text code out out' err err' = (code ≡ expected) × (out' ≡ out) × WritesOrFails text err err'
 

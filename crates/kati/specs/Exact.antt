@@ -41,6 +41,8 @@ pub record StandInOrder (statements : List Statement) : Type 0 where
   pub are : statements ≡ with_always_built groups
   pub rise : IsStrictlySortedBy (slice_cmp nat_cmp) (map (λ statement. first_output statement.outs) groups)
 
+-- a plan is exactly the graph of the goals. Each target that a rule makes and the goals reach is an output once, no
+-- output but `always_build` is added, and the default targets are the goals
 pub record TellsGraph (read : Makefile) (limit : ℕ) (known goals : List Text) (plan : Plan) : Type 0 where
   pub nodes : List Node
   pub graph : IsSoundGraph read.book known goals nodes
@@ -58,7 +60,7 @@ pub record TellsGraph (read : Makefile) (limit : ℕ) (known goals : List Text) 
   pub ordered : StandInOrder plan.statements
   pub defaults : plan.defaults ≡ goals
 
--- the graph is that of the goals, from the list, the makefile and the arguments
+-- a plan is the graph of the goals that the list, the makefile and the arguments give
 pub record IsGraphOf (args : Args) (store : Store) (asked : List Text) (plan : Plan) : Type 0 where
   pub want : WantedGoals
   pub trace : Trace

@@ -4,7 +4,7 @@ use Rattle.kati.specs.Prelude.{Text, Fault, Store, Plan, Args, Status, Devices}
 use Rattle.kati.specs.AfterRun.{EndsInFull}
 use Rattle.kati.specs.Meaning.{Meaning, Means}
 
--- the same arguments with this limit
+-- these arguments with another limit of levels
 abbrev pub with_limit : ℕ → Args → Args
 with_limit limit args = record args { limit = limit }
 

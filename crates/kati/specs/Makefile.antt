@@ -21,6 +21,7 @@ set_by_command_line value = record { flavour = Deferred; origin = CommandLine; v
 abbrev pub with_macro : Macros → MacroWord → Macros
 with_macro table entry = put entry.name (set_by_command_line entry.value) table
 
+-- the macros of the command line, as they are before any makefile is read
 unfoldable pub command_line_table : List MacroWord → Macros
 command_line_table entries = fold with_macro [] entries
 

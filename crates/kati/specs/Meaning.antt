@@ -9,12 +9,13 @@ use Rattle.kati.specs.Makefile.{makefile_read}
 use Rattle.kati.specs.Goals.{chosen_goals}
 use Rattle.kati.specs.plan.Planning.{planned}
 
--- the names asked for are those from before the run, and its own
+-- what a run means: its messages, its plan or first fault, and the names asked for, those from before the run included
 pub record Meaning : Type 0 where
   pub messages : List Text
   pub result : Result Plan Fault
   pub asked : List Text
 
+-- the meaning of a run that ended so: the messages and names asked for that it left, and its plan or its fault
 abbrev pub meaning_of : StepEnd Trace Plan → Meaning
 meaning_of (Gave trace plan) = record { messages = trace.said; result = Ok plan; asked = trace.asked }
 meaning_of (Stopped trace fault) = record { messages = trace.said; result = Err fault; asked = trace.asked }
@@ -27,11 +28,13 @@ pub record WantedGoals : Type 0 where
   pub known : List Text
   pub goals : List Text
 
+-- the goals of a makefile that was read, with the names that the list of files and the rules make known
 abbrev pub wanted_by : Args → Text → Makefile → StepOver (List Text) WantedGoals
 wanted_by args list read = do
   goals ← chosen_goals args.limit read args.goals
   done (record { read = read; known = known_names read.book list; goals = goals })
 
+-- the first steps of a run: the list of files and the makefile are read, and the goals are chosen
 abbrev pub prepared : Args → Store → StepOver Trace WantedGoals
 prepared args store = do
   list ← listed store args.files
@@ -40,16 +43,20 @@ prepared args store = do
 
 -- ---- then the plan of the graph that the goals need, or the first thing that is wrong with it
 
+-- nothing is wrong with the graph of the goals: the run means the plan of its nodes, or the fault of a plan that can't
+-- be written
 pub record MeansPlan (limit : ℕ) (want : WantedGoals) (trace : Trace) (m : Meaning) : Type 0 where
   pub nodes : List Node
   pub graph : IsSoundGraph want.read.book want.known want.goals nodes
   pub means : m ≡ meaning_of (telling (planned want.read.book want.read.table limit want.goals nodes) trace)
 
+-- something is wrong with the graph of the goals: the run means the fault of the trouble that comes first
 pub record MeansTrouble (want : WantedGoals) (trace : Trace) (m : Meaning) : Type 0 where
   pub trouble : Trouble
   pub first : ComesFirst want.read.book want.known want.goals (Some trouble)
   pub means : m ≡ meaning_of (Stopped trace (fault_at None (trouble_number trouble) (trouble_words trouble)))
 
+-- what a run means once its goals are chosen, whether something is wrong with their graph or not
 abbrev pub MeansGoals : ℕ → WantedGoals → Trace → Meaning → Type 0
 MeansGoals limit want trace m = MeansPlan limit want trace m ⊎ MeansTrouble want trace m
 
@@ -60,17 +67,13 @@ abbrev pub MeansAfter : ℕ → StepEnd Trace WantedGoals → Meaning → Type 0
 MeansAfter limit (Gave trace want) m = MeansGoals limit want trace m
 MeansAfter limit (Stopped trace fault) m = m ≡ meaning_of (Stopped trace fault)
 
--- a run with these arguments over these files, after these names were asked for
+-- what a run with these arguments over these files means, after these names were asked for
 abbrev pub Means : Args → Store → List Text → Meaning → Type 0
 Means args store asked m = MeansAfter args.limit (prepared args store (traced [] asked)) m
 
 -- ---- the names that a run asks for
 
--- after the goals are chosen no name is asked for but the file to be checked; these names were asked for before
+-- the names asked for until the goals are chosen, with those from before the run; after that a run only asks for the
+-- file to be checked
 abbrev pub names_asked : Args → Store → List Text → List Text
 names_asked args store asked = (left_of (prepared args store (traced [] asked))).asked
-
--- a run asks for exactly these names, whatever its goals need
-abbrev pub NamesAreAsked : Type 0
-NamesAreAsked = (args : Args) (store : Store) (asked : List Text) (m : Meaning) → Means args store asked m
-    → m.asked ≡ names_asked args store asked

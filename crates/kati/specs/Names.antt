@@ -1,6 +1,6 @@
 -- What kati-asked writes, and how it ends (kati's own).
-use Rattle.std.specs.Prelude.{◌≡◌, ℕ, List, ◌∷◌, ◌++◌, Result, Ok, Err, codes, Bool, false, ◌==◌}
-use Rattle.kati.specs.Prelude.{flat_map, list_any, Rises, Text, AgreeWith, Store, Args, RunFault, Status, Devices}
+use Rattle.std.specs.Prelude.{◌≡◌, ℕ, List, ◌∷◌, ◌++◌, Result, Ok, Err, codes}
+use Rattle.kati.specs.Prelude.{flat_map, Rises, Text, AgreeWith, Store, Args, RunFault, Status, Devices}
 use Rattle.kt_ninja.specs.Written.{GrowsByFront, SinkSeen, Takes}
 use Rattle.kati.specs.declared.faults.RunFault.TheVariants as faults
 use Rattle.kati.specs.Exits.{exit_code}
@@ -50,16 +50,6 @@ pub record NamingExits (args : Args) (code : ℕ) (old new : Devices) : Type 0 w
 abbrev pub help_lead : Text
 help_lead = codes "kati-asked runs kati, and writes the names that it asks for behind a NUL:\n\n"
 
--- the whole program: like kati, but for its run and the line before the help
+-- kati-asked as a whole program: like kati, but for its run and the line before the help
 abbrev pub AskedExits : List Text → ℕ → Devices → Devices → Type 0
 AskedExits words code old new = Exits NamingExits help_lead words code old new
-
--- ---- lines tell names
-
-abbrev pub has_newline : Text → Bool
-has_newline name = list_any (λ byte. byte == 10) name
-
--- no two lists of names without newlines are written as the same text
-abbrev pub LinesTellNames : Type 0
-LinesTellNames = (one other : List Text) → list_any has_newline one ≡ false → list_any has_newline other ≡ false
-    → name_lines one ≡ name_lines other → one ≡ other

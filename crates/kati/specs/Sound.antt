@@ -25,6 +25,8 @@ pub record IsUnreserved (statement : Statement) : Type 0 where
       → is_reserved name ≡ false
   pub implicit : (name : Text) → Contains statement.implicit name → name ≡ always_build
 
+-- no output of a plan depends on itself, no two outputs are one file, and the reserved name `always_build` is only
+-- where kati itself puts it
 pub record IsSoundPlan (plan : Plan) : Type 0 where
   pub uncircled : (name : Text) → ¬ NeedsItself plan.statements name
   pub files_differ : (one other : Text) → Contains (outputs plan.statements) one

@@ -1,10 +1,9 @@
 -- What is asked for, put together; and what is answered for an error.
-use Rattle.std.proofs.Common.{arith, ◌≡◌, ◌∙◌, List, None, false, Ok, Err, inl, inr, ap, subst, sym, ⊎_elim, [], ◌∷◌, true≢false, find, option_map, unwrap_or, codes, Result, ◌≢◌}
-use Rattle.kati_args.proofs.Common.{cases_Bool, Text, HasKind, IsAmong, Row, fault_of, first_of, kind_of, matches_of, takes, Error, ErrorKind, DisplayHelp, OutOfMemory}
+use Rattle.std.proofs.Common.{arith, ◌≡◌, ◌∙◌, List, None, false, Ok, Err, inl, inr, ap, subst, sym, ⊎_elim, find, option_map, unwrap_or, codes, Result, ◌≢◌}
+use Rattle.kati_args.proofs.Common.{cases_Bool, Text, HasKind, IsAmong, Row, fault_of, first_of, kind_of, matches_of, takes, Error, ErrorKind, OutOfMemory}
 use Rattle.kati_args.specs.declared.args.Args.{Args}
 use Rattle.kati_args.specs.declared.fault.ArgFault.{ArgFault}
 use Rattle.kati_args.specs.declared.fault.ArgFault.TheVariants.{BadMacro, Help, Memory, Usage}
-use Rattle.kati_args.specs.Rows.{IsUsage}
 use Rattle.kati_args.specs.Args.{AnswersWords, AnswersFound, IsTaken, ReportsError, answer_to, args_in, goals_in, is_bad_macro, kati_app, macros_in, number_in, unless_bad, words_in}
 
 pub args_are : (rows : List Row) (made : Args) → made.makefile ≡ first_of (codes "makefile") rows → made.files ≡ first_of (codes "files") rows
@@ -26,7 +25,7 @@ answers_found words rows (Err (Usage text)) found taken answered = absurd answer
 not_taken : (words : List Text) (e : Error) → (IsTaken words → kind_of e ≡ OutOfMemory) → (kind_of e ≢ OutOfMemory) → takes kati_app words ≡ false
 not_taken words e taken other = ⊎_elim (λ t. absurd (other (taken t))) (λ f. f) (cases_Bool (takes kati_app words))
 
-among : (words : List Text) (e : Error) → HasKind (fault_of kati_app words) e → (kind_of e ≢ OutOfMemory) → IsAmong (kind_of e) (fault_of kati_app words)
+pub among : (words : List Text) (e : Error) → HasKind (fault_of kati_app words) e → (kind_of e ≢ OutOfMemory) → IsAmong (kind_of e) (fault_of kati_app words)
 among words e (inl memory) other = absurd (other memory)
 among words e (inr one) other = one
 
@@ -39,12 +38,3 @@ answers_fault words e (Usage text) taken kinds told =
     (not_taken words e taken told.0, (kind_of e, told.1, among words e kinds told.0))
 answers_fault words e (BadMacro word) taken kinds told = absurd told
 answers_fault words e Memory taken kinds told = tt
-
--- where clap doesn't take the words, for one reason that isn't its help, only usage may be answered
-pub usage_alone : (words : List Text) (kind : ErrorKind) → takes kati_app words ≡ false → fault_of kati_app words ≡ kind ∷ [] → (DisplayHelp ≡ kind → ⊥)
-    → (result : Result Args ArgFault) → AnswersWords words result → IsUsage result
-usage_alone words kind untaken fault other (Ok args) answered = absurd (true≢false (sym answered.0 ∙ untaken))
-usage_alone words kind untaken fault other (Err (BadMacro word)) answered = absurd (true≢false (sym answered.0 ∙ untaken))
-usage_alone words kind untaken fault other (Err (Help text)) answered = grind (arith, among, ⊎_elim)
-usage_alone words kind untaken fault other (Err (Usage text)) answered = tt
-usage_alone words kind untaken fault other (Err Memory) answered = tt

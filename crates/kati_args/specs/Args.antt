@@ -18,9 +18,11 @@ use Rattle.kati_args.specs.declared.fault.ArgFault.TheVariants.{BadMacro, Help, 
 
 -- ---- the command, as clap has it
 
+-- the option `-f FILE`, as clap has it
 abbrev pub makefile_rule : Rule
 makefile_rule = record (new_rule (codes "makefile")) { short = Some 102; action = Some Set; value_names = 1 }
 
+-- the option `--ninja`, as clap has it
 abbrev pub ninja_rule : Rule
 ninja_rule = record (new_rule (codes "ninja")) { long = Some (codes "ninja"); action = Some SetTrue }
 
@@ -28,10 +30,11 @@ ninja_rule = record (new_rule (codes "ninja")) { long = Some (codes "ninja"); ac
 abbrev pub option_rule : Text → Rule
 option_rule name = record (new_rule name) { long = Some name; action = Some Set; value_names = 1 }
 
+-- the option `--depth N`, as clap has it: a number from 1 to 400
 abbrev pub depth_rule : Rule
 depth_rule = record (option_rule (codes "depth")) { parser = Some (parser.Unsigned 1 400) }
 
--- what is no option
+-- the words that are no option: goals and macros, any number of them
 abbrev pub words_rule : Rule
 words_rule = record (new_rule (codes "words")) { action = Some Append; value_names = 1 }
 
@@ -43,10 +46,11 @@ kati_app =
 
 -- ---- words that are no option
 
+-- the words that are no option, in order
 abbrev pub words_in : List Row → List Text
 words_in rows = unwrap_or (all_of (codes "words") rows) []
 
--- a word with an equals sign is a macro, and the others are goals
+-- whether a word is a macro: a word with an equals sign is one, and all others are goals
 abbrev pub is_macro : Text → Bool
 is_macro word = list_any is_equals word
 
@@ -54,9 +58,11 @@ is_macro word = list_any is_equals word
 abbrev pub name_before_equals : Text → Text
 name_before_equals word = before_first is_equals word
 
+-- the macro that a word sets: its name is before the first equals sign, and its value after it
 abbrev pub macro_of_word : Text → MacroWord
 macro_of_word word = record { name = name_before_equals word; value = after_first is_equals word }
 
+-- whether a word is empty
 abbrev pub is_empty_word : Text → Bool
 is_empty_word [] = true
 is_empty_word (byte ∷ bytes) = false
@@ -65,7 +71,7 @@ is_empty_word (byte ∷ bytes) = false
 abbrev pub is_operator : ℕ → Bool
 is_operator byte = byte == 58 || (byte == 63 || (byte == 43 || byte == 33))
 
--- whether the last byte is one
+-- whether a name ends in `:`, `?`, `+` or `!`
 abbrev pub ends_in_operator : Text → Bool
 ends_in_operator name = option_map_or is_operator (slice_get name (length name - 1)) false
 
@@ -73,17 +79,21 @@ ends_in_operator name = option_map_or is_operator (slice_get name (length name -
 abbrev pub is_bad_macro_name : Text → Bool
 is_bad_macro_name name = is_empty_word name || (list_any is_separator name || ends_in_operator name)
 
+-- whether a word sets a macro with a name that no macro can have
 abbrev pub is_bad_macro : Text → Bool
 is_bad_macro word = is_macro word && is_bad_macro_name (name_before_equals word)
 
+-- the goals among words: those without an equals sign
 abbrev pub goals_in : List Text → List Text
 goals_in words = filter (λ word. not (is_macro word)) words
 
+-- the macros among words: those with an equals sign
 abbrev pub macros_in : List Text → List MacroWord
 macros_in words = map macro_of_word (filter is_macro words)
 
 -- ---- what they ask for
 
+-- the number that decimal digits are, perhaps after a plus sign
 abbrev pub number_in : Text → ℕ
 number_in text = digits_value 10 (without_leading_plus text)
 
@@ -100,6 +110,7 @@ args_in rows = record {
 
 -- ---- answers
 
+-- the arguments, or the word that sets a bad macro if there is one
 abbrev pub unless_bad : Args → Option Text → Result Args Text
 unless_bad args None = Ok args
 unless_bad args (Some word) = Err word

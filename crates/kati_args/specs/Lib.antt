@@ -1,3 +1,2 @@
 pub mod Prelude
 pub mod Args
-pub mod Rows

@@ -5,7 +5,6 @@ mod args;
 mod asking;
 mod command;
 mod fault;
-pub mod laws;
 mod matching;
 mod word;
 mod words;

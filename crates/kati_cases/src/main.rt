@@ -1,4 +1,4 @@
-//! Runs the cases over memory, and prints a line for each. docs/CASES.md says how a case is written.
+//! Runs the cases over memory, and prints a line for each. docs/DEVELOPING.md says how a case is written.
 #![tactic(auto)]
 
 mod case;

@@ -1,4 +1,4 @@
--- What is seen of the host's files.
+-- What is seen of the host's files (kati's own).
 use Rattle.std.specs.Prelude.{map, option_map, string_bytes}
 use Rattle.kt_eval.specs.files.Files.{FilesSeen}
 use Rattle.kati_host.specs.declared.files.HostFiles.{HostFiles}

@@ -117,16 +117,6 @@ fn found_in<R: Read + Drop>(
     }
 }
 
-/// The bytes of the file, or `None` if there is no file. That it is the file of this name that is opened stands in no
-/// clause.
-fn read_file(
-    rt: &HostRuntime,
-    block: &mut [u8; BLOCK],
-    name: &str,
-) -> Result<Option<Vec<u8>>, FileFault> {
-    found_in(rt, block, fs::open(rt, name))
-}
-
 impl<'a> HostFiles<'a> {
     ghost use Rattle.std.specs.Prelude.{◌≡◌, ◌++◌, ◌∷◌, [], IfErr, IfOk, OnErr, OnOk, map, string_bytes};
 
@@ -202,6 +192,37 @@ impl<'a> HostFiles<'a> {
     }
 }
 
+impl<'a> HostFiles<'a> {
+    ghost use Rattle.std.specs.Prelude.{◌≡◌, ◌≤◌, ◌++◌, ◌∷◌, [], IfErr, IfOk, IfSome, IsNone, IsSome, OnErr, Some};
+    ghost use Rattle.std.specs.Prelude.{option_map, string_bytes};
+    ghost use Rattle.std.specs.IoError.{error_kind};
+    ghost use Rattle.kt_eval.specs.files.Files.{AskedAfter, CountedAfter};
+    ghost use Rattle.kati_host.specs.Seen.{files_seen};
+
+    // Notes what is found where a file was to be opened, under this name, and gives just that, unless the name can't be
+    // kept. That the file that was opened has this name is said by no clause.
+    fn read_noted<R: Read + Drop>(
+        &mut self,
+        name: String,
+        opened: io::Result<R>,
+    ) -> Result<Option<Vec<u8>>, FileFault>
+        ensures all { IfOk opened (λ reader. IfOk result (λ found. IfSome (R.remaining reader)
+            (λ all. option_map (λ bytes. bytes.items) found ≡ Some all))) }
+        ensures there { IfOk opened (λ _. IfOk result IsSome) }
+        ensures absent { IfErr opened (λ error. IfOk result (λ _. error_kind error ≡ ErrorKind.NotFound)) }
+        ensures none { OnErr opened (IfOk result IsNone) }
+        ensures answers { IfOk result (λ found. (files_seen self.new).answers ≡ (files_seen self.old).answers
+            ++ (string_bytes name, option_map (λ bytes. bytes.items) found) ∷ []) }
+        ensures keeps { OnErr result ((files_seen self.new).answers ≡ (files_seen self.old).answers) }
+        ensures asked { AskedAfter result (files_seen self.old) (files_seen self.new) (string_bytes name) }
+        ensures counts { self.old.failures ≤ self.new.failures }
+        ensures fails { CountedAfter result (files_seen self.old) (files_seen self.new) }
+    {
+        let read = found_in(self.rt, &mut self.block, opened);
+        self.noted(name, read)
+    }
+}
+
 impl<'a> Files for HostFiles<'a> {
     ghost use Rattle.kati_host.specs.Seen.{files_seen};
 
@@ -212,8 +233,7 @@ impl<'a> Files for HostFiles<'a> {
             Ok(copy) => copy,
             Err(_) => return Err(FileFault::Memory),
         };
-        let read = read_file(self.rt, &mut self.block, name);
-        self.noted(copy, read)
+        self.read_noted(copy, fs::open(self.rt, name))
     }
 
     fn asked(&self) -> &[String] {

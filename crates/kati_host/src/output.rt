@@ -2,6 +2,8 @@
 ghost use Rattle.std.specs.Prelude.{◌≡◌, ◌<◌, ◌≤◌, ◌↔◌, ◌++◌, [], IfOk, IsOk, OnErr, OnOk, Some, length, take};
 ghost use Rattle.std.specs.Io.KnownBytes.{Appends};
 ghost use Rattle.kt_list.specs.Counters.{Rises};
+ghost use Rattle.kt_ninja.specs.Written.{GrowsByFront, Takes};
+ghost use Rattle.kati_host.specs.Written.{sink_seen};
 
 use kt_history::History;
 use kt_ninja::{Sink, SinkFault};
@@ -61,9 +63,21 @@ impl<W: Write + Drop> HostSink<W> {
 }
 
 impl<W: Write + Drop> Sink for HostSink<W> {
-    ghost seen = { λ s. record { written = Some s.written.items; failed = s.failures } };
+    ghost seen = { sink_seen };
 
-    fn write(&mut self, piece: &[u8]) -> Result<usize, SinkFault> {
+    // A contract of its own takes the place of the trait's: it repeats those clauses, and says of the real output that it
+    // gets just the bytes that are taken.
+    fn write(&mut self, piece: &[u8]) -> Result<usize, SinkFault>
+        ensures within { IfOk result (λ n. n ≤ length piece.now) }
+        ensures takes { IfOk result (λ n. Takes (sink_seen self.old) (sink_seen self.new) (take n piece.now)) }
+        ensures front { OnErr result (GrowsByFront (sink_seen self.old) (sink_seen self.new) piece.now) }
+        ensures counts { self.old.failures ≤ self.new.failures }
+        ensures fails { OnErr result (Rises self.old.failures self.new.failures) }
+        ensures stalls { IfOk result (λ n. n ≡ 0 → 0 < length piece.now → Rises self.old.failures self.new.failures) }
+        ensures holds { IfOk result (λ n. 0 < n → self.new.failures ≡ self.old.failures) }
+        ensures output { IfOk result (λ n. Appends (W.contents self.old.output) (W.contents self.new.output)
+            (take n piece.now)) }
+    {
         if piece.is_empty() {
             return Ok(0);
         }

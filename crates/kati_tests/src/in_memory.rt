@@ -8,7 +8,7 @@ ghost use Rattle.kati.specs.Devices.{devices};
 
 use kati::{Args, Outcome, RunFault, Status, run, translate};
 use kt_eval::MemFiles;
-use kt_eval::laws::files_in_memory_agree;
+use kt_eval_laws::laws::files_in_memory_agree;
 use kt_ninja::MemSink;
 use std::alloc::Global;
 

@@ -11,4 +11,3 @@ pub mod EarlyLemmas
 pub mod TextLemmas
 pub mod LastLemmas
 pub mod AgreementLemmas
-pub mod StoreLemmas

@@ -9,5 +9,4 @@ pub mod expanding
 pub mod reading
 pub mod Faults
 pub mod Growing
-pub mod Rows
 pub mod inner

@@ -1,5 +1,5 @@
 -- What reading and expanding know and change: macros, bindings, the rules so far, messages, the names asked for, the
--- place.
+-- place (kati's own).
 use Rattle.std.specs.Prelude.{◌-◌, Bool, false, ◌==◌, ◌&&◌, List, [], ◌∷◌, ◌++◌, length, take, Option, Some, None}
 use Rattle.std.specs.Prelude.{option_map, unwrap_or, codes, bytes_eq, if◌then◌else◌}
 use Rattle.std.specs.List.{list_all, slice_get}
@@ -17,8 +17,8 @@ use Rattle.kt_eval.specs.declared.state.Frame.TheVariants.{Loop, Call}
 use Rattle.kt_eval.specs.files.Files.{Store, look}
 use Rattle.kt_eval.specs.macros.Macros.{Macros, find, put}
 
--- the innermost binding is the last one; `automatic` has the automatic macros of a recipe, `book` the rules that are
--- closed, `rule` the open one
+-- what reading and expanding know and change: the innermost binding is the last one, `automatic` has the automatic
+-- macros of a recipe, `book` the rules that are closed, `rule` the open one
 pub record World : Type 0 where
   pub table : Macros
   pub automatic : Store
@@ -62,6 +62,7 @@ innermost_value name found (frame ∷ frames) = innermost_value name (newer foun
 abbrev pub fixed : Text → FoundValue
 fixed value = record { flavour = Immediate; value = value }
 
+-- what is found for the name of this macro: its value, and whether the value is expanded when it is used
 abbrev pub found_of : Macro → FoundValue
 found_of entry = record { flavour = entry.flavour; value = entry.value }
 
@@ -104,27 +105,34 @@ frozen_world table automatic place said =
       rule = None;
     }
 
--- the world after each change
+-- the world with one more binding, which is the innermost then
 abbrev pub bind : Frame → World → World
 bind frame w = record w { frames = w.frames ++ frame ∷ [] }
 
+-- the world without its innermost binding
 abbrev pub unbind : World → World
 unbind w = record w { frames = take (length w.frames - 1) w.frames }
 
+-- the world with one more message
 abbrev pub say : Text → World → World
 say message w = record w { said = w.said ++ message ∷ [] }
 
+-- the world with one more message, which names the current place
 abbrev pub warn : Text → World → World
 warn message w = say (message_place w.place ++ (codes ": " ++ message)) w
 
+-- the world after one more file name was asked for
 abbrev pub ask : Text → World → World
 ask name w = record w { asked = w.asked ++ name ∷ [] }
 
+-- the world at this place
 abbrev pub move_to : Option Place → World → World
 move_to place w = record w { place = place }
 
+-- the world in which this name has this macro
 abbrev pub set_macro : Text → Macro → World → World
 set_macro name value w = record w { table = put name value w.table }
 
+-- the world with this rule open, or with none
 abbrev pub set_rule : Option Entry → World → World
 set_rule rule w = record w { rule = rule }

@@ -1,4 +1,4 @@
--- The steps of an evaluation, which leave a world, and what else a call leaves.
+-- The steps of an evaluation, which leave a world, and what else a call leaves (kati's own).
 use Rattle.std.specs.Prelude.{◌≡◌, ℕ, suc, ◌+◌, ◌≤◌, Option, Some, List, [], ◌∷◌, bytes_eq, Result, Ok, Err, string_bytes, if◌then◌else◌}
 use Rattle.kt_list.specs.Counters.{Rises}
 use Rattle.kt_text.specs.Words.{Text}
@@ -54,9 +54,11 @@ Keeps old new =
     AnswersGrow old.answers new.answers × (new.lender ≡ old.lender) × (old.failed ≤ new.failed)
     × GoesOn old.world new.world
 
+-- a step of an evaluation: it takes a world, and leaves one
 abbrev pub Step : Type 0 → Type 0
 Step A = StepOver World A
 
+-- a fault at a place, or at none, with this number and this message
 abbrev pub fault_at : Option Place → ℕ → Text → Fault
 fault_at place number words = record { place = place; number = number; words = words }
 
@@ -64,7 +66,7 @@ fault_at place number words = record { place = place; number = number; words = w
 abbrev pub fault_of : Option Place → FaultKind → Text → Fault
 fault_of place kind name = fault_at place (fault_kind_number kind) (words_with kind name)
 
--- such a fault at the world's current place
+-- a step that stops at a fault of this kind about this name, at the world's current place
 abbrev pub stop : {A : Type 0} → FaultKind → Text → Step A
 stop kind name w = Stopped w (fault_of w.place kind name)
 
@@ -80,6 +82,6 @@ BlamesBy (Err (stops.Fault fault)) old new asked = new ≡ old
 BlamesBy (Err (stops.Device name)) old new asked = Rises old new × (last asked ≡ Some (string_bytes name))
 BlamesBy (Err stops.Memory) old new asked = new ≡ old
 
--- the same, from what is seen of the files before and after
+-- what `BlamesBy` says, from what is seen of the files before and after
 abbrev pub Blames : {A : Type 0} → Result A Stop → FilesSeen → FilesSeen → Type 0
 Blames result old new = BlamesBy result old.failed new.failed new.names

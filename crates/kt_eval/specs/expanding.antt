@@ -5,5 +5,3 @@ pub mod Calls
 pub mod Expansion
 pub mod Levels
 pub mod Pure
-pub mod Arguments
-pub mod Doubling

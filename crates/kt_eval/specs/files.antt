@@ -2,5 +2,4 @@
 -- defines which names an include asks for.
 pub mod Files
 pub mod Memory
-pub mod Agreement
 pub mod Including

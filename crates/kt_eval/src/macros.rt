@@ -189,7 +189,7 @@ impl Macros {
         self.enter(Text::from(name), value)
     }
 
-    // The same for a name that is copied.
+    // As `insert`, for a name that is copied.
     pub(crate) fn set(&mut self, name: &[u8], value: Macro) -> Result<(), AllocError>
         ensures { OnOk result (self.new ≡ put name.now value self.old) }
     {

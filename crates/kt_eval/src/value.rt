@@ -78,7 +78,7 @@ impl Value {
         }
     }
 
-    /// The same value once more. Many bytes are shared, not copied.
+    /// This value once more. Many bytes are shared, not copied.
     pub fn share(&self) -> Result<Value, AllocError>
         ensures { IfOk result (λ value. value ≡ self.now) }
     {

@@ -11,8 +11,3 @@ named_goals words = without_repeats (map without_dots words)
 unfoldable pub default_goals : List Entry → Text → List Text
 default_goals rules text =
     if is_nonempty (stripped text) then without_dots (stripped text) ∷ [] else option_to_list (first_goal_of rules)
-
--- the goals; without one there is nothing to do
-abbrev pub goals_of : List Entry → List Text → Text → List Text
-goals_of rules [] text = default_goals rules text
-goals_of rules (word ∷ words) text = named_goals (word ∷ words)

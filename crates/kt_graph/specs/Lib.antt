@@ -5,5 +5,4 @@ pub mod nodes
 pub mod Goals
 pub mod faults
 pub mod Reach
-pub mod Rows
 pub mod inner

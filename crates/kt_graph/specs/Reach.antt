@@ -60,6 +60,7 @@ pub record IsCyclic (rules : List Entry) (known goals : List Text) (name : Text)
 
 -- ---- other faults
 
+-- a reached name that is reserved for kati
 pub record IsReserved (rules : List Entry) (known goals : List Text) (name : Text) : Type 0 where
   pub reached : IsReached rules known goals name
   pub reserved : is_reserved name ≡ true
@@ -84,12 +85,14 @@ pub record IsFirst (P : Text → Type 0) (name : Text) : Type 0 where
 
 -- ---- what is wrong, and what comes first
 
+-- what may be wrong with a graph: a goal that no rule makes, a cycle, a reserved name, two targets of one file
 pub data Trouble : Type 0 where
   no_rule : (goal : Text) → Trouble
   circular : (name : Text) → Trouble
   reserved_name : Trouble
   one_file : (name : Text) → Trouble
 
+-- whether no rule makes a goal
 abbrev pub is_unmade : List Entry → List Text → Text → Bool
 is_unmade rules known goal = is_leaf (node_of rules known goal).kind
 
@@ -97,18 +100,21 @@ is_unmade rules known goal = is_leaf (node_of rules known goal).kind
 abbrev pub unmade_goal : List Entry → List Text → List Text → Option Text
 unmade_goal rules known goals = find (is_unmade rules known) goals
 
--- nothing is wrong, up to some kind of trouble
+-- a rule makes each goal
 pub record HasMadeGoals (rules : List Entry) (known goals : List Text) : Type 0 where
   pub made : unmade_goal rules known goals ≡ None
 
+-- a rule makes each goal, and no reached name is cyclic
 pub record HasNoCycle (rules : List Entry) (known goals : List Text) : Type 0 where
   pub goals_made : HasMadeGoals rules known goals
   pub uncircled : (name : Text) → ¬ IsCyclic rules known goals name
 
+-- a rule makes each goal, and no reached name is cyclic or reserved
 pub record HasNoReserved (rules : List Entry) (known goals : List Text) : Type 0 where
   pub uncircled : HasNoCycle rules known goals
   pub free : (name : Text) → ¬ IsReserved rules known goals name
 
+-- nothing is wrong: a rule makes each goal, no reached name is cyclic or reserved, and no two made names are one file
 pub record IsSound (rules : List Entry) (known goals : List Text) : Type 0 where
   pub free : HasNoReserved rules known goals
   pub single : (name : Text) → ¬ IsDoubled rules known goals name

@@ -64,7 +64,7 @@ impl<'a> Known<'a> {
         self.ends.is_marked(name) && self.has(name)
     }
 
-    // The same, by looking the name up.
+    // As `contains`, by looking the name up.
     #[tactic(auto, using(kt_rules::proofs::BookLemmas::among_fold))]
     fn has(&self, name: &[u8]) -> bool
         ensures { result ≡ is_among self.now name.now }

@@ -4,7 +4,6 @@
 mod faults;
 mod goals;
 mod known;
-pub mod laws;
 mod nodes;
 mod reach;
 mod search;

@@ -1,5 +1,5 @@
 -- Numbers in chains.
-use Rattle.std.proofs.Common.{◌≡◌, ◌⊎◌, inl, inr, ⊎_elim, ℕ, zero, suc, ◌+◌, ◌-◌, ◌*◌, ◌%◌, ◌<◌, ◌≤◌, List, [], ◌∷◌, ◌++◌, length, set, replicate, take, Some, slice_get, sym, ap, ◌∙◌, refl, arith, subst}
+use Rattle.std.proofs.Common.{◌≡◌, ◌⊎◌, inl, inr, ⊎_elim, ℕ, zero, suc, ◌+◌, ◌-◌, ◌*◌, ◌%◌, ◌<◌, ◌≤◌, List, [], ◌∷◌, ◌++◌, length, set, take, Some, slice_get, sym, ap, ◌∙◌, refl, arith, subst}
 use Rattle.std.proofs.Math.ListN.{get_or-eq_default}
 use Rattle.std.proofs.Math.Nat.{eq-or-lt_of_le, mod-lt}
 use Rattle.std.proofs.lemmas.Bool.{cases_lt}
@@ -16,11 +16,6 @@ slice_get-front [] ys place h = absurd (omega (arith, h))
 slice_get-front (x ∷ xs) ys zero h = refl
 slice_get-front (x ∷ xs) ys (suc place) h = slice_get-front xs ys place (omega (arith, h))
 
-pub slice_get-set : {A : Type 0} (xs : List A) (at : ℕ) (x : A) → at < length xs → slice_get (set xs at x) at ≡ Some x
-slice_get-set [] at x h = absurd (omega (arith, h))
-slice_get-set (y ∷ xs) zero x h = refl
-slice_get-set (y ∷ xs) (suc at) x h = slice_get-set xs at x (omega (arith, h))
-
 -- what stands in a list with an element that is set
 pub set_cases : {A : Type 0} (xs : List A) (at place : ℕ) (x y : A) → slice_get (set xs at x) place ≡ Some y
     → ((place ≡ at) × (x ≡ y)) ⊎ ((place ≡ at → ⊥) × (slice_get xs place ≡ Some y))
@@ -34,11 +29,6 @@ pub set_length : {A : Type 0} (xs : List A) (at : ℕ) (x : A) → length (set x
 set_length [] at x = refl
 set_length (y ∷ xs) zero x = refl
 set_length (y ∷ xs) (suc at) x = ap suc (set_length xs at x)
-
-all_zero : (count place last : ℕ) → slice_get (replicate count 0) place ≡ Some last → last ≡ 0
-all_zero zero place last h = absurd (cc h)
-all_zero (suc count) zero last h = cc
-all_zero (suc count) (suc place) last h = all_zero count place last h
 
 -- ---- hashes
 

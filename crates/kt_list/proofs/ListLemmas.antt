@@ -1,5 +1,5 @@
 -- Rows by their numbers.
-use Rattle.std.proofs.Common.{rules, ◌≡◌, ◌⊎◌, inl, inr, ⊎_elim, ℕ, zero, suc, ◌<◌, Bool, true, false, cond, nat_lt, List, [], ◌∷◌, ◌++◌, length, take, get_or, Option, Some, None, is_some, slice_get, sym, ap, ◌∙◌, refl, arith, IfSome, IfNone, if◌then◌else◌}
+use Rattle.std.proofs.Common.{rules, ◌≡◌, ℕ, ◌<◌, Bool, true, false, cond, nat_lt, List, [], ◌∷◌, ◌++◌, length, take, get_or, Option, Some, None, is_some, slice_get, sym, ap, ◌∙◌, refl, arith, IfSome, IfNone, if◌then◌else◌}
 use Rattle.std.proofs.lemmas.List.{map-append, take-map}
 use Rattle.indexmap.proofs.MapLemmas.{distinct-take}
 use Rattle.std.specs.List.{IsDistinct, position_or_len}
@@ -16,13 +16,6 @@ use Rattle.kt_list.specs.inner.HashChains.{AreRowsOnce}
 use Rattle.kt_list.specs.inner.Hashes.{is_at}
 
 -- ---- an element at the end
-
-pub at_pushed : {A : Type 0} (xs : List A) (x y : A) (place : ℕ) → slice_get (xs ++ x ∷ []) place ≡ Some y
-    → (slice_get xs place ≡ Some y) ⊎ ((place ≡ length xs) × (x ≡ y))
-at_pushed [] x y zero h = inr (refl, cc)
-at_pushed [] x y (suc place) h = absurd (cc h)
-at_pushed (z ∷ xs) x y zero h = inl h
-at_pushed (z ∷ xs) x y (suc place) h = ⊎_elim (λ l. inl l) (λ r. inr (ap suc r.0, r.1)) (at_pushed xs x y place h)
 
 pub last_pushed : {A : Type 0} (xs : List A) (x : A) → slice_get (xs ++ x ∷ []) (length xs) ≡ Some x
 last_pushed [] x = refl

@@ -1,5 +1,5 @@
 -- Lists by their places.
-use Rattle.std.proofs.Common.{◌≡◌, ℕ, ◌+◌, ◌<◌, ◌≤◌, List, [], ◌∷◌, ◌++◌, length, take, drop, sym, ap, ◌∙◌, arith, zero, suc, Bool, true, false, ◌||◌, Some, None, find, slice_get, if◌then◌else◌}
+use Rattle.std.proofs.Common.{◌≡◌, ℕ, ◌+◌, ◌<◌, ◌≤◌, List, [], ◌∷◌, ◌++◌, length, take, drop, sym, ap, ◌∙◌, arith, zero, suc, Bool, true, false, ◌||◌, Some, find, slice_get, if◌then◌else◌}
 use Rattle.kt_ninja.proofs.Common.{list_any, position_from, drop_all, drop_more, take_more}
 use Rattle.std.proofs.lemmas.Option.{get_or_from_slice_get, slice_get_within}
 
@@ -25,9 +25,6 @@ module _ {A : Type 0} (p : A → Bool) (xs : List A) (i : ℕ) (x : A) (is : sli
 
   pub found_later : p x ≡ false → Looks p xs i → Looks p xs (i + 1)
   found_later e so = sym (found_by false e) ∙ so
-
-pub found_none : {A : Type 0} (p : A → Bool) (xs : List A) (i : ℕ) → length xs ≤ i → Looks p xs i → None ≡ find p xs
-found_none p xs i all so = ap (find p) (sym (drop_all i xs all)) ∙ so
 
 -- ---- the place of the first item that passes
 

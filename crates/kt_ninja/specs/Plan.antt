@@ -1,4 +1,4 @@
--- What a plan holds.
+-- What a plan holds (kati's own; Ninja manual, "Build statements").
 use Rattle.std.specs.Prelude.{ℕ, Bool, true, false, ◌&&◌, nat_eq, List, ◌++◌}
 use Rattle.kt_ninja.specs.Prelude.{flat_map, pointwise, Made, Command, Phony, Statement, Plan}
 

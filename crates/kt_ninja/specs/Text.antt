@@ -4,7 +4,7 @@ use Rattle.std.specs.Prelude.{ℕ, ◌+◌, ◌==◌, ◌||◌, Bool, List, [], 
 use Rattle.kt_ninja.specs.Prelude.{concat, flat_map, Made, Command, Phony, Statement, Plan}
 use Rattle.std.specs.Int.Digits.{digits_of}
 
--- each byte of this kind after a dollar, every other byte as it is
+-- a text with a dollar before each byte of this kind
 abbrev pub escaped : (ℕ → Bool) → List ℕ → List ℕ
 escaped test bytes = flat_map (λ b. if test b then codes "$" ++ b ∷ [] else b ∷ []) bytes
 
@@ -16,6 +16,7 @@ is_special_in_name b = b == 36 || b == 32 || b == 58
 abbrev pub is_special_in_command : ℕ → Bool
 is_special_in_command b = b == 36
 
+-- a path with its special bytes escaped
 abbrev pub name_text : List ℕ → List ℕ
 name_text name = escaped is_special_in_name name
 
@@ -24,10 +25,11 @@ abbrev pub lead_text : List ℕ → List ℕ
 lead_text [] = []
 lead_text (b ∷ bs) = if b == 32 then codes "$" else []
 
+-- a command with its dollars escaped, and its first byte, too, if that is a space
 abbrev pub command_text : List ℕ → List ℕ
 command_text command = lead_text command ++ escaped is_special_in_command command
 
--- each name after one space
+-- names, each after one space
 abbrev pub names_text : List (List ℕ) → List ℕ
 names_text names = flat_map (λ n. codes " " ++ name_text n) names
 
@@ -46,7 +48,7 @@ rule_text number (Command c) = concat (codes "rule r" ∷ number_text number ∷
     ∷ codes "\n" ∷ [])
 rule_text number Phony = []
 
--- the name of the rule
+-- the name of the rule of a statement, by the rule's number
 abbrev pub rule_name_text : ℕ → Made → List ℕ
 rule_name_text number (Command c) = concat (codes "r" ∷ number_text number ∷ [])
 rule_name_text number Phony = codes "phony"
@@ -76,5 +78,6 @@ abbrev pub defaults_text : List (List ℕ) → List ℕ
 defaults_text [] = []
 defaults_text (n ∷ ns) = concat (codes "default" ∷ names_text (n ∷ ns) ∷ codes "\n" ∷ [])
 
+-- the text of a plan: a comment, then the statements with their rules, then the default targets
 unfoldable pub plan_text : Plan → List ℕ
 plan_text p = concat (codes "# kati\n" ∷ statements_text 0 p.statements ∷ defaults_text p.defaults ∷ [])

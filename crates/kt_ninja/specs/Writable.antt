@@ -8,6 +8,7 @@ use Rattle.kt_ninja.specs.declared.checking.Unwritable.{Unwritable}
 use Rattle.kt_ninja.specs.declared.checking.Unwritable.TheVariants as told
 use Rattle.kt_ninja.specs.Plan.{names_of, outputs}
 
+-- whether a list is empty
 abbrev pub is_empty : {A : Type 0} → List A → Bool
 is_empty [] = true
 is_empty (x ∷ xs) = false
@@ -16,6 +17,7 @@ is_empty (x ∷ xs) = false
 abbrev pub is_path_byte : ℕ → Bool
 is_path_byte b = not (b == 124 || (b == 13 || (b == 10 || b == 0)))
 
+-- whether a name can be written: it has a byte, and no byte that is refused
 abbrev pub is_name : List ℕ → Bool
 is_name name = not (is_empty name) && list_all is_path_byte name
 
@@ -23,9 +25,11 @@ is_name name = not (is_empty name) && list_all is_path_byte name
 abbrev pub is_command_byte : ℕ → Bool
 is_command_byte b = not (b == 13 || (b == 10 || b == 0))
 
+-- whether a command can be written: it has a byte, and no byte that is refused
 abbrev pub is_command : List ℕ → Bool
 is_command command = not (is_empty command) && list_all is_command_byte command
 
+-- whether the command of a statement, if there is one, can be written
 abbrev pub is_writable_making : Made → Bool
 is_writable_making (Command c) = is_command c
 is_writable_making Phony = true
@@ -51,13 +55,13 @@ pub data Obstacle : Type 0 where
   repeated : List ℕ → Obstacle
   not_an_output : List ℕ → Obstacle
 
--- of a statement: its first name that can't be written, or its command
+-- what keeps a statement from being written: its first name that can't be written, or else its command
 abbrev pub obstacle_of_statement : ℕ → Statement → Option Obstacle
 obstacle_of_statement number s =
     option_or (option_map bad_name (find (λ n. not (is_name n)) (names_of s))) (if is_writable_making s.made then None
     else Some (bad_command number))
 
--- of statements in order, the first of which has this number
+-- what first keeps statements, in order, from being written; the first statement has this number
 abbrev pub obstacle_of_statements : ℕ → List Statement → Option Obstacle
 obstacle_of_statements number [] = None
 obstacle_of_statements number (s ∷ ss) = option_or (obstacle_of_statement number s)

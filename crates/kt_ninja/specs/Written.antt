@@ -1,4 +1,4 @@
--- What a sink has taken.
+-- What a sink has taken (kati's own).
 use Rattle.std.specs.Prelude.{◌≡◌, ℕ, List, ◌++◌, Option, option_map}
 
 -- what is seen of a sink: the bytes that it has taken, where they are known, and how often it failed; at the greatest
@@ -7,15 +7,15 @@ pub record SinkSeen : Type 0 where
   pub written : Option (List ℕ)
   pub failed : ℕ
 
--- the bytes taken with these after them, where they are known
+-- the bytes that a sink has taken, with these after them, where they are known
 abbrev pub appended : Option (List ℕ) → List ℕ → Option (List ℕ)
 appended taken text = option_map (λ bytes. bytes ++ text) taken
 
--- all of the text was taken
+-- a sink has taken all of the text
 abbrev pub Takes : SinkSeen → SinkSeen → List ℕ → Type 0
 Takes old new text = new.written ≡ appended old.written text
 
--- a prefix of the text was taken, perhaps none of it or all of it
+-- a sink has taken a prefix of the text, perhaps none of it or all of it
 pub record GrowsByFront (old new : SinkSeen) (text : List ℕ) : Type 0 where
   pub front : List ℕ
   pub rest : List ℕ

@@ -52,7 +52,7 @@ impl<'a, W: Sink> Block<'a, W> {
         }
     }
 
-    /// The same for a piece that may have no room in the block.
+    /// As `put`, for a piece that may have no room in the block.
     fn put_across(&mut self, piece: &[u8])
         ensures { Puts W.seen self.old self.new piece.now }
     {

@@ -45,7 +45,7 @@ fn first_in_name(text: &[u8]) -> Option<usize>
     }
 }
 
-// The same, by a look at each byte.
+// As `first_in_name`, by a look at each byte.
 fn first_by_byte(text: &[u8]) -> Option<usize>
     ensures first { IsFirstByte is_special_in_name text.now result }
     ensures within { IfSome result (λ at. at < length text.now) }

@@ -9,8 +9,6 @@ pub mod PrintThenRead
 pub mod JoinedLemmas
 pub mod TableLemmas
 pub mod PieceLemmas
-pub mod SpellingLemmas
-pub mod ContinuedLemmas
 pub mod ScopeLemmas
 pub mod SpelledLemmas
 pub mod SpelledParts
@@ -18,4 +16,3 @@ pub mod FormLemmas
 pub mod StateLemmas
 pub mod ReaderLemmas
 pub mod LineLemmas
-pub mod LayoutLemmas

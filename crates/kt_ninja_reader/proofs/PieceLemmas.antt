@@ -17,9 +17,6 @@ pub map_twice : (front back : List Piece) (found : Option (List Piece))
     → option_map (λ later. front ++ later) (option_map (λ later. back ++ later) found) ≡ option_map (λ later. (front ++ back) ++ later) found
 map_twice front back found = grind (arith, append_assoc)
 
-pub map_none : (front : List Piece) (found : Option (List Piece)) → found ≡ None → option_map (λ later. front ++ later) found ≡ None
-map_none front found h = ap (option_map (λ later. front ++ later)) h
-
 -- after a dollar
 pub escape-escapable : (b : ℕ) (bs : Bytes) → is_escapable b ≡ true → pieces_from after_dollar (b ∷ bs) ≡ option_map (λ later. Escaped b ∷ later) (pieces_from outside bs)
 unfolding pieces_from
@@ -50,10 +47,6 @@ outside-dollar b bs h = rw h (none_before (pieces_from after_dollar bs))
 pub outside-plain : (b : ℕ) (bs : Bytes) → (b == 36) ≡ false → pieces_from outside (b ∷ bs) ≡ option_map (λ later. Plain b ∷ later) (pieces_from outside bs)
 unfolding pieces_from
 outside-plain b bs h = rw h refl
-
-pub outside-nil : pieces_from outside [] ≡ Some []
-unfolding pieces_from
-outside-nil = refl
 
 -- after a name without braces, which a byte ends that isn't one of a name
 pub name_ended : (name : Bytes) (b : ℕ) (bs : Bytes) (dollar : Bool) → (b == 36) ≡ dollar

@@ -35,10 +35,6 @@ pub binding_stops : (closed : Bool) (line : JoinedLine) → is_comment line.text
 unfolding block_from
 binding_stops closed line h i shut fault none = grind arith
 
-pub stops_all : (closed : Bool) (line : JoinedLine) (front : List Binding) (rest : List JoinedLine) (whole : Option (List Binding))
-    → option_map (λ more. front ++ more) (block_from closed (line ∷ rest)) ≡ whole → (fault : PartFault) → StopsBlock closed line fault → LacksReading whole fault
-stops_all closed line front rest whole so_far fault stops = grind arith
-
 pub block_over : (closed : Bool) (front : List Binding) → option_map (λ more. front ++ more) (block_from closed []) ≡ Some front
 unfolding block_from
 block_over closed front = ap Some (append-nil front)

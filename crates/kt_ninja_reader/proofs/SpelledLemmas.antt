@@ -1,8 +1,8 @@
 -- Spellings, byte by byte: what a text's bytes end, and where it can be cut.
-use Rattle.std.proofs.Common.{◌≡◌, ◌≢◌, ℕ, suc, ◌+◌, ◌-◌, Bool, true, false, ◌==◌, ◌&&◌, not, List, [], ◌∷◌, ◌++◌, refl, sym, ◌∙◌, ap, append_assoc, append-nil, map, length, length-append, take, drop, arith, Option, Some, None, option_map, unwrap_or, is_some, IfSome, ⊎_elim}
+use Rattle.std.proofs.Common.{◌≡◌, ◌≢◌, ℕ, suc, ◌+◌, ◌-◌, Bool, true, false, ◌==◌, ◌&&◌, not, List, [], ◌∷◌, ◌++◌, refl, sym, ◌∙◌, ap, append_assoc, append-nil, map, length, length-append, take, arith, Option, Some, None, option_map, unwrap_or, is_some, IfSome, ⊎_elim}
 use Rattle.kt_ninja_reader.proofs.Common.{cases_Bool, false≢true, false_from_ne_true, eqb-true, eq-eqb, position_or_len_is, list_any, position_or_len, IsFirstByte, is_byte2, DollarCut, Bytes, Piece, Plain, Variable, Where, PieceStep, after_dollar, in_braces, in_name, is_long_name_byte, is_short_name_byte, last_pieces, outside, pieces, pieces_from, step, is_plain_byte}
 use Rattle.kt_ninja_reader.specs.inner.Spelled.{is_spelled, pieces_in}
-use Rattle.kt_ninja_reader.specs.inner.Cutting.{AreSides, CutsOff, dollar_piece, is_own_byte, stops_at}
+use Rattle.kt_ninja_reader.specs.inner.Cutting.{AreSides, CutsOff, dollar_piece, is_own_byte}
 use Rattle.kt_ninja_reader.proofs.PieceLemmas.{map_twice, none_before, outside-dollar, outside-plain}
 
 -- what is spelled has pieces
@@ -139,14 +139,6 @@ before_free test (b ∷ bs) =
     (λ d. let more : position_or_len test (b ∷ bs) ≡ suc (position_or_len test bs) = rw d (omega arith) in rw more (rw d (before_free test bs)))
     (cases_Bool (test b))
 
-pub found_stops : (test : ℕ → Bool) (text : Bytes) → stops_at test (drop (position_or_len test text) text)
-found_stops test [] = tt
-found_stops test (b ∷ bs) =
-    ⊎_elim
-    (λ d. let none : position_or_len test (b ∷ bs) ≡ 0 = rw d refl in rw none d)
-    (λ d. let more : position_or_len test (b ∷ bs) ≡ suc (position_or_len test bs) = rw d (omega arith) in rw more (found_stops test bs))
-    (cases_Bool (test b))
-
 -- the place that a search for two bytes finds
 pub place_found : (test : ℕ → Bool) (text : Bytes) (found : Option ℕ) → IsFirstByte test text found → unwrap_or found (length text) ≡ position_or_len test text
 place_found test text None h =
@@ -238,10 +230,6 @@ mark_step mark after_dollar h ready = absurd (false≢true ready)
 mark_step mark (in_name name) h ready =
     rw (not_short mark (mark_facts mark h).2) (rw (mark_facts mark h).0 (record { last = Variable name ∷ []; is = refl; done = refl; next = refl }))
 mark_step mark (in_braces name) h ready = rw (mark_facts mark h).1 (rw (mark_facts mark h).2 tt)
-
-pub any_front : (mark : ℕ) (front back : List Piece) → list_any (is_plain_byte mark) (front ++ Plain mark ∷ back) ≡ true
-any_front mark [] back = let same : (mark == mark) ≡ true = eq-eqb mark mark refl in rw same refl
-any_front mark (p ∷ ps) back = ⊎_elim (λ d. rw d refl) (λ d. rw d (any_front mark ps back)) (cases_Bool (is_plain_byte mark p))
 
 pub scan_found : (mark : ℕ) (text stop after : Bytes) (b : ℕ) → stop ≡ b ∷ after → b ≡ mark → is_own_byte mark ≡ true → is_spelled text ≡ true → (s : Scanned mark text stop) → AreSides mark text s.front after
 unfolding pieces pieces_from

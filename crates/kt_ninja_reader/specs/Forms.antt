@@ -10,7 +10,7 @@ use Rattle.kt_ninja_reader.specs.Pieces.{Piece, Plain, Escaped, Variable, is_lon
 abbrev pub Spelling : Type 0
 Spelling = List Piece
 
--- this byte, written without a dollar
+-- whether a piece is this byte, written without a dollar
 abbrev pub is_plain_byte : ℕ → Piece → Bool
 is_plain_byte c (Plain b) = b == c
 is_plain_byte c (Escaped b) = false
@@ -20,7 +20,7 @@ is_plain_byte c (Variable name) = false
 unfoldable pub spelled_words : Spelling → List Spelling
 spelled_words ps = filter (λ word. not (is_empty word)) (slice_split (is_plain_byte 32) ps)
 
--- without the plain spaces that it begins with
+-- a value without the plain spaces that it begins with
 abbrev pub without_lead : Spelling → Spelling
 without_lead ps = drop (prefix_len (is_plain_byte 32) ps) ps
 
@@ -102,7 +102,7 @@ build_with outs (rule_word ∷ explicit) parts =
     (λ inputs. record { outs = outs; rule_name = name; inputs = inputs }) (build_inputs explicit parts))
     (name_bytes rule_word)
 
--- the same by all parts between its bars
+-- a build line of these outputs, by all parts between its bars
 abbrev pub build_after : List Spelling → List Spelling → Option Build
 build_after outs [] = None
 build_after outs (front ∷ parts) = build_with outs (spelled_words front) parts

@@ -20,7 +20,7 @@ pub record FileLine : Type 0 where
   pub bytes : Bytes
   pub ended : Bool
 
--- a byte in front of the first line
+-- lines of the file with one more byte in front of the first
 abbrev pub with_byte : ℕ → List FileLine → List FileLine
 with_byte b [] = record { bytes = b ∷ []; ended = false } ∷ []
 with_byte b (l ∷ ls) = record { bytes = b ∷ l.bytes; ended = l.ended } ∷ ls
@@ -36,7 +36,7 @@ unfoldable pub ends_in_dollar : Bool → Bytes → Bool
 ends_in_dollar pending [] = pending
 ends_in_dollar pending (b ∷ bs) = ends_in_dollar (not pending && b == 36) bs
 
--- without the spaces that it begins with
+-- a line without the spaces that it begins with
 abbrev pub without_indent : Bytes → Bytes
 without_indent text = drop (prefix_len (λ b. b == 32) text) text
 
@@ -59,7 +59,7 @@ abbrev pub first_number : ℕ → Option OpenLine → ℕ
 first_number number None = number
 first_number number (Some begun) = begun.first
 
--- its text with a further line of the file
+-- the text of a joined line, with a further line of the file
 abbrev pub joined_text : Option OpenLine → Bytes → Bytes
 joined_text None bytes = bytes
 joined_text (Some begun) bytes = begun.front ++ without_indent bytes

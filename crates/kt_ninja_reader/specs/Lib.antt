@@ -1,12 +1,9 @@
 pub mod Prelude
 pub mod JoinedLines
-pub mod Continued
 pub mod Pieces
 pub mod Spellings
 pub mod Forms
 pub mod Scopes
 pub mod NinjaRead
-pub mod Rows
 pub mod Reading
-pub mod Layout
 pub mod inner

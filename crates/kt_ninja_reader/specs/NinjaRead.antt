@@ -26,7 +26,7 @@ pub record FileParts : Type 0 where
   pub before : List JoinedLine
   pub parts : List FilePart
 
--- one more line in front
+-- lines that are cut, with one more line in front
 abbrev pub cut_with : JoinedLine → FileParts → FileParts
 cut_with line cut =
     if begins_part line.text
@@ -111,6 +111,7 @@ rule_command _ = None
 abbrev pub is_new_rule : State → Bytes → Bool
 is_new_rule state name = not (bytes_eq name (codes "phony")) && is_none (find_in state.rules name)
 
+-- what was read so far, and a rule; none if the name isn't new, or its block isn't one command
 unfoldable pub read_rule : State → Bytes → List Binding → Option State
 read_rule state name bindings =
     if is_new_rule state name
@@ -130,7 +131,7 @@ abbrev pub making_by : Spelling → Scope → Option Bytes → Making
 making_by command block None = by_rule command block
 making_by command block (Some own) = by_own own
 
--- the rule is `phony`, or stands above
+-- how a statement is made, by the name of its rule: the rule is `phony`, or stands above
 unfoldable pub making_of : State → Bytes → Scope → Option Making
 making_of state name block =
     if bytes_eq name (codes "phony") then Some by_nothing
@@ -166,12 +167,13 @@ pending_with value_of making b =
     (paths_in value_of b.inputs.explicit))
     (paths_in value_of b.outs)
 
--- one more statement, if its outputs are new
+-- what was read so far, and one more statement, if its outputs are new
 abbrev pub add_statement : State → PendingStatement → Option State
 add_statement state s =
     if are_new (pending_outs state.pending) s.outs then Some (record state { pending = state.pending ++ s ∷ [] })
     else None
 
+-- what was read so far, and a build line with its block; none where the line has no reading
 unfoldable pub read_build : State → Build → List Binding → Option State
 read_build state b bindings =
     option_and_then (λ block.
@@ -180,12 +182,13 @@ read_build state b bindings =
     (making_of state b.rule_name block))
     (block_scope state.file [] bindings)
 
--- more default targets, each an output of a statement above
+-- what was read so far, and more default targets, each of them an output of a statement above
 abbrev pub add_defaults : State → List Bytes → Option State
 add_defaults state names =
     if list_all (is_among (pending_outs state.pending)) names
     then Some (record state { defaults = state.defaults ++ names }) else None
 
+-- what was read so far, and a line of default targets; none where the line has no reading
 unfoldable pub read_default : State → List Spelling → Option State
 read_default state paths = option_and_then (add_defaults state) (paths_in (value_in state.file) paths)
 
@@ -207,11 +210,12 @@ unfoldable pub read_part : State → FilePart → Option State
 read_part state part =
     if list_all is_sound part.body then option_and_then (read_head state part.head) (block_of part.body) else None
 
--- parts in turn, or the number of the first without a reading
+-- the reading of the parts after a part, or the number of that part if it has no reading
 abbrev pub and_then_parts : ℕ → Option State → (State → Result State ℕ) → Result State ℕ
 and_then_parts number None rest = Err number
 and_then_parts number (Some state) rest = rest state
 
+-- what parts say, one after another, or the number of the first part without a reading
 unfoldable pub read_parts : State → List FilePart → Result State ℕ
 read_parts state [] = Ok state
 read_parts state (p ∷ ps) = and_then_parts p.number (read_part state p) (λ s. read_parts s ps)
@@ -226,6 +230,7 @@ made_of file s by_nothing = Phony
 made_of file s (by_own command) = Command command
 made_of file s (by_rule command block) = Command (bound_text (command_value s.inputs s.outs block file) command)
 
+-- a statement with the command that it has by the variables that the file leaves
 unfoldable pub statement_of_pending : Scope → PendingStatement → Statement
 statement_of_pending file s =
     record {
@@ -241,7 +246,7 @@ unfoldable pub plan_of_state : State → Plan
 plan_of_state state =
     record { statements = map (statement_of_pending state.file) state.pending; defaults = state.defaults }
 
--- the same, if all was read
+-- the plan if all parts have a reading, or the number of the first without one
 abbrev pub plan_in : Result State ℕ → Result Plan ℕ
 plan_in (Ok state) = Ok (plan_of_state state)
 plan_in (Err number) = Err number

@@ -19,7 +19,7 @@ is_letter_or_digit b = (nat_le 97 b && nat_le b 122) || ((nat_le 65 b && nat_le 
 abbrev pub is_short_name_byte : ℕ → Bool
 is_short_name_byte b = is_letter_or_digit b || (b == 95 || b == 45)
 
--- what any other name is made of: these and `.`
+-- what any other name is made of: the bytes of a name without braces, and `.`
 abbrev pub is_long_name_byte : ℕ → Bool
 is_long_name_byte b = is_short_name_byte b || b == 46
 
@@ -40,26 +40,26 @@ pub record PieceStep : Type 0 where
   pub done : List Piece
   pub next : Where
 
--- a byte outside of all escapes, after these pieces
+-- the step of a byte outside of all escapes, after these pieces
 abbrev pub outer_step : List Piece → ℕ → PieceStep
 outer_step before b =
     if b == 36 then record { done = before; next = after_dollar }
     else record { done = before ++ Plain b ∷ []; next = outside }
 
--- the byte after a dollar; none where it escapes nothing
+-- the step of the byte after a dollar; none where it escapes nothing
 abbrev pub dollar_step : ℕ → Option PieceStep
 dollar_step b =
     if is_escapable b then Some (record { done = Escaped b ∷ []; next = outside })
     else (if b == 123 then Some (record { done = []; next = in_braces [] })
     else (if is_short_name_byte b then Some (record { done = []; next = in_name (b ∷ []) }) else None))
 
--- a byte in braces: a name has at least one byte
+-- the step of a byte in braces: a name has at least one byte
 abbrev pub brace_step : Bytes → ℕ → Option PieceStep
 brace_step name b =
     if b == 125 then (if is_empty name then None else Some (record { done = Variable name ∷ []; next = outside }))
     else (if is_long_name_byte b then Some (record { done = []; next = in_braces (name ++ b ∷ []) }) else None)
 
--- any byte; a name without braces is as long as can be
+-- the step of any byte; a name without braces is as long as can be
 abbrev pub step : Where → ℕ → Option PieceStep
 step outside b = Some (outer_step [] b)
 step after_dollar b = dollar_step b
@@ -75,7 +75,7 @@ last_pieces after_dollar = None
 last_pieces (in_name name) = Some (Variable name ∷ [])
 last_pieces (in_braces name) = None
 
--- the pieces of a text that goes on from there
+-- the pieces of a text whose first byte stands in this place
 unfoldable pub pieces_from : Where → Bytes → Option (List Piece)
 pieces_from place [] = last_pieces place
 pieces_from place (b ∷ bs) = option_and_then

@@ -28,7 +28,7 @@ Scope = ScopeTable Bytes
 abbrev pub value_in : Scope → Bytes → Bytes
 value_in scope name = unwrap_or (find_in scope name) []
 
--- the same where an inner scope goes before
+-- the value of a variable where an inner scope goes before an outer one, empty where it is unknown
 abbrev pub value_within : Scope → Scope → Bytes → Bytes
 value_within inner outer name = unwrap_or (find_in inner name) (value_in outer name)
 
@@ -42,13 +42,13 @@ piece_text value_of (Variable name) = value_of name
 unfoldable pub bound_text : (Bytes → Bytes) → Spelling → Bytes
 bound_text value_of ps = flat_map (piece_text value_of) ps
 
--- whether the piece is a variable with such a name
+-- whether a piece is a variable whose name passes the test
 abbrev pub names_one : (Bytes → Bool) → Piece → Bool
 names_one test (Plain b) = false
 names_one test (Escaped b) = false
 names_one test (Variable name) = test name
 
--- whether a variable with such a name stands among the pieces
+-- whether a variable whose name passes the test is among the pieces
 abbrev pub refers_to : (Bytes → Bool) → Spelling → Bool
 refers_to test ps = list_any (names_one test) ps
 

@@ -238,7 +238,7 @@ fn build_with<'t>(
     Ok(Build { outs, rule, inputs })
 }
 
-// The same by all that stands after the colon.
+// As `build_with`, by all that stands after the colon.
 fn build_after<'t>(
     alloc: Global,
     outs: Vec<Spelling<'t>>,

@@ -4,7 +4,6 @@
 mod bytes;
 mod forms;
 mod joined;
-pub mod laws;
 mod line;
 mod ninja_read;
 mod paths;

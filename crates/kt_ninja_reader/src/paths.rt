@@ -38,7 +38,7 @@ pub(crate) fn paths_within(
     Ok(Sequence::from(names))
 }
 
-/// The same by the variables of the file alone.
+/// As `paths_within`, by the variables of the file alone.
 pub(crate) fn paths_of_file(
     alloc: Global,
     targets: &[Spelling],

@@ -39,7 +39,7 @@ struct More {
     order_only: Sequence<Path>,
 }
 
-/// The same, which takes room only where there is any.
+/// As `More`, but it takes room only where there is any.
 #[derive(Drop)]
 struct MoreIfAny {
     held: Option<Box<More>>,

@@ -221,7 +221,7 @@ impl<'t> Spelling<'t> {
         Spelling { text: b"" }
     }
 
-    /// The same once more.
+    /// This spelling once more.
     pub(crate) fn copy(&self) -> Spelling<'t>
         ensures { result ≡ self.now }
     {

@@ -13,5 +13,4 @@ pub mod TermLemmas
 pub mod PlainLemmas
 pub mod PreparedLemmas
 pub mod PreparedCallLemmas
-pub mod CommandLemmas
-mod RowLemmas
+pub mod GaveLemmas

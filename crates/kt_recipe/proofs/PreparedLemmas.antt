@@ -117,9 +117,6 @@ AddsUpTo table e all left old now =
     × (each_term e text left (frozen_world table (automatic_in node part) place said)
     ≡ each_term e [] all (frozen_world table (automatic_in node part) place said))
 
-pub none_added : (table : Macros) (e : Evaluator) (all : List Term) (pieces : PreparedText) → AddsUpTo table e all all pieces pieces
-none_added table e all pieces node part place said = ([], sym (append-nil (filled node part pieces)), refl)
-
 next_is : (e : Evaluator) (before text : Text) (piece : Term) (rest : List Term) (w : World) → term_of e piece w ≡ Gave w text
     → each_term e before (piece ∷ rest) w ≡ each_term e (before ++ text) rest w
 unfolding each_term

@@ -50,6 +50,7 @@ part_needs node part = record {
   order_only = part_order_only (slice_get node.parts part);
 }
 
+-- the names of a subject in a part of a node, by the stem and prerequisites of that part
 abbrev pub subject_names_in : Node → ℕ → Subject → List Text
 subject_names_in node part subject =
     subject_names node.name (part_stem (slice_get node.parts part)) (part_needs node part) subject

@@ -4,7 +4,5 @@ pub mod Automatic
 pub mod Quoting
 pub mod Lines
 pub mod Shell
-pub mod Commands
 pub mod Views
-pub mod Rows
 pub mod inner

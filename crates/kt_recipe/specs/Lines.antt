@@ -8,10 +8,11 @@ use Rattle.kt_recipe.specs.Prelude.{list_any, prefix_len, slice_split, Text, is_
 unfoldable pub is_prefix : ℕ → Bool
 is_prefix byte = is_blank byte || (byte == 64 || (byte == 45 || byte == 43))
 
--- that run, and the text after it
+-- the run of blanks, `@`, `-` and `+` before a command
 abbrev pub run_of : Text → Text
 run_of text = take (prefix_len is_prefix text) text
 
+-- a text without the run before its command
 abbrev pub after_run : Text → Text
 after_run text = drop (prefix_len is_prefix text) text
 

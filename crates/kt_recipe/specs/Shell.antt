@@ -12,12 +12,12 @@ use Rattle.kt_recipe.specs.Quoting.{quoted}
 
 -- ---- a command and its pieces
 
--- a piece as an argument of the shell ["Choosing the Shell"]; if its failure is ignored, the list that does so is in
--- braces, so that it is one command for its surroundings (POSIX.1-2024 Shell Command Language, "Grouping Commands", "OR
--- Lists")
+-- a piece as an argument of the shell ["Choosing the Shell"]
 abbrev pub shell_call : Text → Text → Text
 shell_call shell piece = shell ++ (32 ∷ quoted piece)
 
+-- the call of the shell for a piece. If its failure is ignored, the list that does so is in braces, so that it is one
+-- command for its surroundings (POSIX.1-2024 Shell Command Language, "Grouping Commands", "OR Lists")
 unfoldable pub wrapped : Bool → Text → Text → Text
 wrapped true shell piece = codes "{ " ++ (shell_call shell piece ++ codes " || :; }")
 wrapped false shell piece = shell_call shell piece
@@ -41,6 +41,7 @@ pub record Setting : Type 0 where
 unfoldable pub expansion : Setting → Text → StepOver (List Text) Text
 expansion at text = expanded_pure at.table at.automatic at.place at.limit text
 
+-- the text that expands to the shell and its options ["Choosing the Shell"]
 abbrev pub shell_text : Text
 shell_text = codes "$(SHELL) $(.SHELLFLAGS)"
 
@@ -53,6 +54,7 @@ put_piece at marked piece command =
       done (Some (joined command (wrapped (marked || ignores_failure piece) shell (after_run piece)))))
     else done command
 
+-- the pieces of a line, one after another
 unfoldable pub put_pieces : Setting → Bool → List Text → Option Text → StepOver (List Text) (Option Text)
 put_pieces at marked [] command = done command
 put_pieces at marked (piece ∷ pieces) command = do
@@ -65,10 +67,12 @@ put_line at line command = do
   text ← expansion at (after_run line)
   put_pieces at (ignores_failure line) (pieces_of_line text) command
 
+-- what the line of a recipe at this place is expanded with
 abbrev pub setting_of : Macros → Store → ℕ → Place → Setting
 setting_of table automatic limit place =
     record { table = table; automatic = automatic; place = Some place; limit = limit }
 
+-- the lines of a recipe, one after another
 unfoldable pub put_lines : Macros → Store → ℕ → List RecipeLine → Option Text → StepOver (List Text) (Option Text)
 put_lines table automatic limit [] command = done command
 put_lines table automatic limit (line ∷ lines) command = do
@@ -80,6 +84,7 @@ unfoldable pub put_part : Macros → ℕ → Node → ℕ → Option Text → St
 put_part table limit node part command =
     put_lines table (automatic_in node part) limit (unwrap_or (part_lines (slice_get node.parts part)) []) command
 
+-- the parts of a node with these numbers, one after another
 unfoldable pub put_parts : Macros → ℕ → Node → List ℕ → Option Text → StepOver (List Text) (Option Text)
 put_parts table limit node [] command = done command
 put_parts table limit node (part ∷ parts) command = do

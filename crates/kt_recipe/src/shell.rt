@@ -41,7 +41,7 @@ impl<'m> Commands<'m> {
         Ok(some_text(command))
     }
 
-    /// The same, but it replaces the contents of a text, which is empty afterwards if no recipe has a piece. So one
+    /// As `command`, but it replaces the contents of a text, which is empty afterwards if no recipe has a piece. So one
     /// text can serve for the commands of many nodes, one after another.
     #[tactic(auto, unfolding(crate::specs::Shell::shell_of))]
     pub fn write(

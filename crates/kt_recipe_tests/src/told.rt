@@ -154,7 +154,7 @@ fn made(
     commands.command(node, messages)
 }
 
-/// The same in a text that serves for all nodes.
+/// As `made`, in a text that serves for all nodes.
 fn written(
     alloc: Global,
     commands: &mut Commands<'_>,

@@ -3,8 +3,8 @@ pub use Rattle.kt_list.proofs.NameLemmas.{number_found}
 pub use Rattle.kt_list.proofs.NumberLemmas.{name_read, named_at, names_read, number_stays, numbers_below, numbers_push, numbers_stay}
 pub use Rattle.kt_list.proofs.general.Booleans.{and_first, and_nothing, and_second, or_nothing, or_swap}
 pub use Rattle.kt_list.proofs.general.Numbers.{less_one}
-pub use Rattle.kt_list.proofs.general.Places.{head_is, is_some-map, none_in, tail_is}
-pub use Rattle.kt_rules.specs.Book.{AreApart, GroupsStandAlone, NumbersTellRules, begins_with_dot, beside_group_in, both_colons_in, differ_in_colons, goal_in, has_recipe, is_beside_group, is_double, is_explicit, is_goal, is_group, is_made, is_pattern, made_targets, makes, names_eq, numbers_in, override_message, pattern_rule, patterns_in, phony_of, repeats, rule_needs, suffix_rule_as_pattern, target_names, target_rules, targets_with_recipe, two_recipes_in, unrepeated, xor}
+pub use Rattle.kt_list.proofs.general.Places.{head_is, is_some-map}
+pub use Rattle.kt_rules.specs.Book.{AreApart, GroupsStandAlone, begins_with_dot, beside_group_in, both_colons_in, differ_in_colons, goal_in, has_recipe, is_beside_group, is_double, is_explicit, is_goal, is_group, is_made, is_pattern, made_targets, makes, names_eq, numbers_in, override_message, pattern_rule, patterns_in, phony_of, repeats, rule_needs, suffix_rule_as_pattern, target_names, target_rules, targets_with_recipe, two_recipes_in, unrepeated, xor}
 unfoldable pub use Rattle.kt_rules.specs.Book.{explicit_numbers, explicit_rules, first_goal_by, is_phony, patterns_of, recipes_of, refusal_of, rules_of}
 pub use Rattle.kt_rules.specs.Entry.{rule_with, rules_with, shared_needs}
 unfoldable pub use Rattle.kt_rules.specs.Entry.{head_names, rule_of, stemmed_names, stemmed_of}

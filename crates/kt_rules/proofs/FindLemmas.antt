@@ -1,6 +1,6 @@
 -- Searches, and names added after others.
-use Rattle.std.proofs.Common.{arith, ◌≡◌, ℕ, ◌+◌, ◌<◌, Bool, true, false, cond, if◌then◌else◌, List, [], ◌∷◌, ◌++◌, fold, find, filter, map, take, drop, length, get_or, ◌&&◌, Option, Some, None, refl, sym, ap, ◌∙◌}
-use Rattle.kt_rules.proofs.Common.{append-nil, append_assoc, drop_more, Text, with_name}
+use Rattle.std.proofs.Common.{arith, ◌≡◌, ℕ, Bool, true, false, cond, if◌then◌else◌, List, [], ◌∷◌, ◌++◌, fold, find, filter, map, take, length, ◌&&◌, Option, Some, None, refl, sym, ap, ◌∙◌}
+use Rattle.kt_rules.proofs.Common.{append-nil, append_assoc, Text, with_name}
 
 one_grows : (names : List Text) (name : Text) (b : Bool) → (more : List Text) × ((if b then names else names ++ name ∷ []) ≡ names ++ more)
 one_grows names name true = ([], sym (append-nil names))
@@ -20,11 +20,6 @@ pub take_grown : (names added new : List Text) (count : ℕ) → count ≡ lengt
 take_grown names added new count e grown =
     let more = names_grow names added in
     ap (λ n. take n new) e ∙ ap (take (length names)) (grown ∙ more.1) ∙ take_front names more.0
-
--- the first of two filters of a list, from a place on
-pub find_at : {A : Type 0} (made test : A → Bool) (xs : List A) (i : ℕ) (x : A) → i < length xs → x ≡ get_or xs i x
-    → find test (filter made (drop i xs)) ≡ cond (made x && test x) (Some x) (find test (filter made (drop (i + 1) xs)))
-find_at made test xs i x h e = grind (arith, drop_more, cond)
 
 -- the same for the rest of a list
 pub find_left : {A : Type 0} (made test : A → Bool) (left rest : List A) (x : A) (b : Bool) → left ≡ x ∷ rest → b ≡ (made x && test x)

@@ -29,11 +29,6 @@ pub mod NumberLemmas
 pub mod AddLemmas
 pub mod SuffixLemmas
 pub mod PatternLemmas
-pub mod CutLemmas
-pub mod PartLemmas
-pub mod HeadWordLemmas
-pub mod QuoteLemmas
-pub mod OuterLemmas
 mod NumberedLemmas
 mod OverrideLemmas
 mod SparedLemmas

@@ -21,13 +21,6 @@ rules_left [] (suc place) rule h = absurd (cc h)
 rules_left (first ∷ rules) zero rule h = let same : rule ≡ first = cc in ap (λ (one : Entry). one ∷ rules) (sym same)
 rules_left (first ∷ rules) (suc place) rule h = grind (arith, rules_left rules place rule h)
 
--- no rule is at a place after the last
-pub rules_end : (rules : List Entry) (place : ℕ) → None ≡ slice_get rules place → drop place rules ≡ []
-rules_end [] zero h = refl
-rules_end [] (suc place) h = refl
-rules_end (first ∷ rules) zero h = absurd (cc h)
-rules_end (first ∷ rules) (suc place) h = rules_end rules place h
-
 nothing : (place : ℕ) → drop {A = Entry} place [] ≡ []
 nothing place = grind arith
 

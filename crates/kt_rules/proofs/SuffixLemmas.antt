@@ -89,10 +89,6 @@ unfolding lengths_with
 own_lengths lengths [] other h = absurd (true≢false (sym h))
 own_lengths lengths (name ∷ names) other h = search (rules, or_either, length, pointwise, nat_eq, kept_with, number_added, own_lengths (with_number lengths (length name)) names other)
 
--- no names
-pub none_added : (lengths : List ℕ) → HaveLengths [] lengths
-none_added lengths name h = absurd (true≢false (sym h))
-
 -- a length of names from a place on
 pub lengths_at : (lengths : List ℕ) (names : List Text) (i : ℕ) (name : Text) → i < length names → name ≡ get_or names i name
     → lengths_with (with_number lengths (length name)) (drop (i + 1) names) ≡ lengths_with lengths (drop i names)

@@ -11,10 +11,6 @@ pub none_put : (stem : Option (Bor Text)) → names_put stem [] ≡ []
 unfolding stemmed_names
 none_put stem = grind arith
 
-pub none_left : (stem : Option (Bor Text)) (names : List Text) → length names ≡ 0 → names_put stem names ≡ []
-none_left stem [] none = none_put stem
-none_left stem (name ∷ names) none = absurd (omega arith)
-
 -- a stem removes no name
 pub empty_put : (stem : Option (Bor Text)) (names : List Text) → has_no_names (names_put stem names) ≡ has_no_names names
 unfolding stemmed_names

@@ -1,7 +1,7 @@
 -- The rules of a makefile as a list, and lookups in it (POSIX.1-2024 make, "Target Rules"; GNU make manual, "Rules").
 use Rattle.std.specs.Prelude.{◌≡◌, ℕ, Bool, true, false, not, ◌&&◌, ◌||◌, ◌==◌, List, [], ◌∷◌, ◌++◌, map, filter, find}
 use Rattle.std.specs.Prelude.{flat_map, filter_map, codes, bytes_eq, Option, Some, None, option_map, is_some, is_none}
-use Rattle.std.specs.Prelude.{slice_get, Result, Ok, Err, if◌then◌else◌}
+use Rattle.std.specs.Prelude.{Result, Ok, Err, if◌then◌else◌}
 use Rattle.kt_rules.specs.Prelude.{AllPairs, list_any, enumerate_from, option_or, option_map_or, Text, Kind}
 use Rattle.kt_rules.specs.Prelude.{DoubleColon, Group, Pattern, TerminalPattern, Target, Place, Needs, Entry, needs_for}
 use Rattle.std.specs.Cmp.Lexicographic.{pointwise}
@@ -10,14 +10,17 @@ use Rattle.kt_rules.specs.Places.{place_text}
 use Rattle.kt_rules.specs.Refusals.{Refusal, RuleLineFault, bad_group, both_colons, two_recipes, rule_line_fault}
 use Rattle.kt_rules.specs.Suffixes.{special_needs, suffixes_of, suffix_patterns, is_single, is_bare, is_suffix_rule}
 
+-- whether a rule has a double colon
 abbrev pub is_double : Kind → Bool
 is_double DoubleColon = true
 is_double other = false
 
+-- whether a rule is a group, whose recipe makes all targets at once
 abbrev pub is_group : Kind → Bool
 is_group Group = true
 is_group other = false
 
+-- whether a rule is a pattern rule, terminal or not
 abbrev pub is_pattern : Kind → Bool
 is_pattern Pattern = true
 is_pattern TerminalPattern = true
@@ -39,6 +42,7 @@ target_rules rule = map (λ target. (rule, target)) (made_targets rule)
 unfoldable pub rules_of : List Entry → Text → List (Entry × Target)
 rules_of rules name = filter (λ made. bytes_eq name made.1.name) (flat_map target_rules rules)
 
+-- whether the rule of a target has a recipe
 abbrev pub has_recipe : Entry × Target → Bool
 has_recipe made = is_some made.0.recipe
 
@@ -72,15 +76,11 @@ numbers_in suffixes name numbered = map (λ target. numbered.0)
 unfoldable pub explicit_numbers : List Entry → Text → List ℕ
 explicit_numbers rules name = flat_map (numbers_in (suffixes_of rules) name) (enumerate_from 0 rules)
 
--- the rules at the numbers of a target are its explicit rules, one by one
-abbrev pub NumbersTellRules : Type 0
-NumbersTellRules = (rules : List Entry) (name : Text)
-    → map (λ made. Some made.0) (explicit_rules rules name) ≡ map (slice_get rules) (explicit_numbers rules name)
-
 -- the phony names: the prerequisites of the special target `.PHONY` (POSIX.1-2024 make, "Special Targets")
 abbrev pub phony_of : Entry → List Text
 phony_of rule = option_map_or (λ names. names) (special_needs (codes ".PHONY") rule) []
 
+-- whether a name is phony: a prerequisite of `.PHONY` in any of the rules
 unfoldable pub is_phony : List Entry → Text → Bool
 is_phony rules name = is_among (flat_map phony_of rules) name
 
@@ -102,7 +102,7 @@ is_goal suffixes made = may_be_goal made.1.name && not (is_suffix_rule suffixes 
 abbrev pub goal_in : List Text → Entry → Option Text
 goal_in suffixes rule = option_map (λ made. made.1.name) (find (is_goal suffixes) (target_rules rule))
 
--- the same among all rules, given the suffixes
+-- the first target of all rules that may be the default goal, given the suffixes
 unfoldable pub first_goal_by : List Text → List Entry → Option Text
 first_goal_by suffixes rules = option_map (λ made. made.1.name) (find (is_goal suffixes) (flat_map target_rules rules))
 
@@ -112,6 +112,7 @@ first_goal_of rules = first_goal_by (suffixes_of rules) rules
 
 -- ---- one more rule
 
+-- whether exactly one of the two holds
 abbrev pub xor : Bool → Bool → Bool
 xor true b = not b
 xor false b = b
@@ -134,6 +135,7 @@ abbrev pub beside_group_in : List Entry → Entry → Option Target
 beside_group_in rules rule = find (λ target. list_any (is_beside_group rule) (recipes_of rules target.name))
     (made_targets rule)
 
+-- the first target that gets a second recipe beside a group's; none if the new rule has no recipe
 abbrev pub two_recipes_in : List Entry → Entry → Option Target
 two_recipes_in rules rule = if is_some rule.recipe then beside_group_in rules rule else None
 
@@ -164,15 +166,17 @@ abbrev pub targets_with_recipe : List Entry → Entry → List Target
 targets_with_recipe rules rule = filter
     (λ target. list_any (λ earlier. true) (recipes_of rules target.name)) (made_targets rule)
 
+-- the targets whose recipe a rule overrides: only a rule with one colon and a recipe overrides any
 abbrev pub overridden_targets : List Entry → Entry → List Target
 overridden_targets rules rule = if is_single rule.kind && is_some rule.recipe
     then targets_with_recipe rules rule else []
 
--- the warning on one of these targets; its form is kati's own
+-- the warning that the recipe for a target is overridden; its form is kati's own
 abbrev pub override_message : Place → Target → Text
 override_message place target = place_text place ++ (codes ": warning: overriding recipe for target '"
     ++ (target.name ++ 39 ∷ []))
 
+-- the warnings for all targets whose recipe a rule overrides
 abbrev pub override_messages : List Entry → Entry → List Text
 override_messages rules rule = map (override_message rule.place) (overridden_targets rules rule)
 
@@ -183,9 +187,11 @@ added rules rule (Some refusal) = Err (rule_line_fault rule.place refusal)
 
 -- ---- pattern rules
 
+-- whether two lists have the same names in the same order
 abbrev pub names_eq : List Text → List Text → Bool
 names_eq = pointwise bytes_eq
 
+-- the names of a rule's targets, in order
 abbrev pub target_names : Entry → List Text
 target_names rule = map (λ target. target.name) rule.targets
 

@@ -42,9 +42,11 @@ fault_kind_row kind.IncludeNameNotUtf8 = (34, codes "include name is not UTF-8")
 fault_kind_row kind.BadGroup = (35, codes "bad group")
 fault_kind_row kind.TwoRecipes = (36, codes "two recipes on ")
 
+-- the number of a kind of fault, which a report has as `[Enn]`
 abbrev pub fault_kind_number : FaultKind → ℕ
 fault_kind_number fault = (fault_kind_row fault).0
 
+-- the message of a kind of fault, without the name at its end
 abbrev pub wording : FaultKind → Text
 wording fault = (fault_kind_row fault).1
 

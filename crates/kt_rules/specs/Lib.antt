@@ -5,7 +5,6 @@ pub mod FaultKinds
 pub mod Refusals
 pub mod Names
 pub mod RuleLine
-pub mod Rows
 pub mod Suffixes
 pub mod Book
 pub mod Indexes
@@ -13,7 +12,5 @@ pub mod Targets
 pub mod Known
 pub mod Slots
 pub mod Patterns
-pub mod BookRows
 pub mod Cuts
-pub mod HeadWords
 pub mod inner

@@ -22,7 +22,7 @@ form_view rule form =
 abbrev pub suffix_rules_in : List Text → Entry → List Entry
 suffix_rules_in suffixes rule = filter_map (suffix_rule_as_pattern suffixes) (target_rules rule)
 
--- the same of one target
+-- the suffix rule of a rule for one target, as a pattern rule, if it is one
 abbrev pub suffix_rules_at : List Text → Entry → Target → List Entry
 suffix_rules_at suffixes rule target =
     if is_made rule target then option_to_list (suffix_rule_as_pattern suffixes (rule, target)) else []

@@ -52,7 +52,7 @@ rule_line_fault place refusal =
     let told = kind_and_name refusal in
     record { number = fault_kind_number told.0; place = place; words = words_with told.0 told.1 }
 
--- the same for a result
+-- the result, with the fault at a place instead of a refusal
 abbrev pub rule_line_faults : {A : Type 0} → Place → Result A Refusal → Result A RuleLineFault
 rule_line_faults place (Ok value) = Ok value
 rule_line_faults place (Err refusal) = Err (rule_line_fault place refusal)

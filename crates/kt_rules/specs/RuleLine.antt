@@ -50,7 +50,7 @@ pattern_word [] = None
 pattern_word (word ∷ []) = if has_percent word then Some word else None
 pattern_word (word ∷ next ∷ words) = None
 
--- the head with that pattern, or the refusal of its part if there is none
+-- the head with its target pattern, or the refusal of that part if it isn't one
 abbrev pub with_pattern : Separator → Text → Text → Text → Option Text → Result Head Refusal
 with_pattern separator targets part needs None = Err (bad_static_pattern (without_outer_separators part))
 with_pattern separator targets part needs (Some word) =
@@ -168,6 +168,7 @@ unfoldable pub first_refusal : List (Option Refusal) → Option Refusal
 first_refusal [] = None
 first_refusal (refusal ∷ refusals) = option_or refusal (first_refusal refusals)
 
+-- the refusal, if a test says that there is one
 abbrev pub refused_if : Bool → Refusal → Option Refusal
 refused_if is_refused refusal = if is_refused then Some refusal else None
 

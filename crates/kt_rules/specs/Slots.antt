@@ -116,7 +116,7 @@ GrewIn place old new =
 abbrev pub GotSpots : Entry → ℕ → Notes → Notes → Type 0
 GotSpots rule place old new = (name : Text) → spots_at new name ≡ spots_at old name ++ spots_for rule place name
 
--- the same for the index of the rules that have a recipe
+-- each name has got the spots of a rule at the place, in the index of the rules that have a recipe
 abbrev pub GotRecipes : Entry → ℕ → Notes → Notes → Type 0
 GotRecipes rule place old new =
     (name : Text) → spots_at new name ≡ spots_at old name ++ (if is_some rule.recipe

@@ -40,6 +40,7 @@ is_cut_at suffixes name place = is_among suffixes (take place name) && is_among 
 abbrev pub suffix_cut : List Text → Text → Option ℕ
 suffix_cut suffixes name = find (is_cut_at suffixes name) (range_with_len 0 (length name))
 
+-- the pattern that is a percent sign alone
 abbrev pub percent : Text
 percent = 37 ∷ []
 
@@ -50,14 +51,17 @@ suffix_patterns suffixes name =
     if is_among suffixes name then Some (percent, percent ++ name)
     else option_map (λ place. (percent ++ drop place name, percent ++ take place name)) (suffix_cut suffixes name)
 
+-- whether a rule has a single colon, and is no group and no pattern rule
 abbrev pub is_single : Kind → Bool
 is_single SingleColon = true
 is_single other = false
 
+-- whether there is no name
 abbrev pub has_no_names : List Text → Bool
 has_no_names [] = true
 has_no_names (name ∷ names) = false
 
+-- whether there are no prerequisites, order-only ones included
 abbrev pub needs_nothing : Needs → Bool
 needs_nothing needs = has_no_names needs.prerequisites && has_no_names needs.order_only
 

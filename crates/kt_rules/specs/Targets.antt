@@ -40,7 +40,7 @@ targets_view targets = map (target_of (text_in targets.pattern) (listed_needs ta
 abbrev pub stemmed_name : Text → Text → Text
 stemmed_name stem name = without_dots (with_stem name stem)
 
--- the same if there is a stem
+-- a name as `stemmed_name` makes it if there is a stem, and otherwise as it is
 abbrev pub name_put : Option (Bor Text) → Text → Text
 name_put None name = name
 name_put (Some stem) name = stemmed_name stem.now name

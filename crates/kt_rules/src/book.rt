@@ -161,8 +161,8 @@ impl Book {
         Explicit::new(rules, spots, skips_bare(&self.suffixes, rules, spots, name))
     }
 
-    /// The same for a name that may have this number in `name_table`: then they are found without hashing. Takes no
-    /// memory.
+    /// As `explicit`, for a name that may have this number in `name_table`: then they are found without hashing. Takes
+    /// no memory.
     pub fn explicit_at(&self, name: &[u8], number: usize) -> Explicit<'_>
         ensures { result ≡ explicit_rules self.now name.now }
     {

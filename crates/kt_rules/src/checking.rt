@@ -51,7 +51,7 @@ fn name_refusal(line: &HeadNames, telling: bool) -> Option<&[u8]>
     if telling { refused_name(line) } else { None }
 }
 
-// The same, name by name.
+// As `name_refusal`, name by name.
 #[tactic(auto, using(crate::proofs::TestingLemmas::search_steps), unfolding(crate::specs::RuleLine::name_refusal))]
 #[inline(never)]
 fn refused_name(line: &HeadNames) -> Option<&[u8]>

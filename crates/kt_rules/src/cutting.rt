@@ -9,7 +9,7 @@ use memchr::memchr;
 
 /// What a text is cut at, unless a backslash is directly before it.
 #[derive(Clone, Copy, Debug, PartialEq, Eq)]
-pub(crate) enum Cut {
+pub enum Cut {
     /// At colons.
     Colon,
     /// At spaces, tabs and newlines. A backslash before a tab or newline quotes nothing.
@@ -28,7 +28,7 @@ pub(crate) fn colon_cut(text: &[u8]) -> Option<(&[u8], &[u8])>
     }
 }
 
-// The same for the text after a separator, which mostly has no colon.
+// As `colon_cut`, for the text after a separator, which mostly has no colon.
 #[tactic(auto, using(crate::proofs::BackslashLemmas::never_colon))]
 pub(crate) fn later_cut(text: &[u8]) -> Option<(&[u8], &[u8])>
     ensures { option_map (λ cut. (cut.0.now, cut.1.now)) result ≡ colon_cut text.now }
@@ -49,7 +49,7 @@ fn is_marked(text: &[u8], place: usize) -> bool
     place > 0 && text[place - 1] == b'\\'
 }
 
-// The same, byte by byte.
+// As `colon_cut`, byte by byte.
 #[tactic(auto, unfolding(crate::specs::RuleLine::colon_cut))]
 fn unquoted_colon_cut(text: &[u8]) -> Option<(&[u8], &[u8])>
     ensures { option_map (λ cut. (cut.0.now, cut.1.now)) result ≡ colon_cut text.now }

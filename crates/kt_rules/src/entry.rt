@@ -27,8 +27,8 @@ pub enum Kind {
     Group,
     /// One rule for all names that match its targets (`:`; GNU make manual, "Pattern Rules").
     Pattern,
-    /// The same, but no implicit rule is searched for to make its prerequisites (`::`; GNU make manual, "Match-Anything
-    /// Pattern Rules").
+    /// As `Pattern`, but no implicit rule is searched for to make its prerequisites (`::`; GNU make manual,
+    /// "Match-Anything Pattern Rules").
     TerminalPattern,
 }
 

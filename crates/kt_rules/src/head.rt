@@ -11,7 +11,7 @@ use kt_text::has_percent;
 
 /// The separator between the targets of a rule line and the prerequisites.
 #[derive(Clone, Copy, Debug, PartialEq, Eq)]
-pub(crate) enum Separator {
+pub enum Separator {
     /// `:`
     Single,
     /// `::`

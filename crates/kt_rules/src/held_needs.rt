@@ -51,7 +51,7 @@ impl HeldNeeds {
         HeldNeeds::own(Needs::none(alloc))
     }
 
-    /// The same prerequisites, held once more. None of them is copied.
+    /// These prerequisites, held once more. None of them is copied.
     pub(crate) fn shared(needs: &Rc<PlainNeeds>) -> Result<HeldNeeds, AllocError>
         ensures { IfOk result (λ held. held ≡ needs.now.value.1) }
     {
@@ -90,7 +90,7 @@ impl HeldNeeds {
         }
     }
 
-    /// The same, no longer held by this entry.
+    /// As `as_shared`, but no longer held by this entry.
     pub(crate) fn into_shared(self) -> Option<Rc<PlainNeeds>>
         ensures { IfSome result (λ plain. plain.value.1 ≡ self) }
     {

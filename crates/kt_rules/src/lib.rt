@@ -12,7 +12,6 @@ mod fault_kind;
 mod head;
 mod held_needs;
 mod index;
-pub mod laws;
 mod line;
 mod listed;
 mod name;

@@ -23,7 +23,7 @@ const NAME_SIZE: usize = 16;
 
 /// The names of a head, unquoted and without leading `./`.
 #[derive(Drop)]
-pub(crate) struct HeadNames {
+pub struct HeadNames {
     pub(crate) separator: Separator,
     /// Without repeats.
     pub(crate) targets: Sequence<Name>,
@@ -111,7 +111,7 @@ fn several_targets(alloc: Global, text: &[u8]) -> Result<Sequence<Name>, AllocEr
     Ok(Sequence::from(list))
 }
 
-// The same for a text without a backslash.
+// As `targets`, for a text without a backslash.
 #[tactic(auto, using(crate::proofs::PlainLemmas::plain_names), unfolding(crate::specs::Names::without_repeats))]
 #[inline(never)]
 fn plain_targets(alloc: Global, text: &[u8]) -> Result<Sequence<Name>, AllocError>
@@ -174,7 +174,7 @@ fn quoted_needs(alloc: Global, text: &[u8]) -> Result<Needs, AllocError>
     })
 }
 
-// The same for a text without a backslash.
+// As `quoted_needs`, for a text without a backslash.
 #[tactic(auto, using(crate::proofs::PlainLemmas::plain_needs_from), unfolding(crate::proofs::NeedsLemmas::needs_from))]
 #[inline(always)]
 pub(crate) fn plain_needs(alloc: Global, text: &[u8]) -> Result<Needs, AllocError>

@@ -62,7 +62,7 @@ pub(crate) fn name_of(alloc: Global, word: &[u8]) -> Result<Vec<u8>, AllocError>
     dotless(alloc, unquoted(alloc, word)?)
 }
 
-// The same as a `Name`, which holds a short text without an allocation. Few words have a backslash.
+// As `name_of`, but as a `Name`, which holds a short text without an allocation. Few words have a backslash.
 #[tactic(auto, using(crate::proofs::BackslashLemmas::names_itself))]
 pub(crate) fn named(alloc: Global, word: &[u8]) -> Result<Name, AllocError>
     ensures { IfOk result (λ name. name ≡ name_of word.now) }

@@ -18,7 +18,7 @@ impl Place {
     ghost use Rattle.kt_text.specs.Begun.{HasBegun};
     ghost use Rattle.kt_rules.specs.Places.{place_text};
 
-    /// The same place; the file's name is shared, not copied.
+    /// This place once more; the file's name is shared, not copied.
     pub fn share(&self) -> Result<Place, AllocError>
         ensures { IfOk result (λ place. place ≡ self.now) }
     {

@@ -55,7 +55,7 @@ fn tells_early(byte: u8) -> bool
     matches!(byte, b'*' | b'?' | b'[' | b'\\' | b')')
 }
 
-// The same for a name that has such a byte.
+// As `is_refused_name`, for a name that has such a byte.
 #[tactic(auto, unfolding(crate::specs::Names::is_refused_name))]
 fn is_refused(name: &[u8]) -> bool
     ensures { result ≡ is_refused_name name.now }
@@ -129,7 +129,7 @@ pub(crate) fn is_special(name: &[u8]) -> bool
     begins_with_dot(name) && is_special_name(name)
 }
 
-// The same for a name that begins with a dot.
+// As `is_special`, for a name that begins with a dot.
 #[tactic(auto, unfolding(crate::specs::Names::is_special))]
 fn is_special_name(name: &[u8]) -> bool
     ensures { result ≡ is_special name.now }
@@ -151,7 +151,7 @@ pub(crate) fn is_refused_target(name: &[u8]) -> bool
     begins_with_dot(name) && is_refused_special(name)
 }
 
-// The same for a name that begins with a dot.
+// As `is_refused_target`, for a name that begins with a dot.
 #[tactic(auto, unfolding(crate::specs::Names::is_refused_target))]
 fn is_refused_special(name: &[u8]) -> bool
     ensures { result ≡ is_refused_target name.now }

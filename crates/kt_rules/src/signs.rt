@@ -35,7 +35,7 @@ impl Signs {
     }
 }
 
-// The same as `kt_text::has_percent`, but quicker for a short text, as most texts of targets are.
+// As `kt_text::has_percent`, but quicker for a short text, as most texts of targets are.
 #[tactic(auto, unfolding(kt_text::specs::Match::has_percent, kt_text::specs::Match::is_percent))]
 pub(crate) fn holds_percent(targets: &[u8]) -> bool
     ensures { result ≡ has_percent targets.now }

@@ -156,7 +156,7 @@ pub(crate) enum Question<'a> {
     Messages,
     Entries,
     Explicit(&'a [u8]),
-    /// The same for a name with a number that it may have in the book's table.
+    /// As `Explicit`, for a name with a number that it may have in the book's table.
     ExplicitAt(&'a [u8], usize),
     /// The numbers of what a name's explicit rules need, in the book's table.
     Numbers(&'a [u8]),

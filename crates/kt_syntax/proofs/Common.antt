@@ -1,7 +1,7 @@
 -- The names that most proofs cite, passed on from one place. Declares nothing.
 pub use Rattle.bstr.specs.Text.{no_cr, without_terminator}
 pub use Rattle.kt_list.proofs.general.Booleans.{and_first, and_second, or_first, or_second}
-pub use Rattle.kt_list.proofs.general.Numbers.{above_zero, less_one, one_more_odd, suc_sum, sum_suc}
+pub use Rattle.kt_list.proofs.general.Numbers.{above_zero, less_one, sum_suc}
 pub use Rattle.kt_list.proofs.general.Places.{take_nil}
 pub use Rattle.kt_syntax.specs.Comments.{backslashes, begins_comment}
 unfoldable pub use Rattle.kt_syntax.specs.Comments.{uncommented, uncommented_of}
@@ -19,18 +19,7 @@ pub use Rattle.kt_syntax.specs.declared.part.OpenDefine.{OpenDefine}
 pub use Rattle.kt_syntax.specs.declared.recipe.Joint.{Joint}
 pub use Rattle.kt_syntax.specs.declared.term.Mark.TheVariants.{Braces, Byte, Parentheses}
 pub use Rattle.kt_text.proofs.CondensedLemmas.{condensed_alone, one_piece, without_newline}
-pub use Rattle.kt_text.proofs.CondensingLemmas.{are_pieces, condensed_once, free_backslash, free_end, free_start, front_content}
-unfoldable pub use Rattle.kt_text.proofs.CondensingLemmas.{ArePieces}
-pub use Rattle.kt_text.proofs.CuttingLemmas.{Ending, FirstNewline, HasLast, ending_continued, ending_newline, first_continued, first_ended, first_newline, last_at, last_of, no_newline, odd_more}
-pub use Rattle.kt_text.proofs.GapLemmas.{blank_free, condenses, ends_plain, newline_blank, newline_end, not_either, past, shorter, spelling}
-pub use Rattle.kt_text.proofs.LineTextLemmas.{content_ended, pieces_after}
-pub use Rattle.kt_text.proofs.NewlineLemmas.{free_append, free_at, free_front, free_nil, free_space, free_take}
-unfoldable pub use Rattle.kt_text.proofs.NewlineLemmas.{IsFree}
-pub use Rattle.kt_text.proofs.OneCondensing.{Around, any_last, around, first_of_run, left_of_gap, less_left, nothing_ends, some_left, spelled_long, trailing}
 pub use Rattle.kt_text.proofs.PlaceLemmas.{differ_turned, drop-prefix_len, first_byte_place}
-pub use Rattle.kt_text.proofs.TrimLemmas.{EndsPlain, end_blanks, end_first, even_blank, even_past, free_blanks, start_blank, start_plain}
-unfoldable pub use Rattle.kt_text.proofs.TrimLemmas.{AllBlank}
-pub use Rattle.kt_text.specs.Condensing.{IsGap, continuation, returned, space, tab}
 pub use Rattle.kt_text.specs.Lines.{before_backslash, newline_after}
 unfoldable pub use Rattle.kt_text.specs.Lines.{condensed_group, condensed_line, condensed_of, condensed_rest, groups, is_continued, is_ended, newline_pieces}
 unfoldable pub use Rattle.kt_text.specs.Words.{is_blank}
@@ -46,4 +35,4 @@ pub use Rattle.std.proofs.lemmas.Option.{get_or_from_slice_get, none-some, same_
 pub use Rattle.std.proofs.lemmas.Slice.Eq.{bytes_eq-Decides, starts_is}
 pub use Rattle.std.specs.List.{concat, onto_first, prefix_len, suffix_len}
 pub use Rattle.std.specs.Str.{bytes_eq}
-pub use Rattle.kt_syntax.specs.Prelude.{BlockPart, BlockStep, Edge, FirstStands, HasNoNewline, Inside, IsNewline, IsTerm, Missing, Newline, NumberedRole, Outside, Role, Spacing, Term, Text, comment_place, dollar, flat_map, inside, is_continuation, is_continued_text, kept, line_form, list_all, list_any, literal, past_word, position_or_len, reference, slice_get, slice_range, spelled, starts_with, trimmed_end, trimmed_start, unclosed, unit_length}
+pub use Rattle.kt_syntax.specs.Prelude.{BlockPart, BlockStep, Edge, Inside, IsTerm, Missing, Newline, NumberedRole, Outside, Role, Term, Text, comment_place, dollar, flat_map, inside, is_continued_text, kept, line_form, list_all, list_any, literal, past_word, position_or_len, reference, slice_get, slice_range, starts_with, trimmed_end, trimmed_start, unclosed, unit_length}

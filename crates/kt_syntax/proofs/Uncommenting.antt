@@ -5,9 +5,6 @@ use Rattle.kt_syntax.proofs.Common.{eq-eqb, false_from_ne_true, eqb-true, drop_m
 not_equal : (a b : ℕ) → (a ≡ b → ⊥) → (a == b) ≡ false
 not_equal a b h = false_from_ne_true (a == b) (λ e. h (eqb-true a b e))
 
-abbrev step : ℕ → ℕ → List ℕ → ℕ → Text → Text
-step run symbol mask byte rest = uncommented run (symbol ∷ mask) (byte ∷ rest)
-
 at_place : (text : Text) (run symbol place : ℕ) (mask : List ℕ) → place < length text
     → uncommented run (symbol ∷ mask) (drop place text) ≡ uncommented run (symbol ∷ mask) (get_or text place 0 ∷ drop (place + 1) text)
 at_place text run symbol place mask h = ap (uncommented run (symbol ∷ mask)) (drop_more text place 0 h)

@@ -7,7 +7,7 @@ use Rattle.kt_syntax.specs.Parts.{after, block_part, parts_from}
 use Rattle.kt_syntax.specs.Steps.{ahead_of, places_after, step_of, steps_from}
 use Rattle.kt_syntax.specs.Reading.{items_left, left_at}
 use Rattle.kt_syntax.proofs.Sound.{levels_at}
-use Rattle.kt_syntax.proofs.Unique.{append-none}
+use Rattle.kt_syntax.proofs.ItemLemmas.{append-none}
 
 -- after the open conditionals the text itself is left, which has no branches and nothing round it
 abbrev IsRooted : List OpenConditional → List Level → Type 0

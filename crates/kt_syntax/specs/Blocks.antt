@@ -18,6 +18,7 @@ mutual
     definition : (place body_end : ℕ) (next : Items) → Items
     conditional : (place : ℕ) (first : Items) (others : Branches) (next : Items) → Items
 
+  -- the further branches of a conditional, in order; `late` is what follows an `else` after the plain `else`
   pub data Branches : Type 0 where
     no_branch : Branches
     branch : (place : ℕ) (condition : Bool) (items : Items) (others : Branches) → Branches
@@ -28,23 +29,23 @@ pub record Level : Type 0 where
   pub items : Items
   pub others : Branches
 
--- what is left of the innermost of the open blocks, and of those round it; a block that the text doesn't end ends
--- with it
+-- what is left of the innermost of the open blocks; a block that the text doesn't end ends with it
 abbrev pub innermost_level : List Level → Level
 innermost_level [] = record { items = none; others = no_branch }
 innermost_level (level ∷ levels) = level
 
+-- what is left of the blocks round the innermost one
 abbrev pub outer : List Level → List Level
 outer [] = []
 outer (level ∷ levels) = levels
 
--- one more item in the innermost block
+-- the open blocks with one more item in the innermost one
 abbrev pub with_block_item : (Items → Items) → List Level → List Level
 with_block_item item levels =
     record { items = item (innermost_level levels).items; others = (innermost_level levels).others }
     ∷ outer levels
 
--- one more branch: its items are those that are left, and its block begins before it
+-- the open blocks with one more branch: its items are those that are left, and its block begins before it
 abbrev pub with_branch : (Items → Branches → Branches) → List Level → List Level
 with_branch more levels =
     record { items = none; others = more (innermost_level levels).items (innermost_level levels).others }
@@ -77,6 +78,6 @@ pub record Blocks : Type 0 where
   pub steps : List BlockStep
   pub missing : Option Missing
 
--- that of a text with these lines
+-- the flat form of a text with these lines
 abbrev pub blocks_of : List NumberedRole → Blocks
 blocks_of heads = record { steps = steps_from 0 (block_parts heads); missing = missing_end heads }

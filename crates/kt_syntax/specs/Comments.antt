@@ -8,7 +8,7 @@ abbrev pub begins_comment : Text → Bool
 begins_comment [] = true
 begins_comment (byte ∷ text) = byte == 35
 
--- a run of backslashes
+-- a run of this many backslashes
 abbrev pub backslashes : ℕ → Text
 backslashes run = replicate run 92
 

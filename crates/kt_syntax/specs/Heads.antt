@@ -29,7 +29,7 @@ colon_place place previous [] = None
 colon_place place previous (symbol ∷ mask) =
     if symbol == 58 && not (previous == 92) then Some place else colon_place (place + 1) symbol mask
 
--- a second colon directly after it belongs to it
+-- the place after the colon of a head; a second colon directly after the first belongs to it
 abbrev pub after_colon : List ℕ → ℕ → ℕ
 after_colon mask place = if starts_with nat_eq (drop (place + 1) mask) (58 ∷ []) then place + 2 else place + 1
 
@@ -39,26 +39,27 @@ unfoldable pub is_modifier : Text → Bool
 is_modifier word = bytes_eq word (codes "override")
     || (bytes_eq word (codes "export") || bytes_eq word (codes "private"))
 
--- the place after a word, if it is such a word and a blank comes after it
+-- the place after a word, if the word is a modifier and a blank comes after it
 abbrev pub modifier_at : Text → List ℕ → ℕ → ℕ → Option ℕ
 modifier_at text mask begin end = if is_modifier (slice_range text begin end) && nat_lt end (length mask)
     then Some end else None
 
--- the place after such a word, if one comes next
+-- the place after a modifier, if one comes next
 unfoldable pub after_modifier : Text → List ℕ → ℕ → Option ℕ
 after_modifier text mask from = modifier_at text mask (past_blanks from mask) (past_word (past_blanks from mask) mask)
 
+-- the place that was reached, or what comes of going on from a further place that was found
 abbrev pub found_or : ℕ → (ℕ → ℕ) → Option ℕ → ℕ
 found_or from further None = from
 found_or from further (Some end) = further end
 
--- the place after all such words, of which there are at most as many as is said
+-- the place after all modifiers that come next, of which there are at most as many as is said
 unfoldable pub after_modifiers : ℕ → Text → List ℕ → ℕ → ℕ
 after_modifiers zero text mask from = from
 after_modifiers (suc most) text mask from = found_or from
     (λ end. after_modifiers most text mask end) (after_modifier text mask from)
 
--- whether what follows a given number of bytes of a head is of assignment form, with such words before it or not
+-- whether what follows a given number of bytes of a head is of assignment form, with modifiers before it or not
 abbrev pub assigns_after : Text → List ℕ → Option ℕ → Bool
 assigns_after text mask None = false
 assigns_after text mask (Some colon) =
@@ -84,10 +85,10 @@ parts_with text recipe =
     if is_target_specific text (take (head_end text) (mask_of text)) then None
     else Some (record { head = head_text text; recipe = recipe })
 
--- those of a rule line with this text
+-- the parts of a rule line, from the line as written and its condensed text
 unfoldable pub rule_texts : Text → Text → Option RuleParts
 rule_texts line text = parts_with text (first_recipe line)
 
--- those of a line as it stands in the file
+-- the parts of a rule line as it is in the file
 abbrev pub line_parts : Text → Option RuleParts
 line_parts line = rule_texts line (condensed_of line)

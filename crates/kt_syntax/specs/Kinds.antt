@@ -89,7 +89,7 @@ parts_at text name place (Some found) = Some (record {
   value = past_blanks (place + found.1) (mask_of text);
 })
 
--- the same, where a name ends at a place
+-- the parts of an assignment, where its name ends at a place; none where no operator follows
 abbrev pub parts_after : Text → List ℕ → Option ℕ → Option Parts
 parts_after text mask None = None
 parts_after text mask (Some name) = parts_at text name (past_blanks name mask)
@@ -144,6 +144,7 @@ worded tab text mask begin =
     (slice_range text begin (past_word begin mask))
     (drop (past_blanks (past_word begin mask) (mask_of text)) text)
 
+-- the kind of a line that isn't blank: an assignment if it has the parts of one, or else by its first word
 abbrev pub kind_by_parts : Bool → Text → List ℕ → ℕ → Option Parts → Form
 kind_by_parts tab text mask begin None = worded tab text mask begin
 kind_by_parts tab text mask begin (Some parts) = assignment (slice_range text begin parts.name) parts.operator

@@ -16,7 +16,7 @@ pub record Scan : Type 0 where
   pub define : Option OpenDefine
   pub conditionals : List OpenConditional
 
--- before the first line
+-- the open blocks before the first line: none
 abbrev pub nothing_open : Scan
 nothing_open = record { define = None; conditionals = [] }
 
@@ -33,7 +33,7 @@ abbrev pub body_part : Role → ℕ → BlockPart
 body_part role.Endef zero = part.Endef
 body_part line depth = part.Body
 
--- the define after that line, if it is still open; in the body defines nest
+-- the define after a line of its body, if it is still open; in the body defines nest
 abbrev pub define_after : ℕ → ℕ → Role → Option OpenDefine
 define_after number depth role.Define = Some (record { number = number; depth = depth + 1 })
 define_after number zero role.Endef = None
@@ -46,7 +46,7 @@ else_part [] condition = part.Stray stray.Else
 else_part (innermost ∷ outer) condition = if innermost.plain_else then part.Stray stray.LateElse
     else part.Branch condition
 
--- the open conditionals after it
+-- the open conditionals after an `else`
 abbrev pub after_else : List OpenConditional → Bool → List OpenConditional
 after_else [] condition = []
 after_else (innermost ∷ outer) condition =
@@ -109,9 +109,10 @@ missing_in open_blocks = missing_of open_blocks.define open_blocks.conditionals
     missing_of None (innermost ∷ outer) = Some (missing.Endif innermost.number)
     missing_of None [] = None
 
--- the parts of all lines of a text, and its missing end
+-- the parts of all lines of a text
 abbrev pub block_parts : List NumberedRole → List BlockPart
 block_parts heads = parts_from nothing_open heads
 
+-- the end that is missing at the end of a text, if a block is open there
 abbrev pub missing_end : List NumberedRole → Option Missing
 missing_end heads = missing_in (open_at_end nothing_open heads)

@@ -11,7 +11,6 @@ pub use Rattle.kt_syntax.specs.declared.recipe.Joint.TheVariants.{Edge, Inside, 
 pub use Rattle.kt_syntax.specs.declared.role.NumberedRole.{NumberedRole}
 pub use Rattle.kt_syntax.specs.declared.role.Role.{Role}
 pub use Rattle.kt_syntax.specs.declared.step.BlockStep.{BlockStep}
-pub use Rattle.kt_text.specs.Condensing.{FirstStands, HasNoNewline, IsLine, IsNewline, Spacing, StandsAfter, is_continuation, spelled}
 pub use Rattle.kt_text.specs.Lines.{condensed_of, is_continued, is_continued_text, newline_pieces}
 pub use Rattle.kt_text.specs.Words.{Text, is_blank, trimmed_end, trimmed_start}
 pub use Rattle.std.specs.List.{flat_map, list_all, list_any, position_or_len, slice_range, starts_with}

@@ -17,19 +17,20 @@ content Newline line = without_terminator line
 content Outside line = before_backslash line
 content Inside line = before_backslash line
 
--- without a tab at its begin
+-- a text without a tab at its start
 abbrev pub without_tab : Text → Text
 without_tab [] = []
 without_tab (byte ∷ text) = if byte == 9 then text else byte ∷ text
 
--- what is left after the joint before it: a continuation takes one tab with it, and inside a reference all blanks
+-- what is left of a physical line after the joint before it: a continuation takes one tab with it, and inside a
+-- reference all blanks
 abbrev pub begun : Joint → Text → Text
 begun Edge text = text
 begun Newline text = text
 begun Outside text = without_tab text
 begun Inside text = trimmed_start text
 
--- what is left before the joint after it
+-- what is left of a physical line before the joint after it
 abbrev pub ended : Joint → Text → Text
 ended Inside text = trimmed_end text
 ended other text = text

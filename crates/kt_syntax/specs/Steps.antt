@@ -14,7 +14,7 @@ pub record Places : Type 0 where
   pub body_end : ℕ
   pub conditionals : List BranchExits
 
--- at the end of the text
+-- what is known at the end of the text
 abbrev pub places_at_end : ℕ → Places
 places_at_end end = record { end = end; body_end = end; conditionals = [] }
 

@@ -89,7 +89,7 @@ IsSplittingIn continuations text (piece ∷ pieces) =
     (spelled : Text) × (rest : Text) × (text ≡ spelled ++ rest) × IsTerm continuations piece spelled rest
     × IsSplittingIn continuations rest pieces
 
--- the same for a text without continuations
+-- the text, which has no continuations, is the spellings of these terms put together
 abbrev pub IsSplitting : Text → List Term → Type 0
 IsSplitting text pieces = IsSplittingIn dropped text pieces
 

@@ -36,7 +36,7 @@ fn uncommented<'a>(alloc: Global, text: &'a [u8]) -> Result<CowSlice<'a, u8>, Al
     Ok(CowSlice::Borrowed(text))
 }
 
-// The same for a text with a number sign.
+// As `uncommented`, for a text with a number sign.
 fn uncommented_by_sign<'a>(alloc: Global, text: &'a [u8]) -> Result<CowSlice<'a, u8>, AllocError>
     ensures { IfOk result (λ plain. cow_slice_items plain ≡ uncommented_of text.now) }
 {
@@ -46,7 +46,7 @@ fn uncommented_by_sign<'a>(alloc: Global, text: &'a [u8]) -> Result<CowSlice<'a,
     }
 }
 
-// The same for a text that is owned.
+// As `uncommented`, for a text that is owned.
 #[tactic(auto, using(crate::proofs::SymbolLemmas::nothing_uncommented, crate::proofs::SymbolLemmas::not_found))]
 fn without_its_comment(alloc: Global, text: Vec<u8>) -> Result<Vec<u8>, AllocError>
     ensures { IfOk result (λ plain. plain.items ≡ uncommented_of text.items) }
@@ -57,7 +57,7 @@ fn without_its_comment(alloc: Global, text: Vec<u8>) -> Result<Vec<u8>, AllocErr
     }
 }
 
-// The same by the symbols of the text.
+// As `uncommented`, by the symbols of the text.
 #[tactic(auto, unfolding(crate::specs::Comments::uncommented_of))]
 fn without_comment(alloc: Global, text: &[u8]) -> Result<Vec<u8>, AllocError>
     ensures { IfOk result (λ plain. plain.items ≡ uncommented_of text.now) }

@@ -32,7 +32,7 @@ pub(crate) fn leading_form(text: &[u8], tab: bool) -> Option<Form<'_>>
     }
 }
 
-// The same by that word and what comes after it, where that begins with no operator behind its blanks.
+// As `leading_form`, by the first word and what comes after it, where that begins with no operator behind its blanks.
 #[tactic(auto, using(crate::proofs::LeadingForms::form_colon))]
 fn unassigning_form<'a>(
     tab: bool,

@@ -61,7 +61,7 @@ fn own_parts(text: &[u8]) -> Result<RuleParts<'_>, TargetSpecific>
     }
 }
 
-// The same by the places of those bytes.
+// As `own_parts`, by the places of the bytes that cut a line.
 fn own_parts_by_signs(text: &[u8]) -> Result<RuleParts<'_>, TargetSpecific>
     ensures { texts_view result ≡ rule_texts text.now text.now }
 {
@@ -83,7 +83,7 @@ fn condensed_parts<'t>(
     parts_at(text, comment, end, recipe)
 }
 
-// The same, where the head ends at a place.
+// As `condensed_parts`, where the head ends at a place.
 #[tactic(auto, using(crate::proofs::HeadLemmas::texts_none, crate::proofs::HeadLemmas::texts_some))]
 fn parts_at<'t>(
     text: &'t [u8],
@@ -129,7 +129,7 @@ fn first_recipe(line: &[u8]) -> Option<&[u8]>
     recipe_at(line, comment, end)
 }
 
-// The same, where the head ends at a place.
+// As `first_recipe`, where the head ends at a place.
 #[tactic(auto, using(crate::proofs::HeadLemmas::recipe_none, crate::proofs::HeadLemmas::recipe_some))]
 fn recipe_at(line: &[u8], comment: usize, end: usize) -> Option<&[u8]>
     requires before { comment ≡ comment_place line.now }
@@ -159,7 +159,7 @@ fn head_end(text: &[u8], comment: usize) -> usize
     comment
 }
 
-// The same for a line with a semicolon, which may stand in a reference or in the comment.
+// As `head_end`, for a line with a semicolon, which may stand in a reference or in the comment.
 #[tactic(auto, unfolding(crate::specs::Heads::head_end))]
 fn semicolon_place(text: &[u8], comment: usize) -> usize
     requires before { comment ≡ comment_place text.now }
@@ -173,7 +173,7 @@ fn semicolon_place(text: &[u8], comment: usize) -> usize
     }
 }
 
-// The same by the symbols of the line.
+// As `head_end`, by the symbols of the line.
 #[tactic(auto, unfolding(crate::specs::Heads::head_end))]
 fn masked_semicolon(text: &[u8], comment: usize) -> usize
     requires before { comment ≡ comment_place text.now }
@@ -202,7 +202,7 @@ fn is_target_specific(text: &[u8], end: usize) -> bool
     false
 }
 
-// The same for a line with an equals sign.
+// As `is_target_specific`, for a line with an equals sign.
 #[tactic(auto, unfolding(crate::specs::Heads::is_target_specific))]
 fn assigns_after_colon(text: &[u8], end: usize) -> bool
     requires { end ≤ length text.now }

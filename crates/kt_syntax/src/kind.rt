@@ -58,7 +58,7 @@ pub fn begins_comment(line: &[u8]) -> bool
     matches!(line, [] | [b'#', ..])
 }
 
-// The same, where the line's begin doesn't tell that it is a directive of blocks.
+// As `classify_text`, where the line's begin doesn't tell that it is a directive of blocks.
 fn other_kind(text: &[u8], tab: bool) -> Form<'_>
     ensures { line_form_view result ≡ form_of text.now tab }
 {
@@ -68,7 +68,7 @@ fn other_kind(text: &[u8], tab: bool) -> Form<'_>
     }
 }
 
-// The same by a look at the whole line.
+// As `classify_text`, by a look at the whole line.
 #[tactic(auto, unfolding(crate::specs::Kinds::form_of, crate::specs::Kinds::kind_within))]
 fn walked_kind(text: &[u8], tab: bool) -> Form<'_>
     ensures { line_form_view result ≡ form_of text.now tab }
@@ -110,7 +110,7 @@ pub(crate) fn assignment(text: &[u8], begin: usize, end: usize) -> Option<Parts>
     None
 }
 
-// The same for a line with an equals sign.
+// As `assignment`, for a line with an equals sign.
 #[tactic(auto, unfolding(crate::specs::Kinds::assignment_parts))]
 fn signed_assignment(text: &[u8], begin: usize, end: usize) -> Option<Parts>
     requires order { begin ≤ end }
@@ -138,7 +138,7 @@ fn name_end(text: &[u8], begin: usize, end: usize) -> Option<usize>
     masked_name_end(text, past_own_name(text, begin, end), end)
 }
 
-// The same by the symbols of the line.
+// As `name_end`, by the symbols of the line.
 #[tactic(auto, unfolding(crate::specs::Kinds::name_end))]
 fn masked_name_end(text: &[u8], begin: usize, end: usize) -> Option<usize>
     requires order { begin ≤ end }
@@ -205,7 +205,7 @@ fn worded(text: &[u8], begin: usize, end: usize, tab: bool) -> Form<'_>
     form_by_word(tab, &text[begin..after], &text[rest..])
 }
 
-// The same by that word and the text after it.
+// As `worded`, by the first word and the text after it.
 #[tactic(auto, using(crate::proofs::LeadingForms::no_word))]
 pub(crate) fn form_by_word<'a>(tab: bool, word: &'a [u8], rest: &'a [u8]) -> Form<'a>
     ensures { line_form_view result ≡ kind_by_word (directive_of tab word.now) word.now rest.now }

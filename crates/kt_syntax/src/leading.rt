@@ -44,7 +44,7 @@ fn leading_word(text: &[u8]) -> Option<(Directive, &[u8])>
     }
 }
 
-// The same of a text with `if` before it, and of one with an `e`.
+// As `leading_word`, for a text with `if` before it, and for one with an `e`.
 #[tactic(auto, unfolding(crate::specs::Kinds::block_word))]
 fn word_after_if(rest: &[u8]) -> Option<(Directive, &[u8])>
     ensures { IfSome result (λ found. IsLed found.0 (105 ∷ 102 ∷ rest.now) found.1.now) }

@@ -8,7 +8,6 @@ mod form;
 mod front;
 mod heads;
 mod kind;
-pub mod laws;
 mod leading;
 mod line_text;
 mod mask;

@@ -41,7 +41,7 @@ fn marks_of(alloc: Global, lines: &[Line]) -> Result<Vec<LineMark>, AllocError>
     Ok(marks)
 }
 
-/// The same by the marks of these lines, as `line_marks` gives them.
+/// As `blocks`, by the marks of these lines, as `line_marks` gives them.
 #[tactic(auto, using(crate::proofs::Sound::tree_is_of, crate::proofs::WholeTree::whole_tree_is_left))]
 pub fn marked_blocks(alloc: Global, text: &[u8], lines: &[LineMark]) -> Result<Blocks, AllocError>
     requires { AreInOrder (length text.now) lines.now }

@@ -54,7 +54,7 @@ pub(crate) enum BlockPart {
 
 /// An open conditional: the number of its line, and whether its plain `else` has come.
 #[derive(Clone, Copy, Debug, PartialEq, Eq)]
-pub(crate) struct OpenConditional {
+pub struct OpenConditional {
     pub number: u64,
     pub plain_else: bool,
 }

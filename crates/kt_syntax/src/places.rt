@@ -22,7 +22,7 @@ pub(crate) fn comment_place(text: &[u8]) -> usize
     text.len()
 }
 
-// The same for a line with a number sign, which may be quoted or stand in a reference.
+// As `comment_place`, for a line with a number sign, which may be quoted or stand in a reference.
 fn sign_place(text: &[u8]) -> usize
     ensures value { result ≡ comment_place text.now }
     ensures bound { result ≤ length text.now }
@@ -33,7 +33,7 @@ fn sign_place(text: &[u8]) -> usize
     }
 }
 
-// The same by the symbols of the line.
+// As `comment_place`, by the symbols of the line.
 #[tactic(auto, unfolding(crate::specs::Kinds::before_comment))]
 fn masked_sign_place(text: &[u8]) -> usize
     ensures value { result ≡ comment_place text.now }
@@ -69,7 +69,7 @@ pub(crate) fn past_blanks(text: &[u8], from: usize, end: usize) -> usize
     }
 }
 
-// The same by the symbols of the line.
+// As `past_blanks`, by the symbols of the line.
 fn past_masked_blanks(text: &[u8], from: usize, end: usize) -> usize
     requires order { from ≤ end }
     requires within { end ≤ length text.now }
@@ -109,7 +109,7 @@ pub(crate) fn past_word(text: &[u8], from: usize, end: usize) -> usize
     }
 }
 
-// The same by the symbols of the line.
+// As `past_word`, by the symbols of the line.
 fn past_masked_word(text: &[u8], from: usize, end: usize) -> usize
     requires order { from ≤ end }
     requires within { end ≤ length text.now }

@@ -14,7 +14,7 @@ use std::borrow::CowSlice;
 
 // What stands at an end of a physical line.
 #[derive(Clone, Copy)]
-pub(crate) enum Joint {
+pub enum Joint {
     // The begin or the end of the text.
     Edge,
     // A newline that isn't continued.
@@ -41,7 +41,7 @@ pub fn recipe_text(alloc: Global, text: &[u8]) -> Result<CowSlice<'_, u8>, Alloc
     }
 }
 
-// The same for a text of several physical lines.
+// As `recipe_text`, for a text of several physical lines.
 fn recipe_of_lines(alloc: Global, text: &[u8]) -> Result<Vec<u8>, AllocError>
     ensures { IfOk result (λ recipe. recipe.items ≡ recipe_of text.now) }
 {

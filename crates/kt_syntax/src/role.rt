@@ -15,7 +15,7 @@ use std::alloc::{AllocError, Global};
 
 /// What a line is to the blocks round it.
 #[derive(Clone, Copy, Debug, PartialEq, Eq)]
-pub(crate) enum Role {
+pub enum Role {
     /// It opens, continues and ends no block.
     Ordinary,
     /// `ifdef`, `ifndef`, `ifeq` or `ifneq`
@@ -32,7 +32,7 @@ pub(crate) enum Role {
 
 /// A line's role, and the number of its first physical line.
 #[derive(Clone, Copy, Debug, PartialEq, Eq)]
-pub(crate) struct NumberedRole {
+pub struct NumberedRole {
     pub role: Role,
     pub number: u64,
 }
@@ -113,7 +113,7 @@ fn may_open(line: &[u8]) -> bool
     }
 }
 
-// The same by the kind of the text.
+// As `role_of`, by the kind of the text.
 #[tactic(auto, unfolding(crate::specs::Roles::role_of))]
 fn classified_role(text: &[u8]) -> Role
     ensures { result ≡ role_of (form_of text.now false) }

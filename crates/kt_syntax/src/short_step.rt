@@ -26,7 +26,7 @@ impl Model for ShortStep {
 }
 
 impl ShortStep {
-    // The same step. One with a place beyond 4,294,967,295 has none, as if memory were refused for it.
+    // This step. One with a place beyond 4,294,967,295 has none, as if memory were refused for it.
     pub(crate) fn of(step: BlockStep) -> Result<ShortStep, AllocError>
         ensures same { IfOk result (λ short. short ≡ step) }
         ensures large { OnErr result ((4294967295 < (places_of_step step).0) ⊎ (4294967295 < (places_of_step step).1)) }

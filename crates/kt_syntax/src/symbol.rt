@@ -36,7 +36,7 @@ impl Symbol {
         Symbol { outside: None }
     }
 
-    // The same once more.
+    // This symbol once more.
     pub(crate) fn copy(&self) -> Symbol
         ensures { result ≡ self.now }
     {

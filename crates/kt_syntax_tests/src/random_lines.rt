@@ -221,7 +221,7 @@ fn plainly(line: &Line, tab: bool) -> (u8, &[u8], &[u8]) {
     (b'r', b"", b"")
 }
 
-/// The same of `classify_text`; a directive's word is taken from the plain reading.
+/// As `plainly`, of what `classify_text` finds; a directive's word is taken from the plain reading.
 fn told<'a>(form: Form<'a>, word: &'a [u8]) -> (u8, &'a [u8], &'a [u8]) {
     match form {
         Form::Blank => (b'b', b"", b""),

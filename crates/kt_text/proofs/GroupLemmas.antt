@@ -1,5 +1,5 @@
 -- The groups of physical lines that make logical ones.
-use Rattle.std.proofs.Common.{◌≡◌, ◌<◌, Bool, true, false, List, [], ◌∷◌, refl, length, arith}
+use Rattle.std.proofs.Common.{◌≡◌, Bool, true, false, List, [], ◌∷◌, refl, length, arith}
 use Rattle.kt_text.proofs.Common.{false≢true, onto_first, lines_of, lines-nil, lines-step, Text, is_nonempty, is_continued, groups}
 
 pub groups-ended : (line : Text) (lines : List Text) → is_continued line ≡ false → groups (line ∷ lines) ≡ (line ∷ []) ∷ groups lines
@@ -9,9 +9,6 @@ groups-ended line lines h = rw h refl
 pub groups-continued : (line : Text) (lines : List Text) → is_continued line ≡ true → groups (line ∷ lines) ≡ onto_first line (groups lines)
 unfolding groups
 groups-continued line lines h = rw h refl
-
-pub length-onto : (line : Text) (found : List (List Text)) → 0 < length found → length (onto_first line found) ≡ length found
-length-onto line found l = grind arith
 
 -- the first group begins with the first line
 pub record BeginsWith (line : Text) (found : List (List Text)) : Type 0 where

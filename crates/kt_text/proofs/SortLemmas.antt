@@ -14,7 +14,7 @@ use Rattle.std.proofs.lemmas.Map.Made.{Contains-tail}
 use Rattle.std.proofs.lemmas.List.Kept.{IsStrictlySortedBy-dedup, Contains-dedup, Contains-from_dedup}
 use Rattle.std.proofs.lemmas.List.Sorted.{IsPermutation-sym, Contains-permutation}
 use Rattle.std.proofs.lemmas.List.Elements.{All-contains, All-weaker, All-cons, All-head, All-tail, Contains-append_right, recursion_from_All}
-use Rattle.kt_text.specs.Sorted.{IsSorting, SortLaw, front_number}
+use Rattle.kt_text.specs.Sorted.{IsSorting, front_number}
 
 -- the order of texts by bytes
 abbrev pub order : Text → Text → Ordering
@@ -195,10 +195,6 @@ sorting_is texts sorted s =
     let set = word_set-sorts texts in
     same_from_members sorted (word_set texts) s.rises set.rises
     (λ word has. (set.members word).1 ((s.members word).0 has)) (λ word has. (s.members word).1 ((set.members word).0 has))
-
--- both together
-pub sort_law : SortLaw
-sort_law = record { sorts = word_set-sorts; only = sorting_is }
 
 -- bytes, each of eight bits
 abbrev pub AreBytes : Text → Type 0

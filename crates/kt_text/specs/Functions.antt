@@ -79,7 +79,7 @@ unfoldable pub matches_word : Text → Text → Bool
 matches_word pattern word =
     if has_percent pattern then is_some (stem_span pattern word) else bytes_eq pattern word
 
--- whether one of the patterns does
+-- whether one of the patterns matches the word
 abbrev pub matches_some : List Text → Text → Bool
 matches_some patterns word = list_any (λ pattern. matches_word pattern word) patterns
 
@@ -153,11 +153,11 @@ lastword_of text = word_at (words_of text) (length (words_of text) - 1)
 abbrev pub name_place : Text → ℕ
 name_place word = length word - suffix_len (λ byte. not (byte == 47)) word
 
--- the part after the last slash
+-- the part of a name after its last slash
 abbrev pub name_part : Text → Text
 name_part word = drop (name_place word) word
 
--- through the last slash, or `./` where there is none
+-- the part of a name through its last slash, or `./` where there is none
 abbrev pub dir_part : Text → Text
 dir_part word = if name_place word == 0 then 46 ∷ 47 ∷ [] else take (name_place word) word
 
@@ -179,7 +179,7 @@ notdir_of text = list_text (map name_part (words_of text))
 unfoldable pub suffix_of : Text → Text
 suffix_of text = list_text (map (λ word. drop (suffix_place word) word) (words_of text))
 
--- `basename`: all but that suffix [Functions for File Names]
+-- `basename`: each name without its suffix [Functions for File Names]
 unfoldable pub basename_of : Text → Text
 basename_of text = list_text (map (λ word. take (suffix_place word) word) (words_of text))
 
@@ -191,7 +191,7 @@ addsuffix_of suffix text = list_text (map (λ word. word ++ suffix) (words_of te
 unfoldable pub addprefix_of : Text → Text → Text
 addprefix_of prefix text = list_text (map (λ word. prefix ++ word) (words_of text))
 
--- pair by pair; the longer list's rest follows
+-- the words of two lists joined pair by pair; the longer list's rest follows
 unfoldable pub joined_pairs : List Text → List Text → List Text
 joined_pairs [] seconds = seconds
 joined_pairs (first ∷ firsts) [] = first ∷ firsts

@@ -1,5 +1,4 @@
 pub mod Prelude
-pub mod Condensing
 pub mod Words
 pub mod Begun
 pub mod Match
@@ -7,7 +6,6 @@ pub mod Lines
 pub mod Functions
 pub mod TextFunctions
 pub mod Sorted
-pub mod Rows
 pub mod inner
 pub use Rattle.memchr.specs.Find
 pub use Rattle.bstr.specs.Text

@@ -72,7 +72,7 @@ newline_pieces (byte ∷ text) =
 unfoldable pub is_ended : Text → Bool
 is_ended line = slice_index line (length line - 1) == 10
 
--- that newline, if it has one
+-- the newline of a physical line, if it has one
 abbrev pub newline_of : Text → Text
 newline_of line = if is_ended line then 10 ∷ [] else []
 
@@ -80,22 +80,22 @@ newline_of line = if is_ended line then 10 ∷ [] else []
 abbrev pub before_backslash : Text → Text
 before_backslash line = take (length (without_terminator line) - 1) (without_terminator line)
 
--- what it keeps of its text, by whether it is continued from the line before it and to the line after it
+-- what a physical line keeps of its text, by whether it is continued from the line before it and to the line after it
 abbrev pub trimmed_line : Bool → Bool → Text → Text
 trimmed_line false false line = without_terminator line
 trimmed_line false true line = trimmed_end (before_backslash line)
 trimmed_line true true line = trimmed_end (trimmed_start (before_backslash line))
 trimmed_line true false line = trimmed_start (without_terminator line)
 
--- the space of the continuation before it, where that isn't one with the continuation after it, only blanks between
--- them
+-- the space of the continuation before a physical line; of several continuations with only blanks between them, the
+-- last has it
 abbrev pub space_before : Bool → Bool → Text → Text
 space_before false continues text = []
 space_before true false text = 32 ∷ []
 space_before true true [] = []
 space_before true true (byte ∷ text) = 32 ∷ []
 
--- its newline, where it isn't continued
+-- the newline of a physical line, where it isn't continued
 abbrev pub newline_after : Bool → Text → Text
 newline_after true line = []
 newline_after false line = newline_of line
@@ -106,13 +106,13 @@ condensed_line continued continues line =
     let text = trimmed_line continued continues line in
     space_before continued continues text ++ (text ++ newline_after continues line)
 
--- the lines of a group after its first
+-- what the physical lines of a group become after its first
 unfoldable pub condensed_rest : List Text → Text
 condensed_rest [] = []
 condensed_rest (line ∷ []) = condensed_line true false line
 condensed_rest (line ∷ next ∷ lines) = condensed_line true true line ++ condensed_rest (next ∷ lines)
 
--- a whole group
+-- what the physical lines of a group become
 unfoldable pub condensed_group : List Text → Text
 condensed_group [] = []
 condensed_group (line ∷ []) = condensed_line false false line

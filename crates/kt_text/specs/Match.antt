@@ -20,11 +20,11 @@ pub record Match (pattern word stem : Text) : Type 0 where
 unfoldable pub has_percent : Text → Bool
 has_percent pattern = list_any is_percent pattern
 
--- what stands before its first one
+-- the part of a pattern before its first percent sign
 unfoldable pub pattern_front : Text → Text
 pattern_front pattern = before_first is_percent pattern
 
--- and what after it
+-- the part of a pattern after its first percent sign
 unfoldable pub pattern_back : Text → Text
 pattern_back pattern = after_first is_percent pattern
 

@@ -2,17 +2,11 @@
 use Rattle.std.specs.Prelude.{◌≡◌, ℕ, zero, suc, ◌+◌, ◌*◌, ◌^◌, ◌≤◌, ◌↔◌, List, [], ◌∷◌, length, take}
 use Rattle.kt_text.specs.Prelude.{Contains, nat_cmp, slice_cmp, Text}
 use Rattle.std.specs.List.Sorted.{IsStrictlySortedBy}
-use Rattle.kt_text.specs.Functions.{word_set}
 
 -- the second list rises by bytes, without a repeat, and has exactly the words of the first
 pub record IsSorting (texts sorted : List Text) : Type 0 where
   pub rises : IsStrictlySortedBy (slice_cmp nat_cmp) sorted
   pub members : (word : Text) → Contains sorted word ↔ Contains texts word
-
--- the list after `sort` is such a one, and there is no other
-pub record SortLaw : Type 0 where
-  pub sorts : (texts : List Text) → IsSorting texts (word_set texts)
-  pub only : (texts sorted : List Text) → IsSorting texts sorted → sorted ≡ word_set texts
 
 -- the first n bytes of a text as a number, the first byte the highest, and 0 for each that isn't there (kati's own)
 unfoldable pub front_number : ℕ → Text → ℕ

@@ -19,7 +19,7 @@ text_functions =
     Subst ∷ Patsubst ∷ Strip ∷ Findstring ∷ Filter ∷ FilterOut ∷ Sort ∷ Word ∷ Wordlist ∷ Words ∷ Firstword
     ∷ Lastword ∷ Dir ∷ Notdir ∷ Suffix ∷ Basename ∷ Addsuffix ∷ Addprefix ∷ Join ∷ []
 
--- the name of each, and the number of its arguments
+-- the name of each text function, and the number of its arguments
 abbrev pub function_row : TextFunction → Text × ℕ
 function_row Subst = (codes "subst", 3)
 function_row Patsubst = (codes "patsubst", 3)
@@ -41,12 +41,15 @@ function_row Addsuffix = (codes "addsuffix", 2)
 function_row Addprefix = (codes "addprefix", 2)
 function_row Join = (codes "join", 2)
 
+-- the name of a text function
 abbrev pub text_function_name : TextFunction → Text
 text_function_name function = (function_row function).0
 
+-- the number of arguments of a text function
 abbrev pub arity : TextFunction → ℕ
 arity function = (function_row function).1
 
+-- whether a text function has this name
 abbrev pub has_name : Text → TextFunction → Bool
 has_name name function = bytes_eq name (text_function_name function)
 
@@ -54,7 +57,7 @@ has_name name function = bytes_eq name (text_function_name function)
 unfoldable pub text_function : Text → Option TextFunction
 text_function name = find (has_name name) text_functions
 
--- the result of each, if it accepts its arguments; of the three, as many count as it has
+-- the result of each text function, if it accepts its arguments; of the three, as many count as it has
 abbrev pub applied : TextFunction → Text → Text → Text → Option Text
 applied Subst from to text = Some (subst_of from to text)
 applied Patsubst pattern replacement text = patsubst_of pattern replacement text

@@ -11,13 +11,15 @@ Text = List ℕ
 unfoldable pub is_separator : ℕ → Bool
 is_separator byte = byte == 32 || byte == 9 || byte == 10
 
+-- whether a byte is a colon
 abbrev pub is_colon : ℕ → Bool
 is_colon byte = byte == 58
 
+-- whether a byte is an equals sign
 abbrev pub is_equals : ℕ → Bool
 is_equals byte = byte == 61
 
--- whether there is a byte
+-- whether a text has a byte
 abbrev pub is_nonempty : Text → Bool
 is_nonempty [] = false
 is_nonempty (byte ∷ text) = true
@@ -26,23 +28,23 @@ is_nonempty (byte ∷ text) = true
 unfoldable pub is_blank : ℕ → Bool
 is_blank byte = byte == 32 || byte == 9
 
--- without the blanks at its begin
+-- a text without the blanks at its start
 abbrev pub trimmed_start : Text → Text
 trimmed_start text = drop (prefix_len is_blank text) text
 
--- without those at its end
+-- a text without the blanks at its end
 abbrev pub trimmed_end : Text → Text
 trimmed_end text = take (length text - suffix_len is_blank text) text
 
--- without the separators at its begin
+-- a text without the separators at its start
 abbrev pub stripped_start : Text → Text
 stripped_start text = drop (prefix_len is_separator text) text
 
--- without those at its end
+-- a text without the separators at its end
 abbrev pub stripped_end : Text → Text
 stripped_end text = take (length text - suffix_len is_separator text) text
 
--- without those at either end
+-- a text without the separators at either end
 abbrev pub stripped : Text → Text
 stripped text = stripped_end (stripped_start text)
 

@@ -7,7 +7,6 @@ mod condense;
 mod cut;
 mod fault;
 pub mod functions;
-pub mod laws;
 mod line;
 mod logical;
 mod mark;

@@ -34,7 +34,7 @@ fn lines_of(alloc: Global, marks: &[LineMark]) -> Result<Vec<Line>, AllocError>
     Ok(lines)
 }
 
-/// The same in less than half the room.
+/// As `logical_lines`, in less than half the room.
 pub fn line_marks(alloc: Global, text: &[u8]) -> Result<Vec<LineMark>, LineFault>
     ensures ok { IfOk result (λ lines. lines.items ≡ logical_lines_of text.now) }
     ensures order { IfOk result (λ lines. AreInOrder (length text.now) lines.items) }

@@ -20,7 +20,7 @@ pub(crate) fn word_end(text: &[u8]) -> usize
     sure + separator_place(&text[sure..])
 }
 
-// The same, by a look at each byte.
+// As `word_end`, by a look at each byte.
 fn separator_place(text: &[u8]) -> usize
     ensures value { result ≡ position_or_len is_separator text.now }
     ensures bound { result ≤ length text.now }

@@ -8,8 +8,8 @@ function __kati_names
     if set -l at (contains -i -- -f $words)
         set file $words[(math $at + 1)]
     end
-    sed -n -e '/^\t/d' -e 's/^ *\([A-Za-z0-9_.-]\{1,\}\) *[:+?]*=.*/\1=/p' -e t \
-        -e 's/^\([^:#=$%]*\):.*/\1/p' $file 2>/dev/null | tr -s ' &' '\n\n' | grep -v '^\.[A-Z]'
+    test -f "$file"; and sed -n -e '/^\t/d' -e 's/^ *\([A-Za-z0-9_.-]\{1,\}\) *[:+?]*=.*/\1=/p' -e t \
+        -e 's/^\([^:#=$%]*\):.*/\1/p' <$file 2>/dev/null | tr -s ' &' '\n\n' | grep -v '^\.[A-Z]'
 end
 
 for command in kati kati-asked kati-build kati-compare
@@ -39,7 +39,8 @@ complete -c kati-build -l deps -d 'header dependencies of -MD and -MMD'
 complete -c kati-build -s j -x -d 'how many commands ninja runs at once'
 complete -c kati-build -l no-ninja -d 'translates, and runs no ninja'
 complete -c kati-build -l remove -d 'takes away all that kati-build has written'
-complete -c kati-build -l as-made -d 'takes what stands here as make has made it'
+complete -c kati-build -l anew -d 'rebuilds everything'
+complete -c kati-build -l as-made -d 'is accepted; takes what exists as make has made it'
 complete -c kati-build -l compile-commands -d 'writes compile_commands.json too'
 complete -c kati-build -l kati-asked -r -F -d 'the program kati-asked'
 complete -c kati-port -a '(__kati_names)'

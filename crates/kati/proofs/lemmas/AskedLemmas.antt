@@ -1,9 +1,9 @@
 -- The names that are asked for up to the end of a step, or until it was stopped.
-use Rattle.std.proofs.Common.{arith, ◌≡◌, ℕ, List, [], Result, Ok, Err, sym, ap, subst, inl, inr}
-use Rattle.kati.proofs.Common.{Text, Stop, Store, IsPrefix, ComesBefore, Makefile, Trace, predefined, read_of, traced, Gives, IfCut, StepEnd, Gave, Stopped, left_of, then_do, front_same, Args, Meaning, MeansAfter, MeansGoals, WantedGoals, prepared, wanted_by}
+use Rattle.std.proofs.Common.{arith, ◌≡◌, List, [], Result, Ok, Err, sym, subst}
+use Rattle.kati.proofs.Common.{Text, Stop, Store, IsPrefix, ComesBefore, Makefile, Trace, predefined, read_of, traced, Gives, IfCut, StepEnd, Gave, left_of, then_do, front_same, Args, wanted_by}
 use Rattle.kt_eval.specs.declared.stop.Stop.TheVariants as stops
 use Rattle.kt_eval.proofs.lemmas.reading.MachineLemmas.{before_reading}
-use Rattle.kati.specs.Meaning.{NamesAreAsked, names_asked}
+use Rattle.kati.specs.Meaning.{names_asked}
 use Rattle.kati.specs.Listing.{listed}
 use Rattle.kati.specs.Makefile.{command_line_table, makefile_names, makefile_read}
 use Rattle.kati.specs.Steps.{telling}
@@ -44,16 +44,3 @@ pub list_read : (args : Args) (store : Store) (asked middle names : List Text) (
     → listed store args.files (traced [] asked) ≡ Gave (traced [] middle) list
     → IsPrefix names (left_of (makefile_read args store (traced [] middle))).asked → IsPrefix names (names_asked args store asked)
 list_read args store asked middle names list is h = grind (arith, makefile_stops)
-
--- ---- the whole
-
-what_goals_ask : (limit : ℕ) (want : WantedGoals) (trace : Trace) (m : Meaning) → MeansGoals limit want trace m → m.asked ≡ trace.asked
-what_goals_ask limit want trace m (inl p) = grind (arith, telling_asks)
-what_goals_ask limit want trace m (inr trouble) = ap (λ (n : Meaning). n.asked) trouble.means
-
-after_asks : (limit : ℕ) (outcome : StepEnd Trace WantedGoals) (m : Meaning) → MeansAfter limit outcome m → m.asked ≡ (left_of outcome).asked
-after_asks limit (Gave trace want) m h = what_goals_ask limit want trace m h
-after_asks limit (Stopped trace fault) m h = ap (λ (n : Meaning). n.asked) h
-
-pub names_are_asked : NamesAreAsked
-names_are_asked args store asked m means = after_asks args.limit (prepared args store (traced [] asked)) m means

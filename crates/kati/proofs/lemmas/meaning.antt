@@ -4,9 +4,3 @@ pub mod LimitLemmas
 pub mod ReadBackLemmas
 pub mod ExactLemmas
 pub mod SoundLemmas
-pub mod OnceLemmas
-pub mod ClosingLemmas
-pub mod FitLemmas
-pub mod BoundLemmas
-pub mod ExistenceLemmas
-pub mod ApartLemmas

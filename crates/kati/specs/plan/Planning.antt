@@ -20,6 +20,7 @@ always_build = always_name
 
 -- ---- the parts of a group's statement
 
+-- the outputs of a group's statement: the names of its members
 abbrev pub outs_of : List Node → List Text
 outs_of group = map (λ node. node.name) group
 
@@ -32,13 +33,15 @@ abbrev pub joined_order_only : List Node → List Text
 joined_order_only group =
     filter (λ name. not (is_among (joined_inputs group) name)) (without_repeats (flat_map order_only_of group))
 
+-- whether a member of a group is a phony target
 abbrev pub has_phony : List Entry → List Node → Bool
 has_phony rules group = list_any (λ node. is_phony rules node.name) group
 
+-- the implicit inputs of a statement: `always_build` if its command is always run, and otherwise none
 abbrev pub implicit_of : Bool → List Text
 implicit_of always = if always then always_build ∷ [] else []
 
--- a phony member with a command is always made [Phony Targets]
+-- the statement of a group with this command, which is always run if a member is phony [Phony Targets]
 unfoldable pub statement_of : List Entry → List Node → Option Text → Statement
 statement_of rules group command = record {
   outs = outs_of group;
@@ -50,7 +53,7 @@ statement_of rules group command = record {
 
 -- ---- statements one after another
 
--- the command is that of the least member, which comes first
+-- the command of a group, if it has one: that of its least member, which comes first
 abbrev pub command_for : Macros → ℕ → List Node → StepOver (List Text) (Option Text)
 command_for table limit [] = done None
 command_for table limit (least ∷ others) = shell_of table limit least
@@ -65,9 +68,11 @@ plan_groups rules table limit (group ∷ groups) before = do
 
 -- ---- the plan
 
+-- whether a statement has an implicit input
 abbrev pub has_implicit : Statement → Bool
 has_implicit statement = not (is_empty statement.implicit)
 
+-- the statement whose output is `always_build`: it has no command and needs nothing
 abbrev pub always_built : Statement
 always_built = record { outs = always_build ∷ []; made = Phony; inputs = []; implicit = []; order_only = [] }
 
@@ -75,20 +80,23 @@ always_built = record { outs = always_build ∷ []; made = Phony; inputs = []; i
 unfoldable pub with_always_built : List Statement → List Statement
 with_always_built statements = if list_any has_implicit statements then always_built ∷ statements else statements
 
--- the defaults are the goals
+-- the plan of these statements, whose default targets are the goals
 abbrev pub plan_of : List Statement → List Text → Plan
 plan_of statements goals = record { statements = with_always_built statements; defaults = goals }
 
 -- ---- what can't be written
 
+-- the first of these outputs, or an empty text if there is none
 abbrev pub first_output : List Text → Text
 first_output [] = []
 first_output (name ∷ names) = name
 
+-- the first output of the statement with this number, from 0; it is the group's least name
 abbrev pub least_output : List Statement → ℕ → Text
 least_output statements number = option_map_or
     (λ statement. first_output statement.outs) (slice_get statements number) []
 
+-- the fault for a name or a command that can't be written; `unwritable_in` meets no other obstacle
 abbrev pub text_fault : List Statement → Obstacle → Option Fault
 text_fault statements (bad_name name) = Some (fault_nowhere NameNotWritable name)
 text_fault statements (bad_command number) = Some (fault_nowhere CommandNotWritable (least_output statements number))
@@ -100,10 +108,12 @@ text_fault statements (not_an_output name) = None
 unfoldable pub unwritable_in : List Statement → Option Fault
 unwritable_in statements = option_and_then (text_fault statements) (obstacle_of_statements 0 statements)
 
+-- the plan, unless there is a fault
 abbrev pub plan_unless : Plan → Option Fault → StepOver (List Text) Plan
 plan_unless plan None = done plan
 plan_unless plan (Some fault) = stop_at fault
 
+-- the plan, or the fault of its first name or command that can't be written
 unfoldable pub written : Plan → StepOver (List Text) Plan
 written plan = plan_unless plan (unwritable_in plan.statements)
 

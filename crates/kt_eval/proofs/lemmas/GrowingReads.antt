@@ -381,18 +381,6 @@ module _ (reads : Bool) (store : Store) where
   pub expanding_grows : (levels : ℕ) (text : Text) → TakesNothingBack (expanded (evaluator reads store levels) text)
   expanding_grows levels text w = (expanded_related (evaluator reads store levels) (evaluator reads store (suc levels)) (one_more_level reads store levels) text w).0
 
-  pub applying_grows : (levels : ℕ) (f : Function) (arguments : List Text) → TakesNothingBack (apply (evaluator reads store levels) f arguments)
-  applying_grows levels f arguments w = (apply_related (evaluator reads store levels) (evaluator reads store (suc levels)) (one_more_level reads store levels) f arguments w).0
-
-  pub reading_grows : (levels : ℕ) (names : List Text) → TakesNothingBack (read_first store (evaluator reads store levels) names)
-  reading_grows levels names w = (read_first_related (evaluator reads store levels) (evaluator reads store (suc levels)) (one_more_level reads store levels) store names w).0
-
-  pub tree_grows : (levels : ℕ) (sheet : Page) (items : Items) → TakesNothingBack (read_items (evaluator reads store levels) sheet items)
-  tree_grows levels sheet items w = (read_items_related (evaluator reads store levels) (evaluator reads store (suc levels)) (one_more_level reads store levels) sheet items w).0
-
-  pub text_grows : (levels : ℕ) (source : Source) (text : Text) → TakesNothingBack (read_text (evaluator reads store levels) source text)
-  text_grows levels source text w = (read_text_related (evaluator reads store levels) (evaluator reads store (suc levels)) (one_more_level reads store levels) source text w).0
-
   pub expanding_stays : (text : Text) → StaysOneDeeper (λ levels. expanded (evaluator reads store levels) text)
   expanding_stays text levels w deep =
       agreed _ _ deep (expanded_related (evaluator reads store levels) (evaluator reads store (suc levels)) (one_more_level reads store levels) text w).1

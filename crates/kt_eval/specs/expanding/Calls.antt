@@ -52,12 +52,13 @@ commas function.And = None
 commas function.Call = None
 commas other = Some 0
 
--- the marks of a reference
+-- the byte that opens a reference with this mark: a brace or a parenthesis
 abbrev pub opener : Mark → ℕ
 opener Braces = 123
 opener Parentheses = 40
 opener Byte = 40
 
+-- the byte that closes a reference with this mark
 abbrev pub closer : Mark → ℕ
 closer Braces = 125
 closer Parentheses = 41
@@ -90,6 +91,7 @@ arguments_from mark left depth argument (byte ∷ text) =
     if cuts_arguments byte depth left then argument ∷ arguments_from mark (one_less left) depth [] text
     else arguments_from mark left (nested mark depth byte) (argument ++ byte ∷ []) text
 
+-- the arguments of a call, from the text after the function's name, given at how many commas it may be cut
 unfoldable pub arguments_of : Mark → Option ℕ → Text → List Text
 arguments_of mark left text = arguments_from mark left 0 [] text
 

@@ -25,9 +25,11 @@ pub record Evaluator : Type 0 where
 abbrev pub too_deep : {A : Type 0} → Step A
 too_deep = stop kinds.NestingTooDeep []
 
+-- the fault for a number of arguments, or for an argument, that this function doesn't accept
 abbrev pub bad_argument : {A : Type 0} → Text → Step A
 bad_argument name = stop kinds.BadArgument name
 
+-- the fault for a function that kati refuses
 abbrev pub refused_function : {A : Type 0} → Text → Step A
 refused_function name = stop kinds.RefusedFunction name
 
@@ -41,7 +43,7 @@ unfoldable pub value_of : Evaluator → Option FoundValue → Step Text
 value_of e None = done []
 value_of e (Some found) = flavoured e found.flavour found.value
 
--- each argument in turn, added to those before
+-- the arguments expanded in turn, each added to those before
 unfoldable pub each_argument : Evaluator → List Text → List Text → Step (List Text)
 each_argument e out [] = done out
 each_argument e out (text ∷ texts) = do
@@ -137,18 +139,21 @@ apply_eval e text =
       done [])
     else stop kinds.EvalInRecipe []
 
--- `error`, `warning` and `info` [GNU make manual, "Functions That Control Make"]
+-- `error`: the expanded text is the message of a fault [GNU make manual, "Functions That Control Make"]
 unfoldable pub apply_error : Evaluator → Text → Step Text
 apply_error e text = do
   x ← e.expand text
   stop kinds.ErrorCalled x
 
+-- `warning`: the expanded text is a message with the current place; the result is empty [GNU make manual, "Functions
+-- That Control Make"]
 unfoldable pub apply_warning : Evaluator → Text → Step Text
 apply_warning e text = do
   x ← e.expand text
   change (warn x)
   done []
 
+-- `info`: the expanded text is a message; the result is empty [GNU make manual, "Functions That Control Make"]
 unfoldable pub apply_info : Evaluator → Text → Step Text
 apply_info e text = do
   x ← e.expand text
@@ -177,6 +182,7 @@ apply_other e function.Info (text ∷ []) = apply_info e text
 apply_other e function.Info arguments = bad_argument (codes "info")
 apply_other e (function.Text text_function) arguments = apply_text e text_function arguments
 
+-- what a call of a function expands to, from the arguments as written
 unfoldable pub apply : Evaluator → Function → List Text → Step Text
 apply e function arguments = apply_other e function arguments
 
@@ -207,7 +213,7 @@ term_of e dollar = done (codes "$")
 term_of e (reference mark body) = referred e (request_by_mark mark body)
 term_of e unclosed = stop kinds.UnterminatedReference []
 
--- each term in turn, appended to the text so far
+-- the terms expanded in turn, each appended to the text so far
 unfoldable pub each_term : Evaluator → Text → List Term → Step Text
 each_term e out [] = done out
 each_term e out (piece ∷ pieces) = do

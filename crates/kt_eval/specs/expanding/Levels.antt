@@ -3,7 +3,7 @@ use Rattle.kt_eval.specs.Prelude.{ℕ, zero, suc, Bool, Store}
 use Rattle.kt_eval.specs.expanding.Expansion.{Evaluator, too_deep, expanded}
 use Rattle.kt_eval.specs.reading.Reading.{read_held, included}
 
--- one level on top of another
+-- what may be done with one more level: expand a text, read the text of an `eval`, read an included file
 unfoldable pub above : Store → Evaluator → Evaluator
 above store e = record {
   reads = e.reads;

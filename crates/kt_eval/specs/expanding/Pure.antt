@@ -5,8 +5,8 @@ use Rattle.kt_eval.specs.Prelude.{IsPrefix, AsksNothing, Gives, IfCut, StepOver,
 use Rattle.kt_eval.specs.expanding.Expansion.{expanded}
 use Rattle.kt_eval.specs.expanding.Levels.{evaluator}
 
--- with these macros and automatic ones, at this place, with a given number of levels; no macro is set, and no file
--- asked for
+-- a text expanded with these macros and automatic ones, at this place, with a given number of levels; no macro is set,
+-- and no file asked for
 abbrev pub expanded_pure : Macros → Store → Option Place → ℕ → Text → StepOver (List Text) Text
 expanded_pure table automatic place limit text said =
     leaving (λ w. w.said) (expanded (evaluator false [] limit) text (frozen_world table automatic place said))

@@ -1,4 +1,4 @@
--- The arguments of text functions.
+-- The arguments of text functions (GNU make manual, "Function Call Syntax").
 use Rattle.kt_eval.specs.Prelude.{ℕ, List, [], Option, unwrap_or, slice_get, Text, applied, TextFunction}
 
 -- the argument at a place, from 0, or an empty text

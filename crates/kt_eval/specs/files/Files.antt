@@ -1,4 +1,4 @@
--- What files hold, and what a read changes.
+-- What files hold, and what a read changes (kati's own).
 use Rattle.std.specs.Prelude.{◌≡◌, ◌+◌, ◌≤◌, Bool, true, false, ℕ, List, [], ◌∷◌, ◌++◌, map, nat_eq, Option, Some, None, Result, Ok, Err, if◌then◌else◌}
 use Rattle.std.specs.Cmp.Lexicographic.{pointwise}
 use Rattle.kt_list.specs.Counters.{Rises}
@@ -9,6 +9,7 @@ use Rattle.kt_eval.specs.declared.files.FileFault.TheVariants.{Device, Memory}
 abbrev pub Store : Type 0
 Store = List (List ℕ × List ℕ)
 
+-- the bytes that a store has for a name, if it has the name
 abbrev pub look : Store → List ℕ → Option (List ℕ)
 look [] name = None
 look (e ∷ es) name = if pointwise nat_eq e.0 name then Some e.1 else look es name
@@ -34,7 +35,7 @@ differing store [] = 0
 differing store (answer ∷ answers) = (if same_found (look store answer.0) answer.1 then 0 else 1) + differing store
     answers
 
--- each answer is the store's
+-- a store agrees with answers: each of them is what the store has
 abbrev pub AgreeWith : Store → List Answer → Type 0
 AgreeWith store answers = differing store answers ≡ 0
 

@@ -12,12 +12,13 @@ is_shell_pattern [] = false
 is_shell_pattern (first ∷ name) =
     first == 126 || list_any (λ byte. byte == 42 || (byte == 63 || byte == 91)) (first ∷ name)
 
+-- one file of an include: a name that isn't UTF-8 or is a shell pattern is refused, each other is included
 unfoldable pub include_named : Evaluator → Bool → Text → Step (Unit {0})
 include_named e optional name =
     if is_utf8 name then (if is_shell_pattern name then stop kinds.RefusedName name else e.include optional name)
     else stop kinds.IncludeNameNotUtf8 []
 
--- each name in turn
+-- the files of an include, one after another
 unfoldable pub each_include : Evaluator → Bool → List Text → Step (Unit {0})
 each_include e optional [] = done tt
 each_include e optional (name ∷ names) = do

@@ -24,7 +24,7 @@ pub record DoesIn {A B : Type 0} (see : A → B) (writable : Bool) (levels : ℕ
   -- a device's failure is reported as one, and nothing else is
   pub blames : Blames result (files_of old) (files_of new)
 
--- the same for a step that asks the store only through its evaluator
+-- what `DoesIn` says, for a step that asks the store only through its evaluator
 abbrev pub Does : {A B : Type 0} → (A → B) → Bool → ℕ → (Evaluator → Step B) → Result A Stop → Evaluation → Evaluation
     → Type 0
 Does see writable levels step result old new = DoesIn see writable levels (λ _. step) result old new

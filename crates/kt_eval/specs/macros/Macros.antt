@@ -20,7 +20,7 @@ unfoldable pub find : Text → Macros → Option Macro
 find name [] = None
 find name (entry ∷ table) = if bytes_eq name entry.0 then Some entry.1 else find name table
 
--- a name that is there keeps its place, and a new one is added at the end
+-- the macros with this one set: a name that is there keeps its place, and a new one is added at the end
 unfoldable pub put : Text → Macro → Macros → Macros
 put name value [] = (name, value) ∷ []
 put name value (entry ∷ table) = if bytes_eq name entry.0 then (entry.0, value) ∷ table
@@ -55,7 +55,7 @@ assigning_new operator.Conditional = defers []
 assigning_new operator.Append = defers []
 assigning_new operator.Shell = keeps
 
--- and for one that a makefile defined
+-- one case for each operator, for a macro that a makefile defined
 abbrev pub reassigning : Operator → Macro → Assigning
 reassigning operator.Deferred old = defers []
 reassigning operator.Immediate old = expands []

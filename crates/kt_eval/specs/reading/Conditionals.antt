@@ -9,6 +9,7 @@ use Rattle.kt_eval.specs.Outcome.{Gave, ◌>>=◌, done}
 use Rattle.kt_eval.specs.reading.Conditions.{ComparedTexts, compared_of}
 use Rattle.kt_eval.specs.expanding.Expansion.{Evaluator, expanded}
 
+-- the fault for a condition that has none of the forms
 abbrev pub bad_conditional : {A : Type 0} → Step A
 bad_conditional = stop kinds.BadConditional []
 
@@ -17,6 +18,7 @@ unfoldable pub is_set : List Text → Step Bool
 is_set (name ∷ []) w = Gave w (is_nonempty (raw_value (lookup name w)))
 is_set names w = bad_conditional w
 
+-- whether the macro that an expanded text names has a value that isn't empty, as `ifdef` asks
 unfoldable pub is_defined : Evaluator → Text → Step Bool
 is_defined e text = do
   x ← expanded e text
@@ -42,10 +44,11 @@ holds e word.Ifneq text = do
   done (not same)
 holds e other text = bad_conditional
 
--- a text's first word, and the text after the blanks after it
+-- the first word of a text: all bytes before the first blank
 abbrev pub word_before_blank : Text → Text
 word_before_blank text = take (prefix_len (λ byte. not (is_blank byte)) text) text
 
+-- the text after its first word and the blanks behind that
 abbrev pub text_after_word : Text → Text
 text_after_word text = trimmed_start (drop (prefix_len (λ byte. not (is_blank byte)) text) text)
 
@@ -54,6 +57,7 @@ abbrev pub worded_holds : Evaluator → Form → Text → Step Bool
 worded_holds e (directive word rest) text = holds e word text
 worded_holds e other text = bad_conditional
 
+-- whether the condition holds that a text is, as the text after an `else` may be
 unfoldable pub text_holds : Evaluator → Text → Step Bool
 text_holds e text = worded_holds e (form_of (word_before_blank text) false) (text_after_word text)
 

@@ -22,6 +22,7 @@ abbrev pub default_by : Text → Text → Macros → Option Macro → Macros
 default_by name value table None = put name (set_by_makefile Deferred value) table
 default_by name value table (Some entry) = table
 
+-- the macros, with this deferred macro unless the name is set already
 unfoldable pub with_default : Text → Text → Macros → Macros
 with_default name value table = default_by name value table (find name table)
 
@@ -40,9 +41,11 @@ pub record Trace : Type 0 where
   pub said : List Text
   pub asked : List Text
 
+-- what a run shows, from its messages and the names asked for
 abbrev pub traced : List Text → List Text → Trace
 traced said asked = record { said = said; asked = asked }
 
+-- what a run shows, from its world
 abbrev pub trace_of : World → Trace
 trace_of w = traced w.said w.asked
 
@@ -55,10 +58,11 @@ pub record Makefile : Type 0 where
   pub table : Macros
   pub book : List Entry
 
+-- a makefile, from its macros and its rules
 abbrev pub read_of : Macros → List Entry → Makefile
 read_of table book = record { table = table; book = book }
 
--- before the first line of a reading
+-- the world before the first line of a reading: it has what was read before, and no line
 abbrev pub first_world : Makefile → Trace → World
 first_world before trace = record {
   table = before.table;
@@ -82,13 +86,15 @@ abbrev pub reading : Store → List Text → ℕ → Makefile → StepOver Trace
 reading store names limit before trace =
     leaving trace_of (first_read store (evaluator true store limit) names (first_world before trace))
 
--- the same, from what a machine holds
+-- the macros and rules that a machine holds
 abbrev pub read_by : Machine → Makefile
 read_by held = read_of held.table held.book
 
+-- what a run has shown, from what a machine holds and the names asked for
 abbrev pub traced_by : Machine → List Text → Trace
 traced_by held asked = traced held.said asked
 
+-- the reading of the first of these files that exists, from what a machine holds
 abbrev pub reading_by : Store → List Text → Machine → List Text → StepEnd Trace Makefile
 reading_by store names held asked = reading store names held.limit (read_by held) (traced_by held asked)
 

@@ -30,6 +30,7 @@ pub record RawLine : Type 0 where
   pub tab : Bool
   pub text : Text
 
+-- a logical line of a text as written, from the places where it begins and ends
 abbrev pub raw_line : Text → Line → RawLine
 raw_line text l = record { number = l.number; tab = l.tab; text = line_text text l }
 
@@ -43,6 +44,7 @@ pub record Page : Type 0 where
   pub lines : List RawLine
   pub blocks : Blocks
 
+-- a text that is read: it is cut into logical lines, and these into blocks
 abbrev pub sheet_of : Source → Text → Page
 sheet_of source text = record {
   source = source;
@@ -55,9 +57,11 @@ unfoldable pub at_number : Source → ℕ → World → World
 at_number Held number w = w
 at_number (File name) number w = move_to (Some (record { file = name; line = number })) w
 
+-- the world at the line with this place in a text
 abbrev pub at_line : Page → ℕ → World → World
 at_line sheet place w = at_number sheet.source (line_at sheet.lines place).number w
 
+-- an include: it closes the open rule, then reads its files
 unfoldable pub read_include : Evaluator → Bool → Text → Step (Unit {0})
 read_include e optional rest = do
   close_rule
@@ -88,9 +92,11 @@ abbrev pub read_tab_in : Evaluator → Text → Option Entry → Step (Unit {0})
 read_tab_in e text None = read_bare_tab e (line_form text true)
 read_tab_in e text (Some started) = recipe_line started text
 
+-- a line that begins with a tab, by whether the world has an open rule
 unfoldable pub read_tab : Evaluator → Text → Step (Unit {0})
 read_tab e text w = read_tab_in e text w.rule (set_rule None w)
 
+-- one line outside blocks: by its tab if it begins with one, otherwise by its kind
 unfoldable pub read_line : Evaluator → RawLine → Step (Unit {0})
 read_line e raw w = if raw.tab then read_tab e raw.text w else read_kind e raw.text (line_form raw.text false) w
 
@@ -148,6 +154,7 @@ unfoldable mutual
     late_else sheet others
     read_items e sheet next
 
+  -- the first of a conditional's further branches that is taken; if none is, nothing is read
   pub read_branches : Evaluator → Page → Branches → Step (Unit {0})
   read_branches e sheet no_branch = done tt
   read_branches e sheet (branch place condition items others) = do
@@ -179,6 +186,7 @@ read_without_nul e source text (Some number) = do
   change (at_number source number)
   stop kinds.NulByte []
 
+-- the text of a file or of an `eval`, unless it has a NUL
 unfoldable pub read_text : Evaluator → Source → Text → Step (Unit {0})
 read_text e source text = read_without_nul e source text (nul_line text)
 
@@ -212,6 +220,7 @@ read_included e optional name (Some text) w =
 unfoldable pub read_bytes : Store → Text → Step (Option Text)
 read_bytes store name w = Gave (ask name w) (look store name)
 
+-- an included file: the name is asked for, and the bytes are read if there are any
 unfoldable pub included : Store → Evaluator → Bool → Text → Step (Unit {0})
 included store e optional name = do
   found ← read_bytes store name
@@ -222,7 +231,7 @@ abbrev pub read_or : Evaluator → Text → Option Text → Step (Unit {0}) → 
 read_or e name None others = others
 read_or e name (Some text) others = read_file e name text
 
--- the first of these files that exists
+-- the first of these files that exists is read; if none does, that is a fault
 unfoldable pub read_first : Store → Evaluator → List Text → Step (Unit {0})
 read_first store e [] = stop kinds.NoMakefile []
 read_first store e (name ∷ names) = do

@@ -25,6 +25,7 @@ abbrev pub entered : Entry → Result (List Text) RuleLineFault → Step (Unit {
 entered rule (Ok messages) w = Gave (record w { book = w.book ++ rule ∷ []; said = w.said ++ messages }) tt
 entered rule (Err fault) w = stop_rule fault w
 
+-- a rule is tested against the rules before it, and then added to the book or refused
 unfoldable pub enter_rule : Entry → Step (Unit {0})
 enter_rule rule w = entered rule (added w.book rule (refusal_of w.book rule)) w
 
@@ -35,6 +36,7 @@ close (Some rule) = do
   change (set_rule None)
   enter_rule rule
 
+-- the open rule of the world, if there is one, is closed
 unfoldable pub close_rule : Step (Unit {0})
 close_rule w = close w.rule w
 
@@ -54,6 +56,7 @@ rule_of_parts e (Some parts) = do
   head ← expanded e (plain_of parts.head)
   open_rule (option_map recipe_of parts.recipe) head
 
+-- a rule line as written: its expanded head opens a rule
 unfoldable pub rule_line : Evaluator → Text → Step (Unit {0})
 rule_line e line = rule_of_parts e (line_parts line)
 

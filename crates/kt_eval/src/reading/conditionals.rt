@@ -76,7 +76,7 @@ impl<'a, M: MacroScope, F: Files> Evaluation<'a, M, F> {
         }
     }
 
-    // The same for any texts, by a text of its own for each that has a dollar.
+    // As `are_equal`, for any texts, by a text of its own for each that has a dollar.
     #[cycle(evaluate)]
     #[tactic(auto, using(crate::proofs::Steps::expanded_goes), unfolding(crate::proofs::Common::are_equal))]
     pub(crate) fn expanded_equal(

@@ -22,7 +22,7 @@ use std::marker::Model;
 
 /// Where a text comes from.
 #[derive(Debug, Drop)]
-pub(crate) enum Source {
+pub enum Source {
     /// A file, by its name as it was asked for.
     File(Shared<u8>),
     /// The text of an `eval`.

@@ -1,6 +1,6 @@
 -- Marks for the ends of names.
 use Rattle.std.proofs.Common.{◌≡◌, ℕ, zero, suc, ◌+◌, ◌<◌, ◌≤◌, Bool, true, false, not, ◌&&◌, if◌then◌else◌, List, [], ◌∷◌, ◌++◌, length, get_or, fold, slice_get, slice_set, Option, Some, None, option_map, unwrap_or, refl, sym, ap, ◌∙◌, arith, ⊎_elim, true≢false, length-append, ◌==◌}
-use Rattle.kt_graph.proofs.Common.{cases_eq, cases_lt, eqb-true, ltb-false, append_assoc, drop_all, get_or-append-add, get_or_past, bytes_eq-Decides, and_nothing, or_first, or_second, place_of, number_found, Text, has_percent, pattern_back, pattern_front, list_any-place, after_dots, is_among, with_name, without_dots, IsFixedEnd, needed_name}
+use Rattle.kt_graph.proofs.Common.{cases_eq, cases_lt, eqb-true, ltb-false, append_assoc, drop_all, get_or_past, bytes_eq-Decides, and_nothing, or_first, or_second, place_of, number_found, Text, has_percent, pattern_back, pattern_front, list_any-place, after_dots, is_among, with_name, without_dots, IsFixedEnd, needed_name}
 use Rattle.kt_rules.proofs.BookLemmas.{among_fold}
 use Rattle.kt_graph.specs.inner.EndMarks.{AreMarked, AreMarkedTo, KeepsEnds, end_mark_place, has_marked_end, with_end, with_end_of}
 
@@ -73,13 +73,6 @@ pub both_marked : (ends now new : List Bool) (listed list book : List Text) → 
 both_marked ends now new listed list book are is kept marked name h = grind (arith, among_fold, ends_marked)
 
 -- ---- what ends alike
-
-same_place : (front end : Text) → 2 ≤ length end → end_mark_place (front ++ end) ≡ end_mark_place end
-same_place front end long = grind (arith, length, length-append, get_or-append-add)
-
--- a name is unknown where its end isn't marked
-pub unmarked : (ends : List Bool) (known : List Text) (name : Text) → AreMarked ends known → has_marked_end ends name ≡ false → is_among known name ≡ false
-unmarked ends known name marked none = grind (arith, true≢false)
 
 -- ---- ends without a slash
 

@@ -9,4 +9,3 @@ pub mod ArrivalLemmas
 pub mod FileLemmas
 pub mod TroubleLemmas
 pub mod CyclicLemmas
-pub mod ResolutionLemmas

@@ -18,10 +18,11 @@ trouble_kind_and_name (circular name) = (kind.Circular, name)
 trouble_kind_and_name reserved_name = (kind.ReservedName, [])
 trouble_kind_and_name (one_file name) = (kind.TwoTargetsOfOneFile, name)
 
--- the number and message of the fault
+-- the number of the fault for a trouble
 abbrev pub trouble_number : Trouble → ℕ
 trouble_number trouble = fault_kind_number (trouble_kind_and_name trouble).0
 
+-- the message of the fault for a trouble
 abbrev pub trouble_words : Trouble → Text
 trouble_words trouble = let told = trouble_kind_and_name trouble in words_with told.0 told.1
 

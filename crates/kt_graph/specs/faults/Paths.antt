@@ -1,15 +1,18 @@
--- Which names are names of one file, and which name is reserved for kati.
+-- Which names are names of one file (POSIX.1-2024, "Pathname Resolution", without looking at any file), and which name
+-- is reserved for kati (kati's own).
 use Rattle.std.specs.Prelude.{Bool, true, false, not, ◌||◌, ◌==◌, List, [], ◌∷◌, ◌++◌, fold, reverse, codes, bytes_eq}
 use Rattle.std.specs.Prelude.{if◌then◌else◌}
 use Rattle.kt_graph.specs.Prelude.{slice_split, join_with_byte, Text}
 
--- `.`, `..`
+-- the component `.`, the folder itself
 abbrev pub here_name : Text
 here_name = 46 ∷ []
 
+-- the component `..`, the folder above
 abbrev pub above_name : Text
 above_name = 46 ∷ 46 ∷ []
 
+-- whether a name begins with a slash
 abbrev pub is_rooted : Text → Bool
 is_rooted [] = false
 is_rooted (byte ∷ name) = byte == 47
@@ -48,6 +51,6 @@ canon_of name = (if is_rooted name then 47 ∷ [] else []) ++ join_with_byte 47 
 abbrev pub always_name : Text
 always_name = codes "_kati_always_build_"
 
--- Reserved: a spelling of that name's file
+-- Reserved: a name whose canonical spelling is `always_name`
 abbrev pub is_reserved : Text → Bool
 is_reserved name = bytes_eq (canon_of name) always_name

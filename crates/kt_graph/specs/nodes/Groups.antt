@@ -5,6 +5,8 @@ use Rattle.kt_graph.specs.Prelude.{Contains, IsStrictlySortedBy, option_map_or, 
 use Rattle.kt_graph.specs.nodes.Node.{Instance, Node, of_group, of_pattern, inputs_of, is_leaf, order_only_of}
 use Rattle.kt_graph.specs.Reach.{IsInGroup}
 
+-- whether two makings are one: of groups with the same first target, or of the same pattern rule for the same directory
+-- and stem
 abbrev pub instance_eq : Instance → Instance → Bool
 instance_eq (of_group first) (of_group other) = bytes_eq first other
 instance_eq (of_pattern rule directory stem) (of_pattern other_rule other_directory other_stem) =
@@ -20,6 +22,7 @@ is_one_making one other = false
 abbrev pub are_together : Node → Node → Bool
 are_together node other = bytes_eq node.name other.name || is_one_making node.made_with other.made_with
 
+-- the nodes that aren't leaves: a statement makes each of their names
 abbrev pub made_nodes : List Node → List Node
 made_nodes nodes = filter (λ node. not (is_leaf node.kind)) nodes
 
@@ -41,7 +44,7 @@ pub record ShareInputs (group : List Node) : Type 0 where
   pub order_only : (one other : Node) → Contains group one → Contains group other → order_only_of one
       ≡ order_only_of other
 
--- the nodes of the first group do
+-- the nodes of the first group share their inputs
 abbrev pub FirstSharesInputs : List (List Node) → Type 0
 FirstSharesInputs groups = (group : List Node) (others : List (List Node)) → groups ≡ group ∷ others → ShareInputs group
 

@@ -47,6 +47,7 @@ joined_needs rules = record {
   order_only = flat_map (λ made. (needs_for made.0 made.1).order_only) rules;
 }
 
+-- prerequisites with later ones behind them, the order-only ones apart
 abbrev pub needs_after : Needs → Needs → Needs
 needs_after first later = record {
   prerequisites = first.prerequisites ++ later.prerequisites;
@@ -57,7 +58,7 @@ needs_after first later = record {
 abbrev pub used_rule : List (Entry × Target) → Option (Entry × Target)
 used_rule rules = last_or None (filter has_recipe rules)
 
--- the other rules
+-- all rules of a name but the one whose recipe is used
 abbrev pub other_rules : List (Entry × Target) → List (Entry × Target)
 other_rules rules = before_last has_recipe rules ++ after_last has_recipe rules
 
@@ -72,6 +73,7 @@ suffix_stem suffixes name =
 abbrev pub stem_for : List Text → Entry × Target → Text
 stem_for suffixes made = option_map_or (λ stemmed. stemmed.stem) made.1.stemmed (suffix_stem suffixes made.1.name)
 
+-- the part of a rule for one of its targets, with these prerequisites
 abbrev pub part_of : List Text → Entry × Target → Needs → Part
 part_of suffixes made needs = record { recipe = made.0.recipe; stem = stem_for suffixes made; needs = needs }
 
@@ -83,10 +85,12 @@ own_part suffixes made = part_of suffixes made (needs_for made.0 made.1)
 abbrev pub bare_part : List Text → Text → Needs → Part
 bare_part suffixes name needs = record { recipe = None; stem = suffix_stem suffixes name; needs = needs }
 
+-- the name of the first target, or an empty text without one
 abbrev pub first_name : List Target → Text
 first_name [] = []
 first_name (target ∷ targets) = target.name
 
+-- the making of a rule's targets if the rule is a group, which makes all of them at once
 abbrev pub group_of : Entry → Option Instance
 group_of rule = if is_group rule.kind then Some (of_group (first_name rule.targets)) else None
 
@@ -106,12 +110,13 @@ explicit_node suffixes name rules used = record {
   made_with = group_of used.0;
 }
 
--- the prerequisites of the chosen rule come first (kati's own); one with several targets makes them all at once (GNU
--- make manual, "Introduction to Pattern Rules")
+-- the making of a pattern rule with several targets, which makes all of them at once (GNU make manual, "Introduction to
+-- Pattern Rules")
 abbrev pub pattern_instance : Entry → Candidate → Option Instance
 pattern_instance rule chosen =
     if nat_lt 1 (length rule.targets) then Some (of_pattern chosen.rule chosen.directory chosen.stem) else None
 
+-- the node of a name that a pattern rule makes: the prerequisites of that rule come first (kati's own)
 abbrev pub implicit_node : Text → List (Entry × Target) → Candidate → Entry → Node
 implicit_node name rules chosen rule = record {
   name = name;
@@ -130,6 +135,7 @@ kind_without (made ∷ rules) phony = Explicit
 kind_without [] true = Phony
 kind_without [] false = Leaf
 
+-- the node of a name that no recipe makes, with the prerequisites of all its rules
 abbrev pub plain_node : List Text → Text → List (Entry × Target) → Bool → Node
 plain_node suffixes name rules phony = record {
   name = name;
@@ -138,15 +144,18 @@ plain_node suffixes name rules phony = record {
   made_with = None;
 }
 
--- the candidate that the search chooses, with its pattern rule; for a phony name there is no search [Phony Targets]
+-- a candidate with its pattern rule
 abbrev pub chosen_rule : List Entry → Candidate → Option (Candidate × Entry)
 chosen_rule patterns chosen = option_map (λ rule. (chosen, rule)) (slice_get patterns chosen.rule)
 
+-- the candidate that the search chooses, with its pattern rule; for a phony name there is no search [Phony Targets]
 abbrev pub searched : List Entry → List Text → Text → Option (Candidate × Entry)
 searched rules known name =
     if is_phony rules name then None
     else option_and_then (chosen_rule (patterns_of rules)) (choice_of (patterns_of rules) known name)
 
+-- the node of a name without double-colon rules: by its rule with a recipe, or else by the pattern rule that was found,
+-- or else without a recipe
 abbrev pub node_by : List Entry → Text → List (Entry × Target) → Option (Entry × Target) → Option (Candidate × Entry)
     → Node
 node_by rules name made (Some used) found = explicit_node (suffixes_of rules) name made used
@@ -165,19 +174,21 @@ node_of rules known name = node_with rules known name (explicit_rules rules name
 
 -- ---- what a node needs
 
+-- whether a node is a leaf: a name that has no rule and isn't phony
 abbrev pub is_leaf : NodeKind → Bool
 is_leaf Leaf = true
 is_leaf other = false
 
--- the prerequisites without repeats
+-- the prerequisites of a node, each once
 unfoldable pub inputs_of : Node → List Text
 inputs_of node = without_repeats (flat_map (λ part. part.needs.prerequisites) node.parts)
 
--- the order-only prerequisites without repeats and without these
+-- the order-only prerequisites of a node, each once, without its other prerequisites
 unfoldable pub order_only_of : Node → List Text
 order_only_of node =
     filter (λ name. not (is_among (inputs_of node) name)) (without_repeats (flat_map
     (λ part. part.needs.order_only) node.parts))
 
+-- all prerequisites of a node, the order-only ones last
 abbrev pub all_inputs : Node → List Text
 all_inputs node = inputs_of node ++ order_only_of node

@@ -31,16 +31,19 @@ part_view names name part = record {
   };
 }
 
--- the recipe, stem and prerequisites of a part; nothing if there is no part
+-- the recipe of a part; none if there is no part
 abbrev pub part_lines : Option Part → Option (List RecipeLine)
 part_lines part = option_and_then (λ some. some.recipe) part
 
+-- the stem of a part; empty if there is no part
 abbrev pub part_stem : Option Part → Text
 part_stem part = unwrap_or (option_map (λ some. some.stem) part) []
 
+-- the prerequisites of a part; none if there is no part
 abbrev pub part_needed : Option Part → List Text
 part_needed part = unwrap_or (option_map (λ some. some.needs.prerequisites) part) []
 
+-- the order-only prerequisites of a part; none if there is no part
 abbrev pub part_order_only : Option Part → List Text
 part_order_only part = unwrap_or (option_map (λ some. some.needs.order_only) part) []
 
@@ -56,7 +59,7 @@ node_view names instances number node = record {
 abbrev pub node_at : NodeTable → ℕ → Option Node
 node_at table number = option_map (node_view table.names table.instances number) (slice_get table.nodes number)
 
--- the same where there is one
+-- the node with a number, where there is one
 abbrev pub node_numbered : NodeTable → ℕ → Node
 node_numbered table number = node_view table.names table.instances number (stored_at table.nodes number)
 

@@ -21,6 +21,7 @@ use Rattle.kt_rules.specs.Patterns.{is_terminal}
 abbrev pub directory_with_slash : Text → Text
 directory_with_slash name = take (name_place name) name
 
+-- whether a text has a slash
 abbrev pub has_slash : Text → Bool
 has_slash text = list_any (λ byte. byte == 47) text
 
@@ -32,15 +33,16 @@ nonempty text = if is_nonempty text then Some text else None
 unfoldable pub stem_of : Text → Text → Option Text
 stem_of pattern text = option_and_then (λ place. nonempty (slice_range text place.0 place.1)) (stem_span pattern text)
 
--- the part of a name that a pattern is matched with: a pattern without a slash leaves the directory out [How Patterns
--- Match]
+-- the directory of a name that is left out as it is matched: none if the pattern has a slash [How Patterns Match]
 abbrev pub left_out : Text → Text → Text
 left_out pattern name = if has_slash pattern then [] else directory_with_slash name
 
+-- the part of a name that a pattern is matched with: without the directory if the pattern has no slash [How Patterns
+-- Match]
 abbrev pub matched_part : Text → Text → Text
 matched_part pattern name = if has_slash pattern then name else name_part name
 
--- the directory that is left out, and the stem
+-- how a name fits a pattern, if it does: the directory that is left out, and the stem
 unfoldable pub fit_of : Text → Text → Option (Text × Text)
 fit_of pattern name = option_map (λ stem. (left_out pattern name, stem)) (stem_of pattern (matched_part pattern name))
 
@@ -51,12 +53,15 @@ fit_of pattern name = option_map (λ stem. (left_out pattern name, stem)) (stem_
 abbrev pub spelled_out : Text → Text → Text → Text
 spelled_out directory stem name = if has_percent name then directory ++ with_stem name stem else name
 
+-- a prerequisite with directory and stem put in, then without leading `./`; one without a percent sign is unchanged
 abbrev pub needed_name : Text → Text → Text → Text
 needed_name directory stem name = if has_percent name then without_dots (spelled_out directory stem name) else name
 
+-- each of these prerequisites with directory and stem put in
 unfoldable pub needed_names : Text → Text → List Text → List Text
 needed_names directory stem names = map (needed_name directory stem) names
 
+-- the prerequisites of a pattern rule with directory and stem put in, the order-only ones apart
 abbrev pub needs_with : Text → Text → Needs → Needs
 needs_with directory stem needs = record {
   prerequisites = needed_names directory stem needs.prerequisites;
@@ -67,6 +72,7 @@ needs_with directory stem needs = record {
 abbrev pub name_limit : ℕ
 name_limit = 4096
 
+-- whether no prerequisite gets too long once directory and stem are put in
 abbrev pub are_short : Text → Text → Needs → Bool
 are_short directory stem needs =
     list_all (λ name. nat_le (length (spelled_out directory stem name)) name_limit) (all_needs needs)
@@ -88,6 +94,7 @@ pub record Candidate : Type 0 where
 abbrev pub size_of : Candidate → ℕ
 size_of candidate = length candidate.directory + length candidate.stem
 
+-- a rule as a candidate, from the pattern that the name matches, and its directory and stem
 abbrev pub candidate_with : ℕ → Entry → Text → Text × Text → Candidate
 candidate_with number rule pattern fit = record {
   rule = number;
@@ -102,6 +109,7 @@ candidate_with number rule pattern fit = record {
 abbrev pub candidate_by : ℕ → Entry → Text → Target → Option Candidate
 candidate_by number rule name target = option_map (candidate_with number rule target.name) (fit_of target.name name)
 
+-- of two candidates the one with the shorter stem, or the first if both stems have one length
 abbrev pub shorter : Candidate → Candidate → Candidate
 shorter best other = if nat_le (size_of best) (size_of other) then best else other
 
@@ -110,6 +118,7 @@ abbrev pub shortest : List Candidate → Option Candidate
 shortest [] = None
 shortest (candidate ∷ candidates) = Some (fold shorter candidate candidates)
 
+-- the candidate, unless one of its prerequisites gets too long
 abbrev pub unless_long : Entry → Candidate → Option Candidate
 unless_long rule candidate = if are_short candidate.directory candidate.stem rule.needs then Some candidate else None
 
@@ -130,6 +139,7 @@ matching_from number (rule ∷ rules) name = option_to_list (candidate_of number
 abbrev pub drops_any : Bool → List Candidate → Bool
 drops_any in_chain candidates = in_chain || list_any (λ candidate. not candidate.is_any) candidates
 
+-- the candidates without nonterminal match-anything rules, if these are dropped
 abbrev pub without_any : Bool → List Candidate → List Candidate
 without_any in_chain candidates =
     if drops_any in_chain candidates then filter (λ candidate. not candidate.is_any || candidate.is_last) candidates

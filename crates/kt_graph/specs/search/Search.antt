@@ -18,6 +18,7 @@ chain_limit = 8
 
 -- ---- the rules of a chain, by their numbers, in rising order
 
+-- whether a rule is in a chain
 abbrev pub is_used : List ℕ → ℕ → Bool
 is_used used rule = list_any (nat_eq rule) used
 
@@ -26,6 +27,7 @@ unfoldable pub with_rule : ℕ → List ℕ → List ℕ
 with_rule rule [] = rule ∷ []
 with_rule rule (first ∷ used) = if nat_lt rule first then rule ∷ first ∷ used else first ∷ with_rule rule used
 
+-- whether a chain has a rule
 abbrev pub is_begun : List ℕ → Bool
 is_begun [] = false
 is_begun (rule ∷ used) = true
@@ -49,11 +51,12 @@ is_met known candidate = list_all (is_among known) (all_needs candidate.needs)
 abbrev pub unknown_needs : List Text → Candidate → List Text
 unknown_needs known candidate = without_repeats (unknown_of known (all_needs candidate.needs))
 
--- whether the search finds a rule for each of these
+-- whether the search finds a rule for each unknown prerequisite of a candidate
 abbrev pub are_inferred : List Text → Choosing → List ℕ → Candidate → Bool
 are_inferred known deeper used candidate =
     list_all (λ name. is_some (deeper (with_rule candidate.rule used) name)) (unknown_needs known candidate)
 
+-- whether a candidate isn't terminal, and the search finds a rule for each of its unknown prerequisites
 abbrev pub is_inferred : List Text → Choosing → List ℕ → Candidate → Bool
 is_inferred known deeper used candidate = not candidate.is_last && are_inferred known deeper used candidate
 

@@ -67,8 +67,8 @@ impl<'n> Edges<'n> {
         (row_at(self.rows.as_slice(), vertex - self.nodes.len()), &[])
     }
 
-    /// The same edges reversed: a row for each vertex, and no nodes. A vertex beyond 4,294,967,295 is refused as if
-    /// memory were.
+    /// These edges reversed: a row for each vertex, and no nodes. A vertex beyond 4,294,967,295 is refused as if memory
+    /// were.
     pub(crate) fn reversed<'e>(&self, none: &'e StoredNodes<'e>) -> Result<Edges<'e>, AllocError>
         requires within { LeadToVertices self.now }
         requires none { none.now ≡ [] }

@@ -22,7 +22,7 @@ pub(crate) fn canon(alloc: Global, name: &[u8]) -> Result<Vec<u8>, AllocError>
     resolved(alloc, name)
 }
 
-// The same, component by component.
+// As `canon`, component by component.
 #[tactic(auto, unfolding(crate::specs::faults::Paths::canon_of, crate::specs::faults::Paths::components_of))]
 fn resolved(alloc: Global, name: &[u8]) -> Result<Vec<u8>, AllocError>
     ensures { IfOk result (λ canon. canon.items ≡ canon_of name.now) }

@@ -59,7 +59,7 @@ fn first_slash(text: &[u8]) -> Option<usize>
     }
 }
 
-// The same, by a look at each byte.
+// As `first_slash`, by a look at each byte.
 fn slash_by_byte(text: &[u8]) -> Option<usize>
     ensures { IsFirstByte (is_byte 47) text.now result }
 {

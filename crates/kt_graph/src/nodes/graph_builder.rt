@@ -132,7 +132,7 @@ impl<'a> GraphBuilder<'a> {
         self.build_from(name, rules.as_slice())
     }
 
-    // The same for a name that has these explicit rules. What the targets of one rule need is numbered once.
+    // As `build`, for a name that has these explicit rules. What the targets of one rule need is numbered once.
     #[tactic(auto, using(crate::proofs::lemmas::nodes::OfLemmas::explicit_of))]
     fn build_from(
         &mut self,
@@ -203,7 +203,7 @@ impl<'a> GraphBuilder<'a> {
         self.nodes.push_like(last, maker, part)
     }
 
-    // The same, rule by rule.
+    // As `build_from`, rule by rule.
     fn build_by(
         &mut self,
         name: &ReachedName<'a>,

@@ -146,7 +146,7 @@ impl<'a> NameNumbers<'a> {
         self.reached.reach(number)
     }
 
-    // The same for a name that is needed. One that stands in the book is neither hashed nor copied.
+    // As `number`, for a name that is needed. One that stands in the book is neither hashed nor copied.
     fn needed_number(&mut self, name: NeededName<'_>) -> Result<usize, AllocError>
         ensures numbered { IfOk result (λ number. slice_get self.new number ≡ Some (needed_view name.entry)) }
         ensures reached { OnOk result (self.new ≡ with_name self.old (needed_view name.entry)) }

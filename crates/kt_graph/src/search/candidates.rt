@@ -183,7 +183,7 @@ pub(crate) fn is_last(patterns: &Patterns, candidate: &Candidate) -> bool
     is_last_at(patterns, candidate.rule)
 }
 
-// The same, given the rule's number.
+// As `is_last`, given the rule's number.
 fn is_last_at(patterns: &Patterns, rule: usize) -> bool
     ensures { result ≡ is_last_at patterns.now rule }
 {

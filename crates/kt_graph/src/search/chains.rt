@@ -76,7 +76,7 @@ impl<'a> Chains<'a> {
         }
     }
 
-    /// The same, but the question itself isn't stored.
+    /// As `choice`, but the question itself isn't stored.
     pub(crate) fn choice_alone(
         &self,
         tried: &mut TriedQuestions,
@@ -122,7 +122,7 @@ impl<'a> Chains<'a> {
         }
     }
 
-    // The same for a question that is already stored, without an answer.
+    // As `ask`, for a question that is already stored, without an answer.
     #[cycle(search)]
     fn answer(
         &self,

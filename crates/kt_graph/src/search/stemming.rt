@@ -120,7 +120,7 @@ impl<'n> Stemming<'n> {
     }
 }
 
-// The same as `kt_text::has_percent`, but quicker for a short text, as most prerequisites of pattern rules are.
+// As `kt_text::has_percent`, but quicker for a short text, as most prerequisites of pattern rules are.
 #[tactic(auto, unfolding(kt_text::specs::Match::has_percent, kt_text::specs::Match::is_percent))]
 pub(crate) fn holds_percent(name: &[u8]) -> bool
     ensures { result ≡ has_percent name.now }

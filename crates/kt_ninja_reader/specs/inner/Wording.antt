@@ -34,7 +34,7 @@ bars_after implicit [] = Some (implicit, [])
 bars_after [] (part ∷ parts) = option_map (λ order. ([], order)) (two_bars ([] ∷ part ∷ parts))
 bars_after (p ∷ ps) (part ∷ parts) = option_map (λ order. (p ∷ ps, order)) (two_bars (part ∷ parts))
 
--- the same for any parts
+-- the parts after one bar and after two, of all parts that bars cut; none where a build line can't have them
 abbrev pub bars_cut : List Spelling → Option (Spelling × Spelling)
 bars_cut [] = Some ([], [])
 bars_cut (implicit ∷ parts) = if begins_with_at implicit then None else bars_after implicit parts

@@ -14,7 +14,7 @@ few_of (Several spots) = spots.value.items
 abbrev pub list_at : List (List Spot) → ℕ → List Spot
 list_at lists number = get_or lists number []
 
--- the same list at each number
+-- each number has the same list in both
 abbrev pub SameAt : List (List Spot) → List (List Spot) → Type 0
 SameAt old new = (number : ℕ) → list_at new number ≡ list_at old number
 

@@ -25,7 +25,7 @@ impl Kinds {
         }
     }
 
-    /// The same with a rule of one more kind.
+    /// These kinds, and that of one more rule.
     pub(crate) fn with(self, kind: Kind) -> Kinds
         ensures kept { (other : AnyKind) → sees self other ≡ true → sees result other ≡ true }
         ensures added { sees result kind ≡ true }

@@ -65,7 +65,7 @@ impl SpotLists {
     }
 }
 
-// The same at each number.
+// As `forget`, at each number.
 fn forget_all(lists: &mut Vec<Few>, place: usize)
     ensures forgotten { ForgotFrom place lists.old.items lists.new.items }
     ensures many { length lists.new.items ≡ length lists.old.items }

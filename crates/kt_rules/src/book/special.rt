@@ -41,7 +41,7 @@ pub(crate) fn is_among(names: &Names, name: &[u8]) -> bool
     is_one_of(names, name)
 }
 
-// The same by comparing, the lengths first.
+// As `is_among`, by comparing, the lengths first.
 #[tactic(auto, using(kt_list::proofs::NameLemmas::drop_named))]
 fn is_one_of(names: &Names, name: &[u8]) -> bool
     ensures { result ≡ is_among names.now name.now }

@@ -141,7 +141,7 @@ fn note_lengths(lengths: &mut IndexSet<usize>, names: &Names) -> Result<(), Allo
     Ok(())
 }
 
-// The same for prerequisites.
+// As `note_lengths`, for prerequisites.
 #[tactic(auto, using(crate::proofs::SuffixLemmas::lengths_none))]
 fn note_needed(
     alloc: Global,

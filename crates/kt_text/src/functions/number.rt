@@ -19,7 +19,7 @@ pub(crate) fn number(text: &[u8]) -> Option<usize>
     Some(digits_value(digits))
 }
 
-// The same, from 1 on.
+// As `number`, but from 1 on.
 pub(crate) fn place(text: &[u8]) -> Option<usize>
     ensures { result ≡ ordinal_of text.now }
 {

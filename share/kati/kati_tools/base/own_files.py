@@ -8,13 +8,16 @@ import os
 from . import files
 
 ENDING, LOCK, TRANSLATED = ".kati", "lock", "translated.ninja"
-# Where kati's fault stands while includes are made, and the folder of the marks of includes that are out of date.
-FAULT, MARKS = "fault.txt", "stale"
+# Where kati's fault stands while includes are made; the folder of the marks of includes that are out of date, and that
+# of the links by which ninja sees includes; and which includes were there before ninja could make them.
+FAULT, MARKS, LINKS, STOOD = "fault.txt", "stale", "includes", "stood.txt"
 # Where ports for other words of the command line stand.
 ASIDE = "aside"
 # The file whose time is that of a run's start; and the one that says of which form the other files are: each change of
 # a form has a number of its own.
-BEGUN, VERSION, FORM = ".begun", "version", "2\n"
+BEGUN, VERSION, FORM = ".begun", "version", "3\n"
+# That ninja's log lacks what was there before the first build, since only what makes includes was known by then.
+UNTAKEN = ".untaken"
 # How often one ninja has had the makefile translated.
 TRIES = ".tries"
 # What a shell does to see whether anything is new.

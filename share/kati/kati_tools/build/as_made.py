@@ -1,9 +1,9 @@
-"""Ninja's log for files that make has made, where Ninja has none yet: so they aren't made anew.
+"""Ninja's log for files that exist before the first build: so ninja rebuilds what is out of date, as make does.
 
-Each output that is there gets a line with the hash of its command and its own time. What is out of date Ninja then
-tells by its own rules, which are make's: nothing is compared here. A line too few only has a file made anew; so where
-something is in doubt there is none."""
-import contextlib
+Each output that exists gets a line with the hash of its command and its own time; one of a statement with `generator`
+needs none. What is out of date Ninja then tells by its own rules, which are make's: nothing is compared here. A line
+too few only has a file rebuilt; so where something is in doubt there is none."""
+import itertools
 import os
 import re
 from collections import Counter
@@ -13,16 +13,16 @@ from ..base import files, own_files
 from ..base.programs import Stop, bytes_of, need
 from ..base.words import WRONG_USAGE
 from ..makefile import sources
-from . import always_run, depfile_text, ninja_kind, ninja_log, ninja_text, ninja_words, top_file
+from . import always_run, depfile_text, ninja_kind, ninja_log, ninja_text, top_file
 
 LOG, DEPS = ".ninja_log", ".ninja_deps"
-# Files of header dependencies that makefiles include, by how their names end.
-DEPENDENCY_FILE = re.compile(r"\.(d|dep|P|Po|Plo|pp)$|(^|/)\.?depend[^/]*$")
 # A compiler's word for header dependencies, wherever it stands.
 WRITES_HEADERS = re.compile(r"(?:^|[\s'\"])-(?:MM?D|Wp,(?:[^\s,]*,)*-MM?D)(?=[\s,'\"]|$)")
-# Why a file is made anew.
-DIFFERS, OLD, NAMED = "by another command than make's", "for a time before 1970", "for a tab in a name"
-IN_DOUBT = "since their header dependencies are in doubt"
+# Why a file is rebuilt.
+DIFFERS, OLD, NAMED = "another command than make's", "a time before 1970", "a tab in a name"
+IN_DOUBT = "header dependencies in doubt"
+# What helps where files that exist would be rebuilt, or taken for what they aren't.
+HELP = "help: kati-build --anew rebuilds everything"
 
 
 class Line(NamedTuple):
@@ -48,9 +48,29 @@ def others(output):
 
 
 def refuse_beside_others(output):
-    """Stops where another Ninja file is there: what stands in the folder may be made by its words."""
+    """Stops where another Ninja file is there: what exists in the folder may be made by its words."""
     for found in others(output):
-        raise Stop(f"--as-made: {found} is here too, and what stands here may be of its words", WRONG_USAGE)
+        raise Stop(f"{found} is here too, and the files that exist may be made by its words\n{HELP}", WRONG_USAGE)
+
+
+def any_exists(path):
+    """Whether one of the files exists that a file of statements makes."""
+    return any(map(os.path.lexists, ninja_text.Heads([files.content(path) or b""]).outputs()))
+
+
+def makes_what_exists(translation):
+    """Whether one of the files exists that a translation makes, those aside that it makes at each run."""
+    if not any(map(os.path.lexists, translation.outputs)):
+        return False
+    made = (one for one in translation.statements if one.command is not None and always_run.ALWAYS not in one.needs)
+    return any(os.path.lexists(name) for one in made for name in one.outputs)
+
+
+def refuse_unknown_kind(program):
+    """Stops where a ninja's log is of no kind that is known, so that it can't be written."""
+    if ninja_kind.of(program) is None:
+        raise Stop(f"the log of {program} is of no kind that is known, so all files that exist would be rebuilt\n"
+                   f"{HELP}", WRONG_USAGE)
 
 
 class Graph:
@@ -60,33 +80,13 @@ class Graph:
         self.statements, self.variables = ninja_text.statements(text), ninja_text.variables(text)
         self.goals = ninja_text.defaults(text)
 
-    def needed_by(self, goals):
-        """The statements that these names, or else the default ones, need; None where one of them isn't known."""
-        by_output = {top_file.plain_name(name): one for one in self.statements for name in one.outputs}
-        left = [top_file.plain_name(name) for name in goals or self.goals]
-        if not all(name in by_output for name in left):
-            return None
-        found = {}
-        while left:
-            one = by_output.get(left.pop())
-            if one is not None and one.line not in found:
-                found[one.line] = one
-                left += map(top_file.plain_name, one.needs)
-        return list(found.values())
 
-    def standing(self, goals):
-        """How many files that are there Ninja makes anew for these goals where it has no log, those aside that it makes
-        at each run."""
-        made = [one for one in self.needed_by(goals) or [] if one.command is not None
-                and always_run.ALWAYS not in one.needs and not self.variables[one.line].get("generator")]
-        return sum(os.path.lexists(name) for one in made for name in one.outputs)
-
-
-def made_anew(text, words):
-    """How many files that are there ninja makes anew by these words, where it has no log, of the statements of a
-    text."""
-    targets = ninja_words.targets(words)
-    return 0 if targets is None else Graph(text).standing(targets)
+def is_newer(name, outputs):
+    """Whether a file isn't there, or is newer than one of these outputs."""
+    try:
+        return os.stat(name).st_mtime_ns > min(os.stat(one).st_mtime_ns for one in outputs)
+    except OSError:
+        return True
 
 
 class Reader:
@@ -98,7 +98,7 @@ class Reader:
         # By each name what files of header dependencies say that it is made from.
         self.told = {}
         for path in sources.walk(set())[0]:
-            for targets, needed in depfile_text.rules(path) if DEPENDENCY_FILE.search(path) else []:
+            for targets, needed in depfile_text.rules(path) if depfile_text.is_named_as_one(path) else []:
                 for name in targets:
                     self.told.setdefault(name, {}).setdefault(path, set()).update(needed)
 
@@ -106,7 +106,7 @@ class Reader:
         """The line for a statement, or the words that say why it gets none; "" where that isn't told."""
         names = [top_file.plain_name(name) for name in statement.outputs]
         times = [ninja_log.time_of(name, self.kind.unit) for name in names]
-        if variables.get("generator") or None in times:
+        if variables.get("generator") and not variables.get("deps") or None in times:
             return ""
         if min(times) <= 0:
             return OLD
@@ -127,8 +127,9 @@ class Reader:
             return IN_DOUBT if found is None or not ninja_log.fits_record(found) else found
         if depfile:
             return None
-        is_told = all(told <= needed for name in names for told in self.told.get(name, {}).values())
-        return None if is_told and not WRITES_HEADERS.search(statement.command) else IN_DOUBT
+        told = {one for name in names for found in self.told.get(name, {}).values() for one in found}
+        is_old = any(map(is_newer, (told - needed), itertools.repeat(names)))
+        return IN_DOUBT if is_old or WRITES_HEADERS.search(statement.command) else None
 
     def told_by(self, depfile, names):
         """What a file of header dependencies says of a statement of one output; None where that is in doubt."""
@@ -149,39 +150,60 @@ def place(path, data, room):
         files.remove(new)
 
 
-def write(room, kind, lines):
-    """Writes Ninja's logs in a folder, of a kind."""
+def add(path, data, room):
+    """Adds bytes to a log, or makes one of them. Ninja, which may be running, appends to it as well."""
+    if os.path.lexists(path):
+        with open(path, "ab") as file:
+            file.write(data)
+    else:
+        place(path, data, room)
+
+
+def write_headers(room, lines):
+    """Writes the log of header dependencies in a folder, behind what it has; answers the lines that it has then, all
+    but those with header dependencies where it is of another form."""
+    data = files.content(os.path.join(room, DEPS))
+    known = None if not data else ninja_log.names_in(data)
+    if data and known is None:
+        return [line for line in lines if line.headers is None]
     records = [(*line.outputs[0], line.headers) for line in lines if line.headers is not None]
-    rows = [ninja_log.row(name, time, kind.hash(bytes_of(line.command)))
-            for line in lines for name, time in line.outputs]
-    # The log of dependencies is the first: without the other one all is made anew, whenever this run ends.
     if records:
-        place(os.path.join(room, DEPS), ninja_log.deps(records), room)
-    place(os.path.join(room, LOG), bytes_of(f"{kind.head}\n{''.join(rows)}"), room)
+        add(os.path.join(room, DEPS), ninja_log.deps(records, known), room)
+    return lines
 
 
-def take(room, text, differs):
-    """Writes the logs for what stands there of the statements of a text; answers what to say of that. `differs` says
-    of a command whether it is another one than make's."""
-    kind = None if has_log(room) else ninja_kind.of(need("ninja"))
-    if kind is None and not has_log(room):
-        return "--as-made: the log of this ninja is of no kind that is known, so nothing is taken as made"
-    with contextlib.suppress(FileExistsError):
-        if kind is not None:
-            return taken(room, kind, Graph(text), differs)
-    return "--as-made: Ninja has a log here already, which stays as it is"
+def built(room):
+    """The outputs that ninja's log in a folder has."""
+    rows = (files.read(os.path.join(room, LOG)) or "").split("\n")
+    return {row.split("\t")[3] for row in rows if row.count("\t") == 4}
 
 
-def taken(room, kind, graph, differs):
-    """The same by a ninja of a kind, for a graph."""
+def write(room, kind, lines):
+    """Writes Ninja's logs in a folder, of a kind, behind what they have; answers the lines that were written."""
+    before = files.read(os.path.join(room, LOG)) or ""
+    if before and not before.startswith(f"{kind.head}\n"):
+        return []
+    # The log of dependencies is the first: without the other one all is rebuilt, whenever this run ends.
+    lines = write_headers(room, lines)
+    rows = "".join(ninja_log.row(name, time, kind.hash(bytes_of(line.command)))
+                   for line in lines for name, time in line.outputs)
+    add(os.path.join(room, LOG), bytes_of(rows if before else f"{kind.head}\n{rows}"), room)
+    return lines
+
+
+def take(room, graph, differs, known):
+    """Writes the logs for what exists of the statements of a graph, but for the outputs that are `known`; answers their
+    lines by an output, and how many files get none, by the reasons. `differs` says of a command whether it is another
+    one than make's."""
+    kind = ninja_kind.of(need("ninja"))
+    if kind is None:
+        return {}, Counter()
     reader, lines, left = Reader(kind, differs), [], Counter()
     for one in graph.statements:
-        found = reader.line(one, graph.variables[one.line]) if one.command is not None else ""
+        is_known = one.command is None or top_file.plain_name(one.outputs[0]) in known
+        found = "" if is_known else reader.line(one, graph.variables[one.line])
         if isinstance(found, Line):
             lines.append(found)
         elif found:
             left[found] += len(one.outputs)
-    write(room, kind, lines)
-    count = sum(len(one.outputs) for one in lines)
-    return "; ".join([f"--as-made: files that stand here and are taken as made: {count}",
-                      *(f"made anew {why}: {number}" for why, number in left.items())])
+    return {line.outputs[0][0]: line for line in write(room, kind, lines)}, left

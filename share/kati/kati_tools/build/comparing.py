@@ -1,12 +1,13 @@
 """The command kati-compare: the commands that make would run beside those of kati's Ninja file."""
 import re
+import sys
 from collections import Counter
 
 from ..base import files, interrupting, scratch, words
 from ..make import make_commands, shell_reading, shell_text
-from . import calls_of_recipes, compared_environment, scratch_builds, translating
+from . import calls_of_recipes, compared_environment, empty_builtins, scratch_builds, translating
 from ..make.command_lists import Compared, alone
-from ..base.programs import Stop, ending, need, run, say, write_text
+from ..base.programs import Stop, bytes_of, ending, need, run, say, write_text
 
 TOOL = "kati-compare"
 # What `same` is worth where make had macros of the command line too, and what is said of includes that make makes.
@@ -71,7 +72,8 @@ examples:
 exit status:
   0   the same, or nothing to compare
   1   they differ, or aren't compared; --build: a build failed, or files differ
-  2   the makefile has a fault, as kati says
+  2   the makefile has a fault, as kati says; or, without --builtin, a recipe line begins with a
+      variable that make has built in, as $(CC), and no makefile defines it
   3   a file can't be read, a program isn't there, or make has a fault where kati has none
   4   kati ran out of memory
   64  wrong usage
@@ -214,6 +216,10 @@ def compare(asked):
         if translation.status:
             say(TOOL, f"kati ended with status {translation.status}:\n{translation.said.rstrip()}")
             return translation.status
+        empty = "" if asked.builtin else empty_builtins.told(translator, translation)
+        if empty:
+            sys.stderr.buffer.write(bytes_of(empty))
+            return 2
         commands = ninja_commands(translation, room)
         asking = make_commands.Asking(asked.makefile or translating.default_makefile(), asked.builtin,
                                       shell_of(commands), room)

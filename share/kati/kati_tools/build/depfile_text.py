@@ -10,6 +10,14 @@ RULE = re.compile(r"((?:\\.|[^:\\]|:(?=\S))*):(?:\s|$)(.*)")
 WORD = re.compile(r"(?:\\[ #\\]|[^\s])+")
 ESCAPED = re.compile(r"\\([ #])")
 
+# Files of header dependencies that makefiles include, by how their names end.
+NAMED = re.compile(r"\.(d|dep|P|Po|Plo|pp)$|(^|/)\.?depend[^/]*$")
+
+
+def is_named_as_one(path):
+    """Whether a file has the name of one of header dependencies."""
+    return bool(NAMED.search(path))
+
 
 def names(text):
     """The names of a part of a rule, as Ninja has them."""

@@ -1,6 +1,7 @@
 """kati's text with the lines that kati-build adds to the blocks of statements: where header dependencies are, that
-a file counts only where it changed, what includes want that rules make, and pools."""
-from . import always_run, ninja_text
+a file counts only where it changed, that one without inputs is made once, what includes want that rules make, and
+pools."""
+from . import always_run, ninja_text, without_inputs
 from ..base.programs import bytes_of
 
 
@@ -13,6 +14,7 @@ class Content:
     def __init__(self, translation, has_headers, statements=None, included=(), pools=None):
         self.hanging, self.doubts = always_run.Hanging(translation), []
         added = self.hanging.lines()
+        add(added, without_inputs.lines(translation))
         if has_headers:
             # What it takes time to load is loaded only where it is needed.
             from . import header_dependencies

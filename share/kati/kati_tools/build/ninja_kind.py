@@ -1,4 +1,5 @@
 """The ninja at hand, as its own log tells of it: what it writes for statements of which all is known."""
+import functools
 import os
 import subprocess
 import sys
@@ -52,6 +53,7 @@ def told(room, named):
     return Kind(lines[0], hashes[0], 1 if is_fine else ninja_log.SECOND)
 
 
+@functools.lru_cache(None)
 def of(program):
     """The kind of a program ninja, which is run in a folder of its own; None where its log is of no kind that is
     known."""

@@ -5,7 +5,7 @@ command. Up to 1.12 Ninja hashes by MurmurHash64A, from 1.13 on by rapidhash."""
 import os
 import struct
 
-from ..base.programs import bytes_of
+from ..base.programs import bytes_of, text_of
 
 ALL_BITS = (1 << 64) - 1
 MURMUR_FACTOR, MURMUR_SEED = 0xc6a4a7935bd1e995, 0xdecafbaddecafbad
@@ -15,6 +15,9 @@ RAPID_SECRETS = (0x2d358dccaa6c78a5, 0x8bb84b93962eacc9, 0x4b33a62ed433d4a3)
 RAPID_BLOCK = 48
 SECOND = 1_000_000_000
 DEPS_HEAD, DEPS_VERSION = b"# ninjadeps\n", 4
+BEFORE_RECORDS = DEPS_HEAD + struct.pack("=i", DEPS_VERSION)
+# What tells the record of an output from a name's.
+OF_OUTPUT = 1 << 31
 # Ninja takes a longer record of header dependencies for the end of what is whole.
 LONGEST_RECORD = (1 << 19) - 1
 
@@ -107,9 +110,29 @@ def row(output, time, hashed):
     return f"0\t0\t{time}\t{output}\t{hashed:x}\n"
 
 
-def deps(records):
-    """The log of header dependencies of records, each an output with its time and the files that it was made from."""
-    found, numbers = bytearray(DEPS_HEAD + struct.pack("=i", DEPS_VERSION)), {}
+def names_in(data):
+    """The names that a log of header dependencies has, by their numbers; None where it has another form."""
+    at = len(BEFORE_RECORDS)
+    if not data.startswith(BEFORE_RECORDS):
+        return None
+    found = []
+    while at < len(data):
+        (size,) = struct.unpack_from("=I", data.ljust(at + 4, b"\0"), at)
+        end = at + 4 + (size & ~OF_OUTPUT)
+        if end > len(data) or end < at + 8:
+            return None
+        if not size & OF_OUTPUT:
+            # What it ends with is its number.
+            found.append(text_of(data[at + 4:end - 4].rstrip(b"\0")))
+        at = end
+    return found
+
+
+def deps(records, known=None):
+    """The log of header dependencies of records, each an output with its time and the files that it was made from; or
+    what comes behind one that has the `known` names."""
+    found = bytearray(BEFORE_RECORDS if known is None else b"")
+    numbers = {name: number for number, name in enumerate(known or ())}
 
     def number(name):
         """The number of a name, which stands before the first record that has it."""
@@ -123,7 +146,7 @@ def deps(records):
     for output, time, inputs in records:
         own, others = number(output), list(map(number, inputs))
         size = 4 * (3 + len(others))
-        found.extend(struct.pack("=IIII", size | 0x80000000, own, time & 0xffffffff, time >> 32))
+        found.extend(struct.pack("=IIII", size | OF_OUTPUT, own, time & 0xffffffff, time >> 32))
         found.extend(struct.pack(f"={len(others)}I", *others))
     return bytes(found)
 

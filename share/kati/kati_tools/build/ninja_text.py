@@ -47,7 +47,7 @@ def cut(line):
 
 class Statement:
     """A `build` line, with the command of its rule, None where it is phony; `line` counts from 0. `needs` are its
-    inputs with those behind a bar."""
+    inputs with those behind a bar, and `counting` those of them whose times count."""
 
     def __init__(self, text, command, line):
         outputs, rest = cut(text)
@@ -57,6 +57,8 @@ class Statement:
         bars = [at for at, word in enumerate(words) if word in BARS]
         self.inputs = [plain(name) for name in words[1:bars[0] if bars else None]]
         self.needs = [plain(name) for name in words[1:] if name not in BARS]
+        ordering = words.index(BARS[1]) if BARS[1] in words else len(words)
+        self.counting = [plain(name) for name in words[1:ordering] if name != BARS[0]]
         self.line = line
 
 

@@ -120,8 +120,8 @@ def is_later(name, other):
 
 
 def text(build, names, translation, is_new, includes=None):
-    """The text of the file for a `Build`; `names` are those that it depends on, but for folders that the build makes,
-    and `includes` the statements of those that rules make.
+    """The text of the file for a `Build`; `names` are those that it depends on, and `includes` the statements of those
+    that rules make. A folder with the name of a target stands there by its absolute path, which no rule makes.
 
     What kati wrote, by `translation`, is new or isn't: then what the file says of it that is there is still so, if
     the run that wrote it came to its end."""
@@ -131,7 +131,7 @@ def text(build, names, translation, is_new, includes=None):
     if changed and not includes and filled(build, names, set(), changed.group(1)) == before:
         return before
     made = made_of(names, translation.heads)
-    names = [name for name in names if not (name in made and os.path.isdir(name))]
+    names = [os.path.abspath(name) if name in made and os.path.isdir(name) else name for name in names]
     return filled(build, names, made, changed.group(1) if changed else time.time_ns(), includes)
 
 

@@ -30,6 +30,9 @@ TAKING_BACK = re.compile(r"^ *%[^:=\n]*:[ \t]*%|\.SUFFIXES\b|\bMAKEFLAGS[ \t]*[:
 COMPUTED = re.compile(r"\$[({](?:(?:call|value|flavor|origin)[ \t]+)?([^\s(){}$:,]*)\$")
 # References to macros by names that are written out, with what may stand behind these, and without.
 NAMED, PLAIN = re.compile(r"\$[({]([^\s:,$(){}]+)"), re.compile(r"\$[({]([^\s:,$(){}]+)[)}]")
+# An assignment that leaves nothing of a value of before, and what begins and ends lines that may not count.
+ASSIGNED_OR_LINES = re.compile(r"""^(?:[ ]*(?:(?:override|export)[ ]+)*([\w.]+)[ \t]*(?::{0,3}|\?|!)=
+                                   |[ \t]*(?:(ifn?def|ifn?eq|define)|endif|endef)\b)""", re.MULTILINE | re.VERBOSE)
 
 
 def places_of(text, part):
@@ -118,6 +121,18 @@ def names_in(text):
 def beginnings_of_computed(text):
     """With what the names of macros begin that a text computes, each as far as it is written out."""
     return COMPUTED.findall(text)
+
+
+def surely_assigned(text):
+    """The macros to which a makefile's text gives a value whatever holds: in no conditional, and in no `define`."""
+    found, depth = set(), 0
+    for statement in ASSIGNED_OR_LINES.finditer(without_continuations(text)):
+        assigned, begin = statement.groups()
+        if not assigned:
+            depth += 1 if begin else -1
+        elif not depth:
+            found.add(assigned)
+    return found
 
 
 def form_of(names):

@@ -26,6 +26,8 @@ files:
   build.kati/files.txt         the list of the files that exist, as kati got it
   build.kati/asked.txt         the files that kati asked for, by which the next list is made
   build.kati/stale/            marks of includes that rules make; build.kati/fault.txt kati's fault
+  build.kati/includes/         symbolic links to these includes, by which ninja sees them
+  build.kati/stood.txt         which of these includes existed before ninja could make them
   build.kati/outside.txt       the folders outside this one that rules name, until a makefile changes
   build.kati/version           the form of these files: those of another version are made anew
   build.kati/.begun            when the last run began: what is saved later is looked at again
@@ -77,13 +79,22 @@ header dependencies:
   Ninja takes the file away once it has read it, but for one that the makefile names, or that make
   includes. Files that a rule makes by cc -MM, and that are included, need no --deps.
 
-what make has built:
-  Ninja has no log at first, and so makes anew what stands here, came it with the sources or did make
-  build it; kati-build says how many files these are. With --as-made it writes the log for them, each
-  with its own time, after the translation, where none is there: what is out of date is made then,
-  and nothing else. That takes make's word: a file that make built by other words, or that a recipe
-  which failed left halfway, counts as made. It is for the first Ninja file of a folder alone. A file
-  whose header dependencies are in doubt, or whose command isn't make's, is made anew.
+the first build:
+  The first build leaves what make would leave. If ninja has no log, kati-build writes a line for
+  each file that exists, with the file's own time: ninja then rebuilds what is out of date, and
+  nothing else. kati-build prints how many files stay as they are, and the names of those that ninja
+  rebuilds. A file that make built with other variables, or that a failed recipe left half-written,
+  counts as up to date. A file is rebuilt if its header dependencies are in doubt, or if kati's
+  command differs from make's. Next to a different Ninja file the run stops, if a file exists that
+  the new build makes. --anew deletes ninja's log and rebuilds everything. --as-made is accepted.
+
+  A rule without prerequisites runs only if its file is missing. A rule for a makefile or an include
+  that existed before the first build runs by file times alone. Neither a missing log nor a changed
+  command runs these rules, and ninja -t clean keeps their files.
+
+variables that make has built in:
+  Without --port and --builtin, $(CC) and its kind are empty. The run stops with status 2 at a recipe
+  line that begins with one, if no makefile defines that variable.
 
 environment:
   KATI, KATI_ASKED, NINJA      the programs kati, kati-asked and ninja
@@ -95,18 +106,20 @@ examples:
   kati-build --port                      the same by a makefile that kati doesn't take as it is
   kati-build all CC=clang                builds `all` by clang
   kati-build --deps 'CFLAGS=-O2 -MMD'    with header dependencies, which the compiler writes for -MMD
-  kati-build --port --as-made            goes on where make left off
+  kati-build --port --anew               the same, and rebuilds everything
   kati-build --builtin -j4 -- -v         with make's usual rules; ninja runs four jobs, shows commands
   kati-build -o clean.ninja clean        another file for another goal, so that build.ninja stays
   kati-build --remove                    takes away what kati-build wrote; what was built stays
 
 exit status:
   0     built; with --no-ninja: translated
-  2     the makefile has a fault, as kati says; the build of before is kept
+  2     the makefile has a fault, as kati says, or a recipe line begins with a built-in variable of
+        make's that no makefile defines; the build of before is kept
   3     a file can't be read or written, changes each time that it is read, or a program isn't there
   4     kati ran out of memory
   5     with --port and --no-ninja: translated, and kati's commands differ from make's
-  64    wrong usage; the Ninja file that is there isn't one of kati's; --as-made beside another one
+  64    wrong usage; the Ninja file that is there isn't one of kati's; a first build that can't tell
+        what files that exist are: --anew rebuilds everything
   70    a fault of the tool itself; where kati --check tells of it, the build of before is kept.
         Or a signal ended kati
   130   interrupted, or ended by SIGTERM or SIGHUP
@@ -118,9 +131,9 @@ def parser():
     """The command line of kati-build."""
     made = words.Parser(prog="kati-build", description=ABOUT, epilog=MORE, hint="; ninja's own stand after --",
                         usage="kati-build [--port] [--values] [--files-from git|find|FILE] [--deps] [--builtin]\n"
-                              "                  [-o FILE] [-j N] [--no-ninja] [--as-made] [--compile-commands]\n"
-                              "                  [--kati PROGRAM] [--kati-asked PROGRAM] [KATI WORDS]\n"
-                              "                  [-- NINJA WORDS]\n"
+                              "                  [-o FILE] [-j N] [--no-ninja] [--anew] [--as-made]\n"
+                              "                  [--compile-commands] [--kati PROGRAM] [--kati-asked PROGRAM]\n"
+                              "                  [KATI WORDS] [-- NINJA WORDS]\n"
                               "       kati-build --remove [-o FILE]")
     made.add_argument("--port", action="store_true",
                       help="builds by any GNU makefile: what kati refuses is ported in FILE's folder, and the makefile "
@@ -140,7 +153,9 @@ def parser():
                       help="takes away all that kati-build has written in this folder, or that of FILE, and does no "
                            "more")
     made.add_argument("--as-made", action="store_true",
-                      help="takes what stands here as make has made it, where ninja has no log yet; see below")
+                      help="accepted: a first build takes what exists as make has made it; see below")
+    made.add_argument("--anew", action="store_true",
+                      help="rebuilds everything; see below")
     made.add_argument("--by-ninja", action="store_true", help=argparse.SUPPRESS)
     made.add_argument("--compile-commands", action="store_true",
                       help="writes compile_commands.json too, for editors: compilations without the shell round them")
@@ -165,7 +180,7 @@ def build(asked, more):
     difference = made.difference()
     if asked.no_ninja:
         return DIFFERS if difference and not asked.by_ninja else 0
-    made.tell_of_standing(more)
+    made.first_build.tell(more)
     # Loaded here alone, since it takes time, and ninja runs this tool without ninja.
     from ..build import running_ninja
     status = running_ninja.run(TOOL, made.output, more)

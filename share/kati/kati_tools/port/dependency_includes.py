@@ -142,6 +142,17 @@ class DependencyIncludes(Mender):
                        + " ".join(self.unread))
         return True
 
+    def left(self, translation):
+        """The names in lines for make alone that Ninja doesn't read either, where they are there or kati refuses them:
+        Ninja doesn't see a change of what they name."""
+        named = [name for line, names in self.lines.items() if line not in self.read for name in names]
+        if not named:
+            return []
+        found = header_dependencies.Dependencies(translation.statements).files.values()
+        written = set(map(os.path.normpath, found))
+        there = {*self.unread, *self.port.first.hidden, *filter(os.path.exists, named)}
+        return [name for name in dict.fromkeys(named) if name in there and not is_written(name, written)]
+
     def end(self):
         """Counts what was done."""
         for line in self.lines:

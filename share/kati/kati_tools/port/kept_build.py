@@ -5,12 +5,11 @@ import sys
 
 from ..base import files, one_at_a_time, own_files, words
 from ..base.programs import UNFORESEEN, Stop, bytes_of, find_asked, find_kati, say
-from ..build import begun, insertions, ninja_text, ninja_tries, top_file, translating
+from ..build import begun, first_build, insertions, ninja_text, ninja_tries, top_file, translating
 from . import nothing_new
 
 TOOL = "kati-build"
 KATIS_FIRST_LINE = "# kati\n"
-NINJAS_LOG = ".ninja_log"
 # Faults by what GNU make takes, which --port knows what to do about.
 PORTED = re.compile(r"\[E(06|16|17|20|22|23)\]$", re.MULTILINE)
 
@@ -35,9 +34,10 @@ class Build:
         self.list, self.names = os.path.join(self.room, "files.txt"), os.path.join(self.room, "asked.txt")
         self.fault = os.path.join(self.room, own_files.FAULT)
         refuse_words(asked, self.output)
-        if asked.as_made:
+        if asked.as_made and not asked.anew:
             from ..build import as_made
             as_made.refuse_beside_others(self.output)
+        self.first_build = first_build.FirstBuild(asked, self.output, self.room)
         # What values come from, and what is to be made first for them.
         self.values_from, self.first = [], []
         self.kati = find_kati(asked.kati)
@@ -45,8 +45,10 @@ class Build:
         # The files that count only where they come or go, None where the translation is looked at each time; and
         # whether it makes nothing but includes.
         self.looked_at, self.is_first = None, False
-        # How often the ninja that runs this has had it translated.
-        self.tries = 0
+        self.translator = None
+        # How often the ninja that runs this has had it translated; and the includes that rules make, each with whether
+        # it was there before ninja could make it.
+        self.tries, self.stood = 0, {}
 
     def makefile(self):
         """The makefile's name."""
@@ -127,9 +129,11 @@ class Build:
         with one_at_a_time.held(self.room, say_waiting) as is_first:
             try:
                 nothing_new.drop_of_other_version(self)
+                self.first_build.begin()
                 status = self.translate_settled()
-                if self.asked.as_made and not status:
-                    self.take_as_made()
+                if not status:
+                    self.tell_of_left()
+                    self.begin_log()
                 return status
             finally:
                 self.tidy(is_first)
@@ -222,6 +226,8 @@ class Build:
         if includes and includes.gone():
             self.say_kept(includes.gone())
             return 2
+        if self.has_empty_builtins(found):
+            return 2
         content = insertions.Content(found, self.asked.deps, includes, self.included_by_make(found),
                                      self.translator.pools(found))
         is_new = self.is_new(content)
@@ -234,13 +240,27 @@ class Build:
             say(TOOL, f"another text each time that ninja makes it, so that values hang on what it was: "
                       f"{' '.join(sorted(restless))}")
             names = [name for name in names if name not in restless]
+        self.first_build.refuse(found)
         top = top_file.text(self, names, found, is_new, includes)
         if includes:
+            from ..build import stood
+            files.keep(os.path.join(self.room, own_files.STOOD), stood.text(self.stood), self.room)
             includes.write_marks()
         if not self.is_first:
             self.looked_at = content.hanging.looked_at() + (includes.looked_at() if includes else [])
         self.write(found, content, is_new, top)
         return 0
+
+    def has_empty_builtins(self, found):
+        """Whether a recipe line begins with a variable that make has built in and nobody defines, which is told."""
+        if self.asked.port or self.asked.builtin:
+            return False
+        from ..build import empty_builtins
+        told = empty_builtins.told(self.translator, found)
+        sys.stderr.buffer.write(bytes_of(told))
+        if told and os.path.exists(self.output):
+            self.say_kept("nothing is written")
+        return bool(told)
 
     def included_by_make(self, found):
         """The patterns of what the makefiles include, where that counts."""
@@ -260,8 +280,9 @@ class Build:
         self.doubts = looking.doubts
         if made is None:
             return None
-        from ..build import include_statements
-        return include_statements.Statements(made, self.room)
+        from ..build import include_statements, stood
+        self.stood = stood.now(os.path.join(self.room, own_files.STOOD), made, self.translator.put)
+        return include_statements.Statements(made, self.room, stood.without_dependencies(self.stood, made))
 
     def is_new(self, content):
         """Whether the text isn't the one that is kept."""
@@ -311,24 +332,21 @@ class Build:
         if os.path.isdir(os.path.join(self.room, own_files.MARKS)):
             files.keep(self.output, top_file.between(self), self.room)
 
-    def take_as_made(self):
-        """Writes ninja's log for what stands here, and tells of it."""
-        from ..build import as_made
-        if self.is_first:
-            say(TOOL, "--as-made: an include isn't made yet, so nothing is taken as made")
-        else:
-            say(TOOL, as_made.take(self.room, files.read(self.translated), self.translator.differs))
+    def tell_of_left(self):
+        """Tells of the header dependencies that a port leaves to make."""
+        if self.asked.port:
+            from . import left_to_make
+            for line in left_to_make.told(self.asked, self.room):
+                say(TOOL, line)
 
-    def tell_of_standing(self, more):
-        """Tells of the files that stand here and that ninja makes anew by these words, since it has no log."""
-        if self.is_first or os.path.exists(os.path.join(self.room, NINJAS_LOG)):
-            return
-        # Loaded for a first build alone, since it takes time.
-        from ..build import as_made
-        count = as_made.made_anew(files.read(self.translated), more)
-        if count:
-            option = "" if any(as_made.others(self.output)) else "; --as-made takes them as made"
-            say(TOOL, f"files that stand here and are made anew, since ninja has no log of them: {count}{option}")
+    def begin_log(self):
+        """Begins ninja's log where it has none."""
+        def differs(command):
+            self.translator = self.translator or self.new_translator()
+            return self.translator.differs(command)
+        self.first_build.end(self.translated, self.is_first, differs)
+        if self.asked.no_ninja:
+            self.first_build.tell([])
 
     def difference(self):
         """The line that sums up how kati's commands differ from make's, where a port found that; else None."""

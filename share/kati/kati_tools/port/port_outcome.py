@@ -21,8 +21,8 @@ class Outcome:
     folder, those of them that it made by rules, before it was asked for values; the folders that their includes go
     through; the makefiles for which make has no recipe; what it has found out that holds for other goals; and what
     kati-build keeps of it: what to say, which of kati's commands differ, None where all do, the line that sums that up,
-    None where they don't, the macros of the command line that stand in the makefile, and whether make runs one job at a
-    time."""
+    None where they don't, the includes of header dependencies that nothing reads for Ninja, the macros of the command
+    line that stand in the makefile, and whether make runs one job at a time."""
 
     watched: list
     stuck: str = None
@@ -37,13 +37,15 @@ class Outcome:
     report: list = field(default_factory=list)
     differing: list = None
     difference: str = None
+    left: list = field(default_factory=list)
     taken: list = field(default_factory=list)
     is_not_parallel: bool = False
 
     def kept(self):
         """What the record of a port has of it."""
         return {"report": self.report, "differing": self.differing, "not parallel": self.is_not_parallel,
-                "difference": self.difference, "taken": self.taken, "folder": self.folder}
+                "difference": self.difference, "taken": self.taken, "folder": self.folder,
+                "left to make": self.left}
 
 
 def of_port(place, asked, room):
@@ -56,7 +58,9 @@ def of_port(place, asked, room):
             lines = filter(None, [str(stuck), port_report.advice(made, stuck.fault)])
             said = place.real_text("".join(f"{one}\n" for one in lines))
             return Outcome([asked.makefile], stuck=said, whose=stuck.whose)
-        return of_rewritten(made, port_report.Comparison(made, translation, made.first.commands), room)
+        found = of_rewritten(made, port_report.Comparison(made, translation, made.first.commands), room)
+        found.left = made.mender(dependency_includes.DependencyIncludes).left(translation)
+        return found
 
 
 def of_rewritten(made, comparison, room):

@@ -2,12 +2,8 @@
 use Rattle.std.proofs.Common.{rules, ◌≡◌, ℕ, ◌+◌, Bool, true, false, not, List, [], ◌∷◌, ◌++◌, length, Option, Some, None, refl, sym, ap, ◌∙◌, arith, zero, suc, ◌||◌, min, slice_get}
 use Rattle.kati.proofs.Common.{list_any, length-append, Text, Entry, without_repeats, StepEnd, Gave, Stopped, Fails, done, then_do, Macros, Stop, Node, Statement, is_empty, command_for, has_implicit, implicit_of, plan_groups, statement_of, with_always_built}
 use Rattle.kt_eval.specs.declared.stop.Stop.TheVariants as stops
-use Rattle.kt_ninja.specs.declared.plan.Made.{Made}
 use Rattle.kati.specs.inner.plan.Drawn.{AlwaysFirst, GroupSketch, always_drawn, drawn_of, statement_drawn, statements_drawn}
 use Rattle.kati.proofs.lemmas.plan.SingleLemmas.{own_inputs, own_order_only}
-
-abbrev stated : List Text → Made → List Text → List Text → List Text → Statement
-stated outs made inputs implicit order_only = record { outs = outs; made = made; inputs = inputs; implicit = implicit; order_only = order_only }
 
 -- what is stored for a group gives its statement
 pub told_is : (rules : List Entry) (group : List Node) (command : Option Text) → statement_drawn group (drawn_of rules group command) ≡ statement_of rules group command

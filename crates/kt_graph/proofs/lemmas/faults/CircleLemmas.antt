@@ -18,13 +18,6 @@ Reaches-step Edge from to step = (to ∷ [], (step, refl))
 pub Reaches-none : {A : Type 0} (Edge : A → A → Type 0) (here : A) → Reaches Edge here here
 Reaches-none Edge here = ([], refl)
 
--- a path with one kind of steps is one with another
-pub Reaches-by : {A : Type 0} (Edge Other : A → A → Type 0) → ((x y : A) → Edge x y → Reaches Other x y) → (from : A) (steps : List A) (to : A)
-    → Leads Edge from steps to → Reaches Other from to
-Reaches-by Edge Other by from [] to here = ([], here)
-Reaches-by Edge Other by from (step ∷ steps) to way =
-    Reaches-join Other from step to (by from step way.0) (Reaches-by Edge Other by step steps to way.1)
-
 -- ---- paths of one step or more
 
 pub on_step : (edges : Edges) (from to : ℕ) → HasNext edges from to → LeadsOn edges from to

@@ -1,5 +1,5 @@
 -- The components of a name, the last of them first, and the name that they spell.
-use Rattle.std.proofs.Common.{◌≡◌, ◌-◌, ◌≤◌, ◌==◌, Bool, true, false, not, if◌then◌else◌, fold, get_or, take, drop, List, [], ◌∷◌, ◌++◌, length, map, reverse, flat_map, Option, sym, ap, ◌∙◌, arith, MatchOption}
+use Rattle.std.proofs.Common.{◌≡◌, ◌-◌, ◌≤◌, ◌==◌, Bool, true, not, if◌then◌else◌, fold, get_or, take, drop, List, [], ◌∷◌, ◌++◌, length, map, reverse, flat_map, Option, sym, ap, ◌∙◌, arith, MatchOption}
 use Rattle.kt_graph.proofs.Common.{Bor, join_with_byte, slice_split, option_to_list, bytes_eq, false≢true, append-nil, map-append, reverse-append, nil_from_length, reverse-reverse, take_rest, Text, above_name, canon_of, ends_in_name, is_rooted, components_of, step_up, with_part}
 
 -- components as they are held
@@ -11,9 +11,6 @@ last_first front last = ap reverse (map-append (λ (part : Bor Text). part.now) 
 
 pub name_taken : (rooted : Bool) (last : Text) (parts : List Text) → not (bytes_eq last above_name) ≡ true → step_up rooted (last ∷ parts) ≡ parts
 name_taken rooted last parts h = grind (arith, false≢true)
-
-pub above_stays : (rooted : Bool) (last : Text) (parts : List Text) → not (bytes_eq last above_name) ≡ false → step_up rooted (last ∷ parts) ≡ above_name ∷ last ∷ parts
-above_stays rooted last parts h = grind (arith, false≢true)
 
 -- `..` removes a name
 pub taken_up : (rooted : Bool) (old new : List (Bor Text)) (popped : Option (Bor Text)) → ends_in_name (reverse (told old)) ≡ true

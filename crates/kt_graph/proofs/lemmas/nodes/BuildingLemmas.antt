@@ -70,9 +70,6 @@ used_at p f all left x within some at passes none =
 
 -- ---- what rules need together
 
-abbrev needs_from : List Text → List Text → Needs
-needs_from prerequisites order_only = record { prerequisites = prerequisites; order_only = order_only }
-
 pub joined_told : (first : Needs) (earlier later : List (Entry × Target)) → joined_after first earlier later ≡ needs_after first (joined_needs (earlier ++ later))
 unfolding joined_needs
 joined_told first earlier later = grind (arith, flat_map-append)

@@ -1,6 +1,6 @@
 -- The groups of the first numbers are those of the nodes.
 use Rattle.std.proofs.Common.{◌≡◌, ℕ, suc, ◌+◌, ◌<◌, ◌≤◌, Bool, true, false, not, ◌&&◌, ◌||◌, ⊎_elim, cond, if◌then◌else◌, List, [], ◌∷◌, ◌++◌, length, drop, get_or, map, filter, find, nat_eq, Option, None, Some, IfSome, option_map, slice_get, refl, sym, ap, ◌∙◌, subst, arith}
-use Rattle.kt_graph.proofs.Common.{Contains, cons_option, prefix_len, IsStrictlySortedBy, option_and_then, option_map_or, nat_cmp, is_eq, Less, slice_cmp, bytes_eq, and_parts, cases_eq, eq-eqb, eqb-true, false≢true, true≢false, append-nil, append_assoc, drop_all, drop_more, get_or-replicate, get_or-set_other, get_or-set_same, length-replicate, length-set, map-append, All-contains, filter-append, filter_agree, prefix_len_stops, sorted_tail, is_eq-slice_cmp, All-after_first, bytes_eq-Decides, equal_when, Text, StoredNode, bare_rows, Node, is_leaf, instance_at, name_at, names_at, node_view, nodes_view, first_or_rest, in_first, in_rest, NodeTable}
+use Rattle.kt_graph.proofs.Common.{Contains, cons_option, prefix_len, IsStrictlySortedBy, option_and_then, option_map_or, nat_cmp, is_eq, Less, slice_cmp, bytes_eq, and_parts, cases_eq, eq-eqb, eqb-true, false≢true, true≢false, append-nil, append_assoc, drop_all, drop_more, get_or-replicate, get_or-set_other, get_or-set_same, length-replicate, length-set, map-append, All-contains, filter-append, filter_agree, prefix_len_stops, sorted_tail, is_eq-slice_cmp, All-after_first, bytes_eq-Decides, equal_when, Text, StoredNode, bare_rows, Node, instance_at, name_at, names_at, node_view, nodes_view, first_or_rest, in_first, in_rest, NodeTable}
 use Rattle.kt_graph.specs.inner.nodes.Grouping.{HasMembers, group_at, groups_left, is_first, is_made_at, is_made_with, is_same_making, leads_at, leads_by, making_at, members_by, members_of, with_member}
 use Rattle.kt_graph.specs.nodes.Groups.{are_together, groups_among, groups_of, is_leading, is_one_making, made_nodes}
 use Rattle.kt_graph.specs.nodes.Node.{Instance}
@@ -170,9 +170,6 @@ module _ (table : NodeTable) (order : List ℕ) (whole : IsWhole table order)
 
   making_of : (number : ℕ) (node : StoredNode) → slice_get table.nodes number ≡ Some node → making_at table.nodes number ≡ node.made_with
   making_of number node at = ap (λ (o : Option StoredNode). option_and_then (λ one. one.made_with) o) at
-
-  made_of : (number : ℕ) (node : StoredNode) → slice_get table.nodes number ≡ Some node → is_made_at table.nodes number ≡ not (is_leaf node.kind)
-  made_of number node at = ap (λ (o : Option StoredNode). option_map_or (λ one. not (is_leaf one.kind)) o false) at
 
   -- its nodes
   group_is : (leader : ℕ) (node : StoredNode) → Contains order leader → slice_get table.nodes leader ≡ Some node → is_made_at table.nodes leader ≡ true

@@ -1,6 +1,6 @@
 -- Reached names by their numbers among all names.
 use Rattle.std.proofs.Common.{◌≡◌, ℕ, zero, suc, ◌+◌, ◌<◌, ◌≤◌, Bool, true, false, nat_eq, cond, if◌then◌else◌, List, [], ◌∷◌, ◌++◌, length, replicate, get_or, Option, Some, None, option_map, is_some, slice_get, Result, Ok, Err, IfOk, OnErr, OnOk, refl, sym, ap, ◌∙◌, subst, arith, length-append}
-use Rattle.kt_graph.proofs.Common.{IsDistinct, position_from, option_or, unwrap_or, bytes_eq, eq-eqb, nat_list_eq_equiv, append_assoc, length-map, map-append, All-head, All-nil, All-push, All-tail, IsDistinct-push, slice_get-get_or, slice_get_within, IfOk-weaker, on_err_weaker, bytes_eq-Decides, AreBelow, is_among, place_of, with_name, number_found, Text, no_two, same_place, HasSame, IsPlaced, IsPushed, IsReachedAt, ReachesNumber, StaysPlaced, place_held, place_marked, HasMore, name_at, names_at}
+use Rattle.kt_graph.proofs.Common.{IsDistinct, position_from, option_or, unwrap_or, bytes_eq, eq-eqb, nat_list_eq_equiv, append_assoc, length-map, map-append, All-head, All-nil, All-push, All-tail, IsDistinct-push, slice_get-get_or, slice_get_within, IfOk-weaker, on_err_weaker, bytes_eq-Decides, AreBelow, is_among, place_of, with_name, number_found, Text, no_two, same_place, IsPlaced, IsPushed, IsReachedAt, ReachesNumber, StaysPlaced, place_held, place_marked, HasMore, name_at, names_at}
 use Rattle.std.proofs.lemmas.Iterator.Adapters.{position_from-zero}
 use Rattle.kt_graph.specs.declared.nodes.reached.ReachedNumbers.{ReachedNumbers}
 use Rattle.kt_list.proofs.PrefixLemmas.{slice_get-left}
@@ -104,9 +104,6 @@ no_mark (suc count) (suc n) = no_mark count n
 pub placed_none : (names : List Text) (numbers marks : List ℕ) (count : ℕ) → numbers ≡ [] → marks ≡ replicate count 0 → IsPlaced names numbers marks
 unfolding IsDistinct
 placed_none names numbers marks count none free = grind (arith, get_or, no_mark, All-nil, length)
-
-held_same : (old new : List ℕ) → HasSame old new → (found : Option ℕ) → place_held new found ≡ place_held old found
-held_same old new same found = grind arith
 
 -- ---- a name is reached
 

@@ -66,9 +66,6 @@ pub leaf_told : (suffixes : List Text) (name : Text) (rules : List (Entry × Tar
     → plain_node suffixes name [] false ≡ plain_node suffixes name rules phony
 leaf_told suffixes name rules phony is = grind arith
 
-abbrev node_from : Text → NodeKind → Part → Option Instance → Node
-node_from name kind part made_with = record { name = name; kind = kind; parts = part ∷ []; made_with = made_with }
-
 -- what a node with one part is
 pub single_told : (name : Text) (kind : NodeKind) (part : PartRecipe) (needs given : Needs) (making made_with : Option Instance) (expected : Part)
     → needs ≡ given → part_with name part given ≡ expected → making ≡ made_with

@@ -1,6 +1,6 @@
 -- A graph's vertices and the names that they are.
 use Rattle.std.proofs.Common.{rules, ◌≡◌, ℕ, ◌+◌, ◌<◌, Bool, true, false, ◌⊎◌, ⊎_elim, inl, inr, List, [], ◌∷◌, length, get_or, map, filter_map, find, cond, Option, None, Some, IfSome, option_map, slice_get, refl, sym, ap, ◌∙◌, subst, arith}
-use Rattle.kt_graph.proofs.Common.{Contains, cons_option, bytes_eq, false≢true, bytes_eq-Decides, get_or-map, length-map, map-append, All-contains, All-head, All-tail, Contains-append_cases, none-some, same_Some, slice_get-get_or, slice_get_within, at_place, Text, Entry, Edges, Instance as Held, StoredNode, AreEdgesOf, AreMadeBelow, AreNeededBelow, HasNext, IsEdge, LeadsBack, LeadsOn, LeadsTo, needed_numbers, Node, all_inputs, node_of, HasNumbers, AreBelow, AreOneMaking, HasEdge, HasInput, IsCyclic, IsGraph, IsInGroup, IsReached, Leads, Reaches, itself, beside, instance_at, instance_view, name_at, names_at, node_at, node_view, nodes_view, first_or_rest, in_first, in_rest, NodeTable}
+use Rattle.kt_graph.proofs.Common.{Contains, cons_option, bytes_eq, false≢true, bytes_eq-Decides, get_or-map, length-map, map-append, All-contains, All-head, All-tail, Contains-append_cases, none-some, same_Some, slice_get-get_or, slice_get_within, at_place, Text, Entry, Edges, Instance as Held, StoredNode, AreEdgesOf, AreNeededBelow, HasNext, IsEdge, LeadsBack, LeadsOn, LeadsTo, needed_numbers, Node, all_inputs, node_of, HasNumbers, AreBelow, AreOneMaking, HasEdge, HasInput, IsCyclic, IsGraph, IsInGroup, IsReached, Leads, Reaches, itself, beside, instance_at, instance_view, name_at, names_at, node_at, node_view, nodes_view, first_or_rest, in_first, in_rest, NodeTable}
 use Rattle.kt_graph.specs.nodes.Node.{Instance}
 use Rattle.kt_graph.specs.inner.nodes.Graph.{IsWhole}
 use Rattle.kt_graph.proofs.lemmas.faults.CircleLemmas.{Reaches-join, Reaches-none, Reaches-step, on_step, on_more}
@@ -83,9 +83,6 @@ module _ (table : NodeTable) (order : List ℕ) (whole : IsWhole table order) wh
 
   pub node_there : (number : ℕ) → number < length table.names → (node : StoredNode) × (slice_get table.nodes number ≡ Some node)
   node_there number within = let long = whole.as_many in at_place table.nodes number (omega arith)
-
-  pub made_below : AreMadeBelow (length table.instances) table.nodes
-  made_below k d within = (whole.held.numbers k d within).made_with
 
   pub needed_in : (number : ℕ) (node : StoredNode) (to : ℕ) → slice_get table.nodes number ≡ Some node → Contains (needed_numbers node) to → to < length table.names
   needed_in number node to at has = ⊎_elim

@@ -68,9 +68,6 @@ found_some rules name expected (Some candidate) is =
 
 -- a candidate of the definitions has its rule, and is last exactly if its rule is terminal
 module _ (rules : List Entry) (name : Text) (candidate : HeldCandidate) (told : Candidate) where
-  pub told_rule : candidate_view rules name candidate ≡ Some told → candidate.rule ≡ told.rule
-  told_rule e = grind (arith, none-some)
-
   pub told_last : candidate_view rules name candidate ≡ Some told → (b : Bool) → IfSome (slice_get rules candidate.rule) (λ rule. b ≡ is_terminal rule.kind) → b ≡ told.is_last
   told_last e b h = grind (arith, none-some)
 

@@ -74,7 +74,7 @@ edges_from from numbers = map (λ to. (from, to)) numbers
 abbrev pub LeadToVertices : Edges → Type 0
 LeadToVertices edges = (from to : ℕ) → HasNext edges from to → to < vertex_count edges
 
--- the same edges, reversed
+-- the edges of the first, each of them reversed
 abbrev pub AreReversed : Edges → Edges → Type 0
 AreReversed edges reversed = (from to : ℕ) → HasNext reversed from to ↔ HasNext edges to from
 

@@ -1,5 +1,0 @@
-use Rattle.kati.proofs.lemmas.AskedLemmas.{names_are_asked}
-use Rattle.kati.proofs.laws.names_are_asked.Goals as goal
-
-pub returns : goal.returns
-returns c = names_are_asked

@@ -1,5 +1,0 @@
-use Rattle.kati.proofs.lemmas.meaning.ExactLemmas.{are_graphs}
-use Rattle.kati.proofs.laws.plans_are_graphs.Goals as goal
-
-pub returns : goal.returns
-returns c = are_graphs

@@ -1,5 +1,0 @@
-use Rattle.kati.proofs.lemmas.meaning.ReadBackLemmas.{read_back}
-use Rattle.kati.proofs.laws.plans_read_back.Goals as goal
-
-pub returns : goal.returns
-returns c = read_back

@@ -1,6 +1,0 @@
-use Rattle.kati_args.proofs.Common.{clap_on_literals, is_separator}
-use Rattle.kati_args.proofs.laws.rows_of_lines.Goals as goal
-
-pub returns : goal.returns
-unfolding clap_on_literals is_separator
-returns c = assumption

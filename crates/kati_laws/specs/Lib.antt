@@ -1,0 +1,4 @@
+pub mod ArgumentRows
+pub mod Meaning
+pub mod Names
+pub mod Once

@@ -1,5 +1,0 @@
-use Rattle.kt_eval.proofs.lemmas.StoreLemmas.{agreeing_holds, holding_agrees}
-use Rattle.kt_eval.proofs.laws.agreement_is_of_each.Goals as goal
-
-pub returns : goal.returns
-returns c = record { agreeing = agreeing_holds; holding = holding_agrees }

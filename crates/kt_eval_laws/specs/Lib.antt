@@ -1,0 +1,5 @@
+pub mod Rows
+pub mod Arguments
+pub mod Doubling
+pub mod Agreement
+pub mod BarePlaces

@@ -1,5 +1,0 @@
-use Rattle.kt_graph.proofs.lemmas.nodes.GroupLaw.{are_groups}
-use Rattle.kt_graph.proofs.laws.groups_are_makings.Goals as goal
-
-pub returns : goal.returns
-returns c = are_groups

@@ -1,0 +1,2 @@
+pub mod ResolutionLemmas
+pub mod PartLemmas

@@ -1,5 +1,0 @@
-use Rattle.kt_ninja_reader.proofs.SpellingLemmas.{piece_law}
-use Rattle.kt_ninja_reader.proofs.laws.law_of_pieces.Goals as goal
-
-pub returns : goal.returns
-returns c = piece_law

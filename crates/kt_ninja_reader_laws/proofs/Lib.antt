@@ -1,0 +1,4 @@
+pub mod ContinuedLemmas
+pub mod LayoutLemmas
+pub mod SpellingLemmas
+pub mod PieceLemmas

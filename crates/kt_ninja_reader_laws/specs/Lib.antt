@@ -1,0 +1,4 @@
+pub mod Continued
+pub mod Layout
+pub mod Rows
+pub mod Spellings

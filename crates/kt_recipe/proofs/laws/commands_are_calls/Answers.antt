@@ -1,5 +1,0 @@
-use Rattle.kt_recipe.proofs.CommandLemmas.{command_law}
-use Rattle.kt_recipe.proofs.laws.commands_are_calls.Goals as goal
-
-pub returns : goal.returns
-returns c = command_law

@@ -1,6 +1,0 @@
-use Rattle.kt_recipe.proofs.PlainLemmas.{listing}
-use Rattle.kt_recipe.proofs.laws.rows_of_macros.Goals as goal
-
-pub returns : goal.returns
-unfolding listing
-returns c = assumption

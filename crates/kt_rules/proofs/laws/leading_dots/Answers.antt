@@ -1,5 +1,0 @@
-use Rattle.kt_rules.proofs.CutLemmas.{drops_dots}
-use Rattle.kt_rules.proofs.laws.leading_dots.Goals as goal
-
-pub returns : goal.returns
-returns c = drops_dots

@@ -1,5 +1,0 @@
-use Rattle.kt_rules.proofs.NumberLemmas.{numbers_tell}
-use Rattle.kt_rules.proofs.laws.numbers_of_explicit_rules.Goals as goal
-
-pub returns : goal.returns
-returns c = numbers_tell

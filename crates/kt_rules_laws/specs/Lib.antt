@@ -1,0 +1,5 @@
+pub mod BookRows
+pub mod HeadWords
+pub mod Rows
+pub mod Book
+pub mod Cuts

@@ -1,0 +1,14 @@
+pub mod AssignmentLemmas
+pub mod CommentTextLemmas
+pub mod CondensedLines
+pub mod MaskLaw
+pub mod MaskRuns
+pub mod ModifierPlaces
+pub mod OneSplicing
+pub mod RecipeTextLemmas
+pub mod SemicolonLemmas
+pub mod SignLemmas
+pub mod SplicingLemmas
+pub mod StopLemmas
+pub mod StopPlaces
+pub mod Unique

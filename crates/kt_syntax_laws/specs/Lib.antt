@@ -1,0 +1,10 @@
+pub mod Assignments
+pub mod BlockRows
+pub mod CommentTexts
+pub mod Condensed
+pub mod Masked
+pub mod Modifiers
+pub mod RecipeCuts
+pub mod RecipeTexts
+pub mod Rows
+pub mod Signs

@@ -1,0 +1,11 @@
+pub mod CondensingLemmas
+pub mod CuttingLemmas
+pub mod GapLemmas
+pub mod LineTextLemmas
+pub mod NewlineLemmas
+pub mod OneCondensing
+pub mod TrimLemmas
+pub mod Numbers
+pub mod Places
+pub mod GroupLemmas
+pub mod SortLemmas

@@ -1,0 +1,3 @@
+pub mod Condensing
+pub mod Rows
+pub mod Sorted

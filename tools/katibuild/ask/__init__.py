@@ -1,0 +1,1 @@
+"""GNU make: reads the graph and the recipes of a makefile from make itself."""

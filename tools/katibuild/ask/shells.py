@@ -1,0 +1,98 @@
+"""The shells of targets and patterns, and makefiles whose SHELL cannot be replaced."""
+from __future__ import annotations
+
+import os
+import re
+from typing import Iterable, Iterator, List, Mapping, Optional, Tuple
+
+from ..base.files import read, text_of
+from ..base.message import Place
+from ..base.stop import Stop
+from .answer import Reading
+from .database import Database, Variable
+from .question import Question
+
+REFERENCE = re.compile(r"\$(?:\(([\w.-]+)\)|\{([\w.-]+)\})")
+EVAL = re.compile(r"\$[({]eval\b")
+SETS_SHELL = re.compile(r"(?:^|[\s:(,])\.?SHELL(?:FLAGS)?\s*(?:[:+?!]{0,3}=|\n)", re.MULTILINE)
+BARE_SHELL = re.compile(r"(?<![\w.$({])\.?SHELL(?:FLAGS)?\b")
+COMPUTED = re.compile(r"\$[({]eval\s+(?:(?:override|export|private)\s+)*\$")   # the name that is set is computed
+DEPTH = 10                    # of variables that name variables
+OF_COMMAND_LINE = frozenset(("MAKEFLAGS", "MAKEOVERRIDES", "MFLAGS", "-*-command-variables-*-"))
+HELP = "set SHELL outside of recipes"
+
+
+def own_of(reading: Reading) -> Tuple[Variable, ...]:
+    """The SHELL of each target and pattern that has its own, expanded."""
+    found = reading.database
+    own = (one for one in found.of_targets if one.name == "SHELL")
+    return tuple(one._replace(value=expanded(one, found.variables) or "/bin/sh") for one in own)
+
+
+def all_of(reading: Reading) -> List[str]:
+    """Every SHELL that a recipe may get; the makefile's own comes first."""
+    return [reading.shell, *(one.value for one in own_of(reading))]
+
+
+def expanded(variable: Variable, variables: Mapping[str, Variable]) -> str:
+    """The value of a SHELL; stops with status 2 if it needs more than plain variables."""
+    text = variable.value
+    for _ in range(DEPTH):
+        if not variable.is_deferred or "$" not in text:
+            return text.strip()
+        text = REFERENCE.sub(lambda found: value_of(found.group(1) or found.group(2), variables), text)
+    raise Stop(f"the SHELL of '{variable.target}' is known only when its recipe runs", place=variable.place,
+               help=f"write {variable.target}: SHELL := PROGRAM")
+
+
+def value_of(name: str, variables: Mapping[str, Variable]) -> str:
+    """The value of a global variable, unexpanded; a name that is unknown is left in place, and so refused."""
+    one = variables.get(name)
+    return one.value if one is not None else ""
+
+
+def refuse_foreign(question: Question, reading: Reading) -> None:
+    """Stops with status 2 if a recipe may set a SHELL by `eval`, or MAKEFLAGS sets one.
+
+    Lines that make runs under `-n` would then run for real, or with another shell than make tells.
+    """
+    found = reading.database
+    shell = found.variables.get("SHELL")
+    if shell is not None and shell.origin == "command line" and "SHELL" not in reading.given:
+        raise Stop("MAKEFLAGS sets SHELL", place=place_in(question.folder, reading.makefiles), help=HELP)
+    if shell is not None and (expanded(shell, found.variables) or "/bin/sh") != reading.shell:
+        raise Stop("SHELL is set by $(eval) when make has read all makefiles", place=shell.place, help=HELP)
+    texts = [(text, place) for text, place in late_texts(found) if "eval" in text and EVAL.search(text)]
+    if not texts:
+        return
+    setting = any(SETS_SHELL.search(one.value) for one in found.variables.values()
+                  if "SHELL" in one.value and one.name not in OF_COMMAND_LINE)
+    values = (one.value for one in found.variables.values()
+              if one.origin not in ("default", "environment") and one.name not in OF_COMMAND_LINE)
+    named = (*(text for text, _ in late_texts(found)), *values)
+    is_named = any(BARE_SHELL.search(text) for text in named if "SHELL" in text)
+    for text, place in texts:
+        if setting or SETS_SHELL.search(text) or is_named and COMPUTED.search(text):
+            raise Stop("a recipe sets SHELL by $(eval)", place=place, help=HELP)
+
+
+def late_texts(found: Database) -> Iterator[Tuple[str, Optional[Place]]]:
+    """What make expands after it has read the makefiles: recipes, deferred variables, prerequisites expanded twice."""
+    rules: Iterable = (rule for some in (*found.rules.values(), found.patterns) for rule in some)
+    for rule in rules:
+        for line in rule.recipe:
+            yield line, rule.place
+        yield " ".join((*rule.inputs, *rule.order_only)), rule.place
+    for one in (*found.variables.values(), *found.of_targets):
+        if one.is_deferred and one.origin not in ("default", "environment"):
+            yield one.value, one.place
+
+
+def place_in(folder: str, makefiles: Iterable[str]) -> Optional[Place]:
+    """The first line that names MAKEFLAGS and SHELL: make itself does not tell where MAKEFLAGS was set."""
+    for name in makefiles:
+        text = text_of(read(os.path.join(folder, name)) or b"")
+        for number, line in enumerate(text.split("\n"), 1):
+            if "MAKEFLAGS" in line and "SHELL" in line:
+                return Place(name, number)
+    return None

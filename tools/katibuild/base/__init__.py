@@ -1,0 +1,1 @@
+"""The operating system: files, programs, signals and messages. Nothing here knows of makefiles."""

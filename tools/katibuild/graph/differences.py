@@ -1,0 +1,51 @@
+"""Where Ninja differs from make, with places."""
+from __future__ import annotations
+
+import re
+from typing import Callable, Dict, Iterator, List
+
+from ..ask.answer import Answer, Rule
+from .node import Difference, Graph
+from .order import makes_folder
+from .walk import key_of
+
+NEWER = re.compile(r"(?<!\$)(?:\$\$)*\$(?:\?|[({]\?[DF]?[)}])")
+
+
+def differences(answer: Answer, graph: Graph, exists: Callable[[str], bool]) -> Iterator[Difference]:
+    """The differences of a graph, in the order of its nodes; each by the rule that it comes from."""
+    rules: Dict[str, List[Rule]] = {}
+    for rule in answer.rules:
+        if rule.is_target:
+            rules.setdefault(key_of(rule.targets[0]), []).append(rule)
+    between = set(names_between(graph, exists))
+    for place in dict.fromkeys(line.place for line in answer.lines if not line.is_mark_known):
+        yield Difference("whether make ignores failures of all lines of a recipe is not known: Ninja stops", place)
+    for name, node in graph.nodes.items():
+        is_file = bool(node.commands) and not makes_folder(name, node, lambda one: False)
+        for text in of_rules(name, rules.get(name, []), is_file):
+            yield Difference(text, node.place)
+        if name in between:
+            yield Difference(f"'{name}' has no file and no recipe: what needs it is rebuilt only if a prerequisite "
+                             "is newer, by make each time", node.place)
+
+
+def of_rules(name: str, rules: List[Rule], is_file: bool) -> Iterator[str]:
+    """What differs by the rules of one target."""
+    recipes = [line for rule in rules for line in rule.recipe]
+    if any("?" in line and NEWER.search(line) for line in recipes):
+        yield f"'$?' in the recipe of '{name}' is all prerequisites"
+    if sum(rule.is_double_colon for rule in rules) > 1:
+        yield f"the rules of '{name}' with '::' run all or none"
+    if is_file and any(rule.is_intermediate for rule in rules):
+        yield f"'{name}' is an intermediate file of several: it stays, and if it is absent, it is made again"
+
+
+def names_between(graph: Graph, exists: Callable[[str], bool]) -> Iterator[str]:
+    """Names without a file and a recipe between files: Ninja takes them for their prerequisites."""
+    for node in graph.nodes.values():
+        for name in node.inputs if node.commands and not node.is_phony else ():
+            other = graph.nodes.get(name)
+            if other is not None and other.inputs and not other.commands and not other.is_left and \
+                    (other.is_phony or not exists(name)):
+                yield name

@@ -1,0 +1,199 @@
+"""Runs the stages once: from a request and the record of before to build.ninja."""
+from __future__ import annotations
+
+import os
+import shlex
+from typing import Callable, FrozenSet, Iterable, NamedTuple, Optional, Sequence
+
+from ..ask.question import Question, environment_of
+from ..base import files, message
+from ..base.message import Message
+from ..base.paths import ninja_name
+from ..base.stop import Status, Stop
+from ..graph import writer
+from ..graph.writer import GraphFile
+from ..ninja import as_made, blocks, kati, top
+from ..ninja.statement import NinjaText
+from ..ninja.top import PhonyGoal
+from . import asked, environment, folder, goals, stale, turns
+from .asked import Asked
+from .record import BuildRecord, save
+from .run import Run, statements_of, tools_digest
+from .stale import Changes
+
+
+class Written(NamedTuple):
+    """A translation: its record, and whether Ninja has statements to run that it had not before."""
+
+    record: BuildRecord
+    is_new: bool
+
+
+def translate(run: Run, record: Optional[BuildRecord], changes: Optional[Changes] = None) -> Written:
+    """Reads the makefile, and writes what Ninja reads; stops before anything is written if a stage fails.
+
+    `changes` are given in a later round: what the build has changed since the last reading.
+    """
+    known = turns.unedited(run.place.times, record)
+    found = asked.ask(question_of(run, record), record, known, run.is_debug)
+    refuse_differences(found, run)
+    made = writer.write(found.graph)
+    is_same = files.read(run.place.graph) == made.text
+    before = statements_of(run.place) if record is not None and is_own(run, record) else None
+    text = before if is_same and before is not None else by_kati(run, made)
+    new = record_of(run, record, found, made, text)
+    if is_same and changes is not None:
+        new = without_effect(new, record, changes)
+    lines = log_lines(run, record, found, text, before, changes)
+    write(run, new, made, with_blocks(found, text), goals.phony_goals(run, found, text))
+    return Written(new, has_news(before, text, lines))
+
+
+def log_lines(run: Run, record: Optional[BuildRecord], found: Asked, text: NinjaText, before: Optional[NinjaText],
+              changes: Optional[Changes]) -> FrozenSet[str]:
+    """Writes lines for outputs that count as made to Ninja's log; answers the outputs that need not run for a text."""
+    seen = turns.seen_before(record, folder.other_outputs(run.place))
+    commands = {} if run.is_anew else turns.taken(found, text, seen)
+    is_only_built = before is not None and changes is not None and record is not None and not users_own(record, found)
+    log = turns.log_of(run.programs) if commands or before is not None else None
+    if log is None:
+        return frozenset()
+    lines = turns.as_taken(commands, log)
+    if lines:
+        message.say(Message(f"{counted(lines)} taken as make left {'it' if len(lines) == 1 else 'them'} "
+                            "(kati-build --anew rebuilds)"))
+    needs_run = is_late(record, found, text)
+    if is_only_built:
+        lines.update(as_made.same_build(before, text, log, needs_run))
+    lines.update(as_made.of_folders(text, log, turns.time_of_folder))
+    turns.add(log, lines)
+    return frozenset(lines).union(as_made.always_run(before, text, needs_run) if is_only_built else ())
+
+
+def is_late(record: Optional[BuildRecord], found: Asked, text: NinjaText) -> Callable[[str], bool]:
+    """Tells of an output whether its new text must run: its recipe asks the machine, or it needs a makefile that the
+    build itself has made anew, which make would have read before."""
+    before, now = record.dependencies.files if record else {}, found.dependencies.files
+    anew = {name for name in set(record.made_includes).intersection(record.outputs) if name in before
+            and stale.is_other(before[name], now.get(name), False)} if record else set()
+    users = {output for one in text.statements if anew.intersection(one.inputs) for output in one.outputs}
+    asks = turns.is_late(found.answer)
+    return lambda output: output in users or asks(output)
+
+
+def counted(names: Iterable[str]) -> str:
+    """`x.c is`, or `12 files are`."""
+    found = list(names)
+    return f"{found[0]} is" if len(found) == 1 else f"{len(found)} files are"
+
+
+def users_own(record: BuildRecord, found: Asked) -> bool:
+    """Whether this reading saw something of the user's that the one before did not: no product of the build.
+
+    What was saved while make read counts, too. So the states of this reading are compared, not those before it.
+    """
+    made = {*record.outputs, *record.made_includes, *record.hidden, *record.written_while_read}
+    before, now = record.dependencies, found.dependencies
+    others = (name for name, state in now.files.items() if name in before.files and name not in made
+              and before.files[name] is not None and stale.is_other(before.files[name], state, False))
+    return any(others) or before.git != now.git
+
+
+def without_effect(new: BuildRecord, record: BuildRecord, changes: Changes) -> BuildRecord:
+    """The record in which products that only reading opened are no dependencies: another product, the same graph."""
+    quiet = set(record.without_effect)
+    if changes.files and not changes.folders and set(changes.files) <= set(record.outputs):
+        quiet.update(changes.files)
+    return new._replace(without_effect=tuple(sorted(quiet)))
+
+
+def with_blocks(found: Asked, text: NinjaText) -> bytes:
+    """The statements with depfiles, `restat` and descriptions; a check holds them against kati's text."""
+    depfiles = {output: path for path, output in found.hidden.items()}
+    return blocks.with_blocks(text, blocks.added(text, found.graph, depfiles, os.path.isfile), found.hidden)
+
+
+def question_of(run: Run, record: Optional[BuildRecord]) -> Question:
+    """What make is asked. A plain ninja knows no variables: those of the record hold."""
+    given = environment_of(run.environ)
+    if run.is_by_ninja and record is not None:
+        given = environment.restored(given, record.dependencies.environment)
+    return Question(os.getcwd(), run.request.makefile, run.request.goals, run.request.variables, given,
+                    run.programs.make)
+
+
+def refuse_differences(found: Asked, run: Run) -> None:
+    """Stops with status 5 if Ninja would build something else than make, unless the user wants that."""
+    for one in found.graph.differences:
+        if not one.is_by_nature and not run.is_forced:
+            raise Stop(one.text, Status.DIFFERENT, place=one.place, help="kati-build --force builds all the same")
+
+
+def by_kati(run: Run, made: GraphFile) -> NinjaText:
+    """kati's text for the graph. A fault there is a fault of the tools."""
+    found = kati.translate(run.programs, made, made.goals)
+    if isinstance(found, kati.Fault):
+        raise Stop(f"kati refuses the graph: {found.text}", Status.INTERNAL, place=found.place)
+    return found
+
+
+def has_news(before: Optional[NinjaText], now: NinjaText, logged: FrozenSet[str]) -> bool:
+    """Whether a statement is new, or has other inputs or another command than before, and is not in the log."""
+    known = {one.outputs: one[3:] for one in before.statements} if before else {}
+    return any(known.get(one.outputs) != one[3:] and one.outputs[0] not in logged for one in now.statements)
+
+
+def record_of(run: Run, earlier: Optional[BuildRecord], found: Asked, made: GraphFile,
+              translated: NinjaText) -> BuildRecord:
+    """What is remembered of a translation."""
+    outputs = tuple(sorted({name for one in translated.statements if not one.is_phony for name in one.outputs}))
+    seen = set(earlier.seen_outputs if earlier else ()).union(outputs)
+    absent = tuple(sorted({ninja_name(one.path) for one in found.answer.includes if not one.is_present}
+                          - set(found.hidden)))
+    return BuildRecord(
+        run.request, found.dependencies, outputs, found.hidden, visible=tuple(sorted(found.visible)),
+        absent_includes=absent, seen_outputs=tuple(sorted(seen)), separated=earlier.separated if earlier else (),
+        written_while_read=tuple(sorted(found.written)), graph_sha256=files.digest(made.text),
+        made_includes=tuple(ninja_name(one.path) for one in found.answer.includes if one.has_rule),
+        differences=tuple(f"{one.place}: {one.text}" if one.place else one.text for one in found.graph.differences),
+        tools_sha256=tools_digest(run.programs))
+
+
+def is_own(run: Run, record: BuildRecord) -> bool:
+    """Whether the statements are those that the record's run has written."""
+    written = record.dependencies.files.get(run.place.statements)
+    return written is not None and written.sha256 == files.file_digest(run.place.statements)
+
+
+def write(run: Run, record: BuildRecord, made: GraphFile, statements: bytes, more: Sequence[PhonyGoal]) -> None:
+    """Writes the files of a translation; build.ninja is the last that Ninja reads, and the look behind it.
+
+    The statements come before the graph: a graph that is there vouches for them. What is written is watched, too.
+    """
+    place = run.place
+    folder.write_scripts(made.scripts.items())
+    is_new = files.replace(place.statements, statements)
+    files.replace(place.graph, made.text)
+    names = (place.statements, place.graph, *(f"{folder.RUN}/{name}" for name in made.scripts))
+    own = {name: stale.file_state(name) for name in names}
+    depends = record.dependencies._replace(files={**record.dependencies.files, **own})
+    data = top.text(look_command(run, record), more, top.Paths(place.ninja_file, place.statements, folder.ROOM))
+    record = record._replace(dependencies=depends, ninja_sha256=files.digest(data))
+    save(place.record, record)
+    if not files.replace(place.ninja_file, data) and is_new:
+        os.utime(place.ninja_file)               # Ninja reads all anew only if this file has another time
+    folder.delete_unused_scripts()
+    settle(place, record)
+
+
+def look_command(run: Run, record: BuildRecord) -> str:
+    """What build.ninja runs at each start of ninja: a shell line, and kati-build if that fails."""
+    python = " ".join(map(shlex.quote, (*run.look, run.place.room)))
+    return python if record.dependencies.git else f"{stale.shell_line(run.place.room)} || {python}"
+
+
+def settle(place: folder.Place, record: BuildRecord) -> None:
+    """Lets the look start from the folders as they are now: writing build.ninja has changed the time of one."""
+    found = stale.changes(record)
+    if not found.reasons:
+        stale.settle(place.room, record, found.now)

@@ -1,0 +1,186 @@
+"""What counts as made although Ninja did not make it: lines for Ninja's log.
+
+Outputs that exist before their statements do and that make would leave alone, outputs that make has rebuilt since, and
+statements whose text alone says something else, as make never rebuilds for a text.
+"""
+from __future__ import annotations
+
+import json
+import os
+import re
+from typing import Callable, Dict, FrozenSet, Iterable, List, Mapping, Optional, Set, TYPE_CHECKING, Tuple
+
+from ..ask.answer import Answer
+from ..base import files
+from ..base.paths import ninja_name
+from ..base.programs import Programs
+from ..ninja import as_made, log
+from ..ninja.log import Entry, Log
+from ..ninja.statement import NinjaText
+from . import folder
+from .folder import Place
+from .record import BuildRecord
+from .run import Run, statements_of
+
+if TYPE_CHECKING:
+    from .asked import Asked
+
+ASKS = re.compile(r"\$[({](?:shell|wildcard|file|realpath)\b")
+WORD = re.compile(r"[\w.-]+")
+
+
+# -- what exists before its statement ---------------------------------------------------------------------------------
+
+def taken(found: Asked, text: NinjaText, seen: FrozenSet[str]) -> Dict[str, str]:
+    """The outputs that count as made, with their commands.
+
+    `seen` are the outputs of all readings of this folder so far. An output that is new to them and that exists is
+    asked of make, which knows times and depfiles: half-written files and stale ones are rebuilt.
+    """
+    outputs = {name for one in text.statements if not one.is_phony for name in one.outputs}
+    present = {name for name in outputs - seen if os.path.isfile(name) and name not in found.answer.made}
+    if not present:
+        return {}
+    return as_made.to_log(text, present, remade(found))
+
+
+def remade(found: Asked) -> FrozenSet[str]:
+    """The names that make would make now, as Ninja spells them."""
+    # loaded here alone: most runs ask nothing of make
+    from ..ask import asking
+    return frozenset(archive_of(name) for name in asking.remade(found.question, found.reading))
+
+
+def archive_of(name: str) -> str:
+    """`lib.a` of a member `lib.a(x.o)`."""
+    return os.path.normpath(name.partition("(")[0] if name.endswith(")") else name)
+
+
+def seen_before(record: Optional[BuildRecord], others: FrozenSet[str]) -> FrozenSet[str]:
+    """The outputs that a reading of this folder has had, of these goals or of others."""
+    return others.union(record.seen_outputs if record else ())
+
+
+# -- recipes that ask the machine --------------------------------------------------------------------------------------
+
+def is_late(answer: Answer) -> Callable[[str], bool]:
+    """Tells of an output whether its recipe, or a deferred variable that it names, asks the machine."""
+    asking = asking_variables(answer)
+    recipes: Dict[str, List[str]] = {}
+    for rule in answer.rules:
+        recipes.setdefault(ninja_name(rule.targets[0]), []).extend(rule.recipe)
+
+    def late(output: str) -> bool:
+        return any(ASKS.search(line) or asking.intersection(WORD.findall(line))
+                   for line in recipes.get(output, ()) if "$" in line)
+
+    return late
+
+
+def asking_variables(answer: Answer) -> FrozenSet[str]:
+    """The deferred variables that ask the machine each time they are used, through others too."""
+    words = {name: set(WORD.findall(answer.variables[name])) for name in answer.deferred
+             if "$" in answer.variables.get(name, "")}
+    found = {name for name in words if ASKS.search(answer.variables[name])}
+    used_by: Dict[str, Set[str]] = {}
+    for name, some in words.items():
+        for word in some & words.keys():
+            used_by.setdefault(word, set()).add(name)
+    work = list(found)
+    while work:
+        for name in used_by.get(work.pop(), set()) - found:
+            found.add(name)
+            work.append(name)
+    return frozenset(found)
+
+
+# -- the log -----------------------------------------------------------------------------------------------------------
+
+def log_of(programs: Programs) -> Optional[Log]:
+    """Ninja's log of this folder; None if this ninja's log is of no known kind."""
+    data = files.read(folder.LOG)
+    kinds = [log.Kind(*one) for one in log.HEADS if data is not None and data.startswith(one[0] + b"\n")]
+    kind = kinds[0] if kinds else log.kind_of(programs)
+    return None if kind is None else log.read(data, kind)
+
+
+def add(found: Log, made: Mapping[str, Entry], gone: Iterable[str] = ()) -> None:
+    """Writes lines to the log, and deletes those of outputs that are gone."""
+    if made or gone:
+        files.replace(folder.LOG, log.with_lines(found, made, gone))
+
+
+def as_taken(commands: Mapping[str, str], found: Log) -> Dict[str, Entry]:
+    """The lines of outputs that count as made, each with its own time, unless the log has them."""
+    times = {name: time_of(name) for name in commands if name not in found.entries}
+    return log.lines({name: commands[name] for name, time in times.items() if time is not None},
+                     {name: time for name, time in times.items() if time is not None}, found.kind)
+
+
+def time_of(name: str) -> Optional[int]:
+    """The time of a file in nanoseconds; None if it is absent."""
+    try:
+        return os.stat(name).st_mtime_ns
+    except OSError:
+        return None
+
+
+def time_of_folder(name: str) -> Optional[int]:
+    """The time of a folder in nanoseconds; None if there is none."""
+    return time_of(name) if os.path.isdir(name) else None
+
+
+def times(outputs: Iterable[str]) -> Dict[str, int]:
+    """The times of the outputs that are files."""
+    found = {name: time_of(name) for name in outputs}
+    return {name: time for name, time in found.items() if time is not None}
+
+
+def remember(path: str, record: Optional[BuildRecord]) -> None:
+    """Writes the times of all outputs as ninja left them."""
+    if record is not None:
+        files.replace(path, json.dumps(times(record.outputs)).encode())
+
+
+def remembered(path: str) -> Dict[str, int]:
+    """The times that `remember` wrote."""
+    try:
+        found = json.loads(files.read(path) or b"{}")
+    except ValueError:
+        return {}
+    return found if isinstance(found, dict) else {}
+
+
+def unedited(path: str, record: Optional[BuildRecord]) -> FrozenSet[str]:
+    """The outputs that are as ninja's last run left them, or absent. Others may be the user's now: a file without
+    inputs, as config.h, is edited after it was made, and make would never make it again."""
+    if record is None:
+        return frozenset()
+    before = remembered(path)
+    return frozenset(name for name in record.outputs if time_of(name) in (None, before.get(name)))
+
+
+def take_turn(run: Run, record: BuildRecord) -> None:
+    """Gives outputs that make has rebuilt since ninja ran their new times, so that Ninja does not rebuild them.
+
+    make has done nothing if no output has another time than after ninja's last run.
+    """
+    before = remembered(run.place.times)
+    text = statements_of(run.place)
+    if text is None or times(record.outputs) == before:
+        return
+    found = log_of(run.programs)
+    if found is not None:
+        named: Dict[str, List[str]] = {output: as_made.names_in_depfile(files.read(path) or b"")
+                                       for path, output in record.hidden.items()}
+        turn = as_made.by_turns(text, found, time_of, named, before)
+        add(found, turn.made, turn.gone)
+
+
+def torn(place: Place, record: BuildRecord) -> Tuple[str, ...]:
+    """The outputs of joined targets of which one is absent after the build, and that were not separated before."""
+    text = statements_of(place)
+    joined = [one.outputs for one in text.statements if not one.is_phony and len(one.outputs) > 1] if text else []
+    apart = frozenset(record.separated)
+    return tuple(name for outputs in joined if not all(map(os.path.lexists, outputs))
+                 for name in sorted(outputs, key=os.path.lexists, reverse=True) if name not in apart)

@@ -1,0 +1,1 @@
+"""Ninja: its text, its log and its program."""

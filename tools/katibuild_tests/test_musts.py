@@ -1,0 +1,138 @@
+"""What must be as with make: trees in which an earlier kati-build harmed a file, or built something stale."""
+from __future__ import annotations
+
+import unittest
+
+from sequences import MAKE, NINJA, Compared, Sequence, Step
+
+C = {"a.c": "int f(void){return 1;}\n", "b.c": "int g(void){return 2;}\n", "h.h": "#define H 3\n",
+     "m.c": "#include \"h.h\"\nint f(void);int main(void){return H+f();}\n"}
+HEADER = "echo '#define H %d' > h.h"
+WITH_DEPFILES = "prog: m.o a.o\n\t@@ cc -o $@ $^\n%.o: %.c\n\t@@ cc -MMD -c -o $@ $<\n-include $(wildcard *.d)\n"
+CONFIGURE = "#!/bin/sh\necho WITH = ${1:-defaults} > config.mak\n"
+
+
+def header(number, by, **more):
+    """A step in which a header changes."""
+    return Step(HEADER % number, by=by, **more)
+
+
+SEQUENCES = (
+    Sequence("config.h that the user edits, and other flags", {
+        "Makefile": "CFLAGS = -O1\nprog: prog.c config.h\n\t@@ $(CC) $(CFLAGS) -o $@ prog.c\n"
+                    "config.h: ; @@ cp config.def.h config.h\n",
+        "prog.c": "#include \"config.h\"\nint main(void){return COLOUR;}\n", "config.def.h": "#define COLOUR 1\n"}, (
+            Step(), Step("echo '#define COLOUR 42' > config.h"), Step("echo '#define COLOUR 43' > config.h", by=NINJA),
+            Step("echo '#define COLOUR 44' > config.h", environment={"CFLAGS": "-g"}),
+            Step(may_run=("prog",), apart=("prog",)), Step("rm config.h"),
+            Step("echo '/* def */' > config.def.h", by=NINJA),
+            Step("echo '#define COLOUR 45' > config.h; sed -i s/-O1/-O0/ Makefile; touch *.c"), Step())),
+    Sequence("an object whose recipe makes a folder", {
+        "Makefile": "p: m.o\n\t@@ cc -o $@ $^\nm.o: m.c\n\t@@ mkdir -p .depend; cc -MMD -MF .depend/m.d -c -o $@ m.c\n"
+                    "-include .depend/m.d\n", "m.c": "int main(void){return 0;}\n"}, (
+            Step(), Step("echo >> m.c", by=NINJA), Step())),
+    Sequence("a folder that a rule makes by mkdir, and other flags", {
+        "Makefile": "prog: .o .o/a\n\t@@ cat .o/a > $@\n.o:\n\t@@ mkdir .o\n"
+                    ".o/a: a | .o\n\t@@ cp a $@\n", "a": "1\n"}, (
+            Step(), Step(words=("X=1",), may_run=("prog", ".o/a")), Step("echo 2 > a", words=("X=1",)))),
+    Sequence("config.h of the user, from the first build on", {
+        "Makefile": "prog: prog.c config.h\n\t@@ cat prog.c config.h > $@\nconfig.h: ; @@ cp config.def.h config.h\n",
+        "prog.c": "p\n", "config.def.h": "def\n", "config.h": "mine\n"}, (
+            Step(), Step("echo mine too > config.h"), Step("echo p2 > prog.c", by=NINJA))),
+    Sequence("./configure as the rule says", {
+        "Makefile": "include config.mak\nprog: a.c\n\t@@ echo built with $(WITH) > prog\n"
+                    "config.mak: configure\n\t@echo please run ./configure; exit 1\n",
+        "configure": CONFIGURE, "a.c": ""}, (
+            Step("chmod +x configure; ./configure extra"), Step("touch configure; sleep 0.02; ./configure extra"),
+            Step("touch configure; sleep 0.02; ./configure other; echo > a.c"), Step(by=NINJA))),
+    Sequence("a rule and its file come by a pull", {
+        "Makefile": "prog: a.c\n\t@@ cat a.c > $@\n", "a.c": "a\n"}, (
+            Step(), Step("printf 'prog: a.c p.c\\n\\tcat a.c p.c > $@\\np.c: p.y\\n\\tcp p.y p.c\\n' > Makefile; "
+                         "echo y > p.y; sleep 0.02; echo shipped > p.c; touch a.c"),
+            Step("sleep 0.02; echo y2 > p.y", by=NINJA))),
+    Sequence("a recipe fails and leaves half a file", {
+        "Makefile": "prog: a\n\techo half > $@; test -f ok; cat a >> $@\n", "a": "a\n"}, (
+            Step(), Step("touch ok; rm -f prog"), Step("echo b >> a"))),
+    Sequence("a half-written file before the first build", {
+        "Makefile": "prog: a\n\t@@ cat a > $@\n", "a": "a\n"}, (
+            Step("echo half > prog; sleep 0.02; touch a"), Step())),
+    Sequence("a tree that make built", {"Makefile": WITH_DEPFILES, **C}, (
+        Step("make -s; echo > ../log"), header(4, NINJA), Step("echo >> a.c"))),
+    Sequence("a tree that make built, and an edited header", {"Makefile": WITH_DEPFILES, **C}, (
+        Step("make -s; sleep 0.02; " + HEADER % 5), Step())),
+    Sequence(".depend where it exists", {
+        "Makefile": "all: .depend prog\n.depend: m.c a.c\n\t@@ cc -MM m.c a.c > $@\nifneq ($(wildcard .depend),)\n"
+                    "include .depend\nendif\nprog: m.o a.o\n\t@@ cc -o $@ $^\n%.o: %.c\n\t@@ cc -c -o $@ $<\n", **C}, (
+            Step(), header(4, NINJA), header(5, NINJA), Step("echo '/**/' >> a.c", by=NINJA))),
+    Sequence("parser.c shipped, the makefile edited", {
+        "Makefile": "SRCS := $(wildcard *.c)\nprog: $(SRCS:.c=.o)\n\t@@ cat $^ > $@\n%.o: %.c\n\t@@ cp $< $@\n"
+                    "parser.c: parser.y\n\t@@ cp $< $@\n", "a.c": "a\n", "parser.y": "p\n"}, (
+            Step("sleep 0.02; echo shipped > parser.c"), Step("echo '# x' >> Makefile"),
+            Step("echo a2 > a.c", by=NINJA), Step("echo p2 > parser.y"))),
+    Sequence("y.c y.h of one recipe, y.h after y.c", {
+        "Makefile": "all: p\np: y.c y.h\n\t@@ cat y.c y.h > p\ny.c y.h: g.y\n\techo c > y.c; echo h > y.h\n"
+                    "y.h: y.c\n", "g.y": ""}, (Step(), Step("touch g.y"), Step())),
+    Sequence("y.c shipped, y.h not needed", {
+        "Makefile": "all: p\np: y.c\n\t@@ cat y.c > p\ny.c y.h: g.y\n\t@@ cp g.y y.c; cp g.y y.h\n",
+        "g.y": "1\n"}, (Step("sleep 0.02; echo shipped > y.c"), Step(), Step("sleep 0.02; echo 2 > g.y"))),
+    Sequence("a file that is written only if it changes", {
+        "Makefile": "prog: a.o b.o\n\t@@ cat a.o b.o > prog\na.o b.o: config.h\n%.o: %.c\n\t@@ cat $< config.h > $@\n"
+                    "config.h: config.in\n\t@sed s/x/y/ config.in > tmp; cmp -s tmp config.h || cp tmp config.h\n",
+        "config.in": "x\n", "a.c": "1\n", "b.c": "1\n"}, (
+            Step(), Step("touch config.in"), Step("touch config.in", by=NINJA), Step("echo x2 > config.in", by=NINJA),
+            Step("touch config.in", by=NINJA)), is_settled=False),
+    Sequence("header dependencies, by kati-build", {"Makefile": "export X=1\n" + WITH_DEPFILES, **C}, (
+        Step(), header(4, NINJA), header(5, NINJA), header(6, "build"), Step("echo '#include \"h.h\"' >> a.c"),
+        header(7, NINJA))),
+    Sequence("header dependencies, by turns", {"Makefile": "export X=1\n" + WITH_DEPFILES, **C}, (
+        Step(), header(4, MAKE), Step(), header(5, NINJA), Step(by=MAKE), header(6, MAKE), header(7, "build"),
+        Step("echo >> a.c; make -s a.o; echo >> m.c"), Step("touch m.c", by=MAKE), Step())),
+    Sequence("a source comes and goes", {
+        "Makefile": "SRCS := $(wildcard *.c)\nprog: $(SRCS:.c=.o)\n\t@@ cc -o $@ $^\n%.o: %.c\n"
+                    "\t@@ cc -MMD -c -o $@ $<\n-include $(SRCS:.c=.d)\n", **C}, (
+            Step(), Step("echo '#include \"h.h\"' > k.c", by=NINJA), header(5, NINJA),
+            Step("rm k.c", by=NINJA, apart=("prog",), may_run=("prog",)),
+            Step("rm -f k.o k.d; echo '#include \"h.h\"' > k.c"), header(6, "build"))),
+    Sequence("an always run recipe that leaves its file", {
+        "Makefile": "prog: a.c lua.h\n\t@@ cat a.c lua.h > $@\n"
+                    "lua.h: FORCE\n\t@echo 1 > tmp; cmp -s tmp $@ || cp tmp $@\nFORCE:\n", "a.c": "a\n"}, (
+            Step(), Step(), Step(by=NINJA), Step("echo b > a.c", by=NINJA)),
+        is_settled=False),
+    Sequence("older files of a checkout", {"Makefile": WITH_DEPFILES, **C}, (
+        Step("mkdir ../old; cp -p *.c *.h ../old"), Step("echo '#define H 9' > h.h; echo >> a.c"),
+        Step("cp ../old/* .", by=NINJA), Step("rm -r ../old"))),
+    Sequence("the text of a file that is built", {
+        "Makefile": "V := $(shell cat ver 2>/dev/null)\nall: ver out\nver: ver.in\n\t@@ cp $< $@\n"
+                    "out: ver\n\t@@ echo '[$(V)]' > $@\n", "ver.in": "1\n"}, (
+            Step(), Step(), Step("touch ver"), Step("echo 2 > ver.in"), Step("touch ver"))),
+    Sequence("an intermediate source", {
+        "Makefile": "SRCS := $(wildcard *.c)\nOBJS := $(SRCS:.c=.o) gram.o\nprog: $(OBJS)\n\t@@ cc -o $@ $(OBJS)\n"
+                    ".c.o:\n\t@@ cc -c -o $@ $<\n.y.c:\n\t@@ cp $< $@\n",
+        "main.c": "int f(void); int main(void) { return f(); }\n", "gram.y": "int f(void) { return 0; }\n"}, (
+            Step(), Step(), Step(by=MAKE), Step("echo 'int f(void) { return 1; }' > gram.y", by=NINJA),
+            Step("touch main.c", by=NINJA), Step("touch gram.y", by=MAKE), Step())),
+    Sequence("an intermediate file of two", {
+        "Makefile": "all: a.x a.y\n%.m: %.s\n\t@@ cp $< $@\n%.x: %.m\n\t@@ cp $< $@\n%.y: %.m\n\t@@ cp $< $@\n",
+        "a.s": "1\n"}, (Step(apart=("a.m",)), Step("echo 2 > a.s", apart=("a.m",)))),
+    Sequence("two stages", {
+        "Makefile": "ifeq ($(wildcard conf),)\nall: conf\nelse\nall: prog\nendif\nconf:\n\t@@ touch $@\n"
+                    "prog:\n\t@@ echo built > $@\n"}, (Step("make -s; make -s"), Step())),
+)
+
+
+class Musts(Compared):
+    """Each sequence by make and by kati-build."""
+
+    def test_sequences(self):
+        for sequence in SEQUENCES:
+            self.compare(sequence)
+
+    def test_two_stages_in_one_run(self):
+        self.put({"Makefile": "ifeq ($(wildcard conf),)\nall: conf\nelse\nall: prog\nendif\nconf: ; touch $@\n"
+                              "prog: ; echo built > $@\n"})
+        self.assertEqual(0, self.build().status)
+        self.assertEqual("built\n", self.read("prog"))
+
+
+if __name__ == "__main__":
+    unittest.main()
