@@ -180,6 +180,18 @@ class Keep(Tree):
         self.assertEqual([0, 0], [first.returncode, second.returncode], said)
         self.assertEqual("1\n", self.read("prog"))
 
+    def test_one_build_waits_for_the_other(self):
+        self.put({"Makefile": "prog: always\n\techo begun >> log; sleep 0.5; echo ended >> log\nalways:\n"})
+        for one in [self.start(), self.start()]:
+            self.assertEqual(0, one.wait(timeout=LONG))
+            one.stdout.close()
+        self.assertEqual("begun\nended\n" * 2, self.read("log"))
+
+    def test_a_recipe_that_calls_kati_build_does_not_wait_for_itself(self):
+        self.put({"Makefile": f"prog:\n\t{' '.join(BUILD)} inner && cp inner prog\ninner:\n\techo 1 > inner\n"})
+        self.assertEqual(0, self.build().status)
+        self.assertEqual("1\n", self.read("prog"))
+
     def test_killed_while_files_are_hidden(self):
         self.put(FILES)
         self.build()
@@ -229,7 +241,7 @@ class Keep(Tree):
     def test_links_below_the_folder(self):
         self.put({**FILES, "../victim": "safe\n", ".kati/": None})
         for name in ("graph", "statements", "record", "lock", "watched", "stat", "run", "hidden", "times", ".gitignore",
-                     "graph.new"):
+                     "graph.new", "building"):
             with self.subTest(name):
                 self.sh("rm -rf .kati build.ninja; mkdir .kati")
                 (self.top / ".kati" / name).symlink_to("../../victim")

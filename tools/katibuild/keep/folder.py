@@ -15,6 +15,7 @@ from .request import Request
 
 ROOM = ".kati"
 LOCK, HIDDEN, RUN, GOALS = f"{ROOM}/lock", f"{ROOM}/hidden", f"{ROOM}/run", f"{ROOM}/goals"
+BUILDING = f"{ROOM}/building"        # locked while a build runs; LOCK, while the makefile is read
 LOG, DEPENDENCY_LOG = f"{ROOM}/.ninja_log", f"{ROOM}/.ninja_deps"
 NINJA_FILE = "build.ninja"
 FIRST_LINE = b"# kati-build wrote this file."   # as ninja.top writes it

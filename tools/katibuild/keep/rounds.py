@@ -4,7 +4,7 @@ from __future__ import annotations
 import contextlib
 import os
 import threading
-from typing import Iterable, Iterator, List, NamedTuple, Optional, TYPE_CHECKING, Tuple
+from typing import Iterable, Iterator, List, NamedTuple, Optional, Sequence, TYPE_CHECKING, Tuple
 
 from ..ask import hidden
 from ..base import files, lock, message
@@ -32,7 +32,28 @@ class Outcome(NamedTuple):
 
 def build(run: Run, ninja_arguments: Iterable[str] = (), is_without_ninja: bool = False) -> Outcome:
     """Translates if needed, and runs Ninja; once more for what the build itself has changed."""
-    readings, arguments = 0, words(run, ninja_arguments)
+    with one_build(run):
+        return built(run, words(run, ninja_arguments), is_without_ninja)
+
+
+@contextlib.contextmanager
+def one_build(run: Run) -> Iterator[None]:
+    """Waits until no other build runs in this folder: two would write to one Ninja log.
+
+    A recipe that calls kati-build in the folder that is being built doesn't wait for itself.
+    """
+    if run.environ.get(running.BUILDING) == os.getcwd():
+        yield
+        return
+    folder.refuse_foreign(run.place.ninja_file)
+    folder.prepare(run.place)
+    with lock.held(folder.BUILDING, waiting):
+        yield
+
+
+def built(run: Run, arguments: Sequence[str], is_without_ninja: bool) -> Outcome:
+    """The rounds of a build, with Ninja's arguments."""
+    readings = 0
     for number in range(MOST):
         written = translated(run, is_first=number == 0)
         readings += written is not None

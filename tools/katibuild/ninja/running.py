@@ -12,6 +12,7 @@ from ..base.stop import Status, Stop
 # What Python ignores, and a program that it runs must not.
 IGNORED = (signal.SIGPIPE, signal.SIGXFSZ)
 HANDED_ON = (signal.SIGINT, signal.SIGTERM, signal.SIGHUP)
+BUILDING = "KATI_BUILDING"   # the environment variable that tells recipes which folder is being built
 
 
 def run(programs: Programs, arguments: Sequence[str], jobs: Optional[int] = None) -> int:
@@ -22,7 +23,8 @@ def run(programs: Programs, arguments: Sequence[str], jobs: Optional[int] = None
     sys.stdout.flush()
     sys.stderr.flush()
     came: List[int] = []
-    child = started([programs.ninja, *arguments], {**os.environ, "KATI_JOBS": str(jobs)} if jobs else os.environ)
+    more = {BUILDING: os.getcwd(), **({"KATI_JOBS": str(jobs)} if jobs else {})}
+    child = started([programs.ninja, *arguments], {**os.environ, **more})
 
     def hand_on(number: int, _frame: object) -> None:
         came.append(number)
