@@ -11,7 +11,7 @@ from pathlib import Path
 from katibuild.ask import asking, reading
 from katibuild.ask.question import Question
 from katibuild.base import message
-from katibuild.base.stop import Stop
+from katibuild.base.message import Stop
 
 # name, makefile, goals: make fails, and its last words are ours
 FAILURES = (
@@ -43,16 +43,16 @@ RULES = (
     ("colon in a name", "all: a\\:b ; echo\na\\:b: ; echo\n", "a:b", [((), (), (0, 0, 0), ())]),
 )
 NAMES = ("a", "b", "c", "d", "s", "m.c")
-# name, makefile, the includes: (path, present, has a rule, rules only, always made)
+# name, makefile, the includes: (path, present, has a rule, always made)
 INCLUDES = (
-    ("plain", "include c.mk\nall:\n", [("c.mk", 1, 0, 0, 0)]),
-    ("absent", "-include gone.mk\nall:\n", [("gone.mk", 0, 0, 0, 0)]),
-    ("rules only", "-include m.d n.d\nall:\n", [("m.d", 1, 0, 1, 0), ("n.d", 1, 0, 0, 0)]),
-    ("made", "-include made.mk\nall:\nmade.mk: s ; cp s made.mk\n", [("made.mk", 1, 1, 0, 0)]),
+    ("plain", "include c.mk\nall:\n", [("c.mk", 1, 0, 0)]),
+    ("absent", "-include gone.mk\nall:\n", [("gone.mk", 0, 0, 0)]),
+    ("depfiles", "-include m.d n.d\nall:\n", [("m.d", 1, 0, 0), ("n.d", 1, 0, 0)]),
+    ("made", "-include made.mk\nall:\nmade.mk: s ; cp s made.mk\n", [("made.mk", 1, 1, 0)]),
     ("made each time", "-include made.mk\nall:\nmade.mk: FORCE ; cmp -s s $@ || cp s $@\nFORCE:\n",
-     [("made.mk", 1, 1, 0, 1)]),
-    ("in a folder", "include inc/*.mk\nall:\n", [("inc/sub.mk", 1, 0, 0, 0)]),
-    ("makefiles of the goals", "ifneq ($(MAKECMDGOALS),clean)\ninclude c.mk\nendif\nall:\n", [("c.mk", 1, 0, 0, 0)]),
+     [("made.mk", 1, 1, 1)]),
+    ("in a folder", "include inc/*.mk\nall:\n", [("inc/sub.mk", 1, 0, 0)]),
+    ("makefiles of the goals", "ifneq ($(MAKECMDGOALS),clean)\ninclude c.mk\nendif\nall:\n", [("c.mk", 1, 0, 0)]),
 )
 FILES = {"c.mk": "C = 1\n", "m.d": "m.o: m.c \\\n  h.h\nh.h:\n", "n.d": "m.o: m.c\n\tcc\n", "inc/sub.mk": "S = 1\n",
          **{name: "# text\n" for name in NAMES}}
@@ -129,7 +129,7 @@ class Asking(unittest.TestCase):
     def test_includes(self):
         for name, makefile, wanted in INCLUDES:
             with self.subTest(name):
-                self.assertEqual(wanted, [one[:5] for one in self.answer(makefile).includes if one.path != "Makefile"])
+                self.assertEqual(wanted, [one[:4] for one in self.answer(makefile).includes if one.path != "Makefile"])
 
     def test_no_include_of_other_goals(self):
         found = self.answer(INCLUDES[-1][1] + "clean:\n", ["clean"]).includes

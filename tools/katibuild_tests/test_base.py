@@ -14,8 +14,8 @@ from pathlib import Path
 
 sys.path.insert(0, str(Path(__file__).resolve().parent.parent))
 
-from katibuild.base import files, interrupt, lock, message, paths, programs  # noqa: E402
-from katibuild.base.stop import Status, Stop  # noqa: E402
+from katibuild.base import files, interrupt, lock, message, programs  # noqa: E402
+from katibuild.base.message import Status, Stop  # noqa: E402
 
 
 class Room(unittest.TestCase):
@@ -195,20 +195,20 @@ class Paths(Room):
         for one in names:
             for other in names:
                 same = os.path.samefile(self.path(one), self.path(other))
-                self.assertEqual(same, paths.ninja_name(one) == paths.ninja_name(other), (one, other))
-        self.assertTrue(posixpath.isabs(paths.ninja_name("//a/b")))
-        self.assertEqual("/a/b", paths.ninja_name("//a/b"))
+                self.assertEqual(same, files.ninja_name(one) == files.ninja_name(other), (one, other))
+        self.assertTrue(posixpath.isabs(files.ninja_name("//a/b")))
+        self.assertEqual("/a/b", files.ninja_name("//a/b"))
 
     def test_below(self):
         for path, folder, is_below in (("/a", "/a", True), ("/a/b", "/a", True), ("/ab", "/a", False),
                                        ("/a", "/", True), ("/", "/a", False)):
-            self.assertEqual(is_below, paths.is_below(path, folder), (path, folder))
+            self.assertEqual(is_below, files.is_below(path, folder), (path, folder))
 
     def test_folders(self):
         os.makedirs(self.path("a/b"))
         os.symlink("a", self.path("link"))
         Path(self.path("file")).write_text("")
-        self.assertEqual({self.top, self.path("a"), self.path("a/b")}, set(paths.folders(self.top)))
+        self.assertEqual({self.top, self.path("a"), self.path("a/b")}, set(files.folders(self.top)))
 
 
 class Messages(unittest.TestCase):

@@ -8,7 +8,7 @@ from pathlib import Path
 
 from katibuild.ask import asking, reading
 from katibuild.ask.question import Question
-from katibuild.base.stop import Stop
+from katibuild.base.message import Stop
 
 # name, makefile (four blanks are a tab), arguments, the calls that `$(shell)` makes while make is asked once
 RUNS = (

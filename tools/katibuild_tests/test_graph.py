@@ -10,9 +10,8 @@ from pathlib import Path
 import answers
 from answers import PLACE, answer, build, graph_of, ninja, rule, translated
 from katibuild.ask.answer import Line, Rule
-from katibuild.base.message import Place
-from katibuild.base.stop import Stop
-from katibuild.graph import command_text, writer
+from katibuild.base.message import Place, Stop
+from katibuild.graph import scripts, writer
 from katibuild.ninja import kati
 
 # Names of files that a shell can write between single quotes.
@@ -60,7 +59,7 @@ class Names(Room):
     def test_names_are_built_and_stay(self):
         rules = [Rule(("all",), TAKEN)]
         rules += [Rule((name,), ("source " + name,), recipe=("x",), place=PLACE) for name in TAKEN]
-        words = {name: command_text.quoted(name) for name in TAKEN}
+        words = {name: scripts.quoted(name) for name in TAKEN}
         lines = [(name, f"mkdir -p sub .kati2; cp 'source '{word} ./{word}") for name, word in words.items()]
         for name in TAKEN:
             path = Path(self.top, "source " + name)
@@ -76,7 +75,7 @@ class Names(Room):
     def test_a_shell_of_its_own_is_found_by_each_name(self):
         rules = [Rule(("all",), (*TAKEN, "plain"))]
         rules += [Rule((name,), recipe=("x",), place=PLACE) for name in (*TAKEN, "plain")]
-        lines = [Line(name, f"mkdir -p sub .kati2; printf %s \"$V\" > ./{command_text.quoted(name)}",
+        lines = [Line(name, f"mkdir -p sub .kati2; printf %s \"$V\" > ./{scripts.quoted(name)}",
                       environment=(("V", name),)) for name in TAKEN]
         asked = answer("all", rules, [])._replace(lines=(*lines, Line("plain", "echo > plain")))
         self.built(asked)
@@ -91,7 +90,7 @@ class Names(Room):
             with self.subTest(pair):
                 rules = [Rule(("all",), pair), Rule(pair, ("Makefile",), recipe=("x",), place=PLACE),
                          Rule(pair[::-1], ("Makefile",), recipe=("x",), place=PLACE)]
-                text = "touch " + " ".join(command_text.quoted("./" + name) for name in pair)
+                text = "touch " + " ".join(scripts.quoted("./" + name) for name in pair)
                 _, found = translated(graph_of(answer("all", rules, [(pair[0], text)]), self.top))
                 self.assertNotIsInstance(found, kati.Fault)
                 self.assertIn(tuple(sorted(pair, key=os.fsencode)), [one.outputs for one in found.statements])
@@ -159,7 +158,7 @@ class Commands(Room):
                              ("a\\\\", "a\\\\"), ("a\\\\\\\nb", "a\\\\b"), ("'a", "'a"), ("-a", None), ("a\rb", None),
                              ("\"a\\\\\nb\"", None), ("a 'b' \\\n 'c'", "a 'b'  'c'")):
             with self.subTest(text):
-                self.assertEqual(wanted, command_text.one_line(text))
+                self.assertEqual(wanted, scripts.one_line(text))
 
     def test_ignored_errors(self):
         asked = answer("all", [rule("all", recipe="x")], [])

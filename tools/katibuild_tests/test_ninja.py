@@ -9,10 +9,10 @@ from pathlib import Path
 import answers
 from answers import answer, graph_of, ninja, rule, translated
 from katibuild.base import programs
-from katibuild.base.stop import Stop
+from katibuild.base.message import Stop
 from katibuild.graph.writer import GraphFile
-from katibuild.ninja import as_made, blocks, compile_commands, headers, inner_makes, kati, log, restat, text, top
-from katibuild.ninja.statement import Block, NinjaText, Statement
+from katibuild.ninja import as_made, blocks, compile_commands, headers, inner_makes, kati, log, text, top
+from katibuild.ninja.text import Block, NinjaText, Statement
 from test_graph import Room as Folder
 
 # Hashes of so many bytes, of which the one at a place is seven times that place and the count; as ninja 1.13 has them.
@@ -204,7 +204,7 @@ class Blocks(Folder):
         statements = (Statement(1, 2, ("a", "b"), (), (), "c"), Statement(3, 4, ("c",), (), (), "c"),
                       Statement(5, 6, ("d",), (), (), "", True), Statement(7, 8, ("e",), (text.ALWAYS,), (), "c"))
         for files, wanted in (("abcde", [1, 3]), ("acde", [3]), ("", [])):
-            found = restat.blocks(NinjaText(b"", statements), lambda name: name in files)
+            found = blocks.restats(NinjaText(b"", statements), lambda name: name in files)
             self.assertEqual(wanted, [block.line for block in found])
 
     def test_depfiles_by_content(self):

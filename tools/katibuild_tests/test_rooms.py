@@ -10,7 +10,7 @@ from pathlib import Path
 PACKAGE = Path(__file__).resolve().parent.parent / "katibuild"
 TESTS = Path(__file__).resolve().parent
 ROOMS = ("base", "ask", "graph", "ninja", "strict", "keep", "compare", "advice", "command")
-MOST_LINES, MOST_COLUMNS, MOST_TEST_LINES, MOST_MODULES, MOST_IN_ALL = 250, 120, 500, 70, 7500
+MOST_LINES, MOST_COLUMNS, MOST_TEST_LINES, MOST_MODULES, MOST_IN_ALL = 250, 120, 500, 52, 6200
 LONGER = {"advice.faults": 300}            # a table
 CONSTANT_CALLS = {"frozenset", "re.compile", "struct.Struct", "Option"}   # Option: a NamedTuple of options
 LOOK = "katibuild.keep.stale"              # what build.ninja starts at each run of ninja

@@ -44,7 +44,6 @@ class Include(NamedTuple):
     path: str
     is_present: bool
     has_rule: bool = False                       # a rule of the makefile makes it
-    is_rules_only: bool = False                  # it holds nothing but rules without recipes, as a depfile does
     is_always_made: bool = False                 # make makes it at each run
     made_from: Tuple[str, ...] = ()              # what it is made from, through all rules
 

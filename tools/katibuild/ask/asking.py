@@ -8,9 +8,8 @@ from typing import Dict, FrozenSet, Iterable, List, Mapping, NamedTuple, Optiona
 
 from ..base.files import bytes_of, replace, text_of
 from ..base.interrupt import scratch_folder
-from ..base.message import Place
+from ..base.message import Place, Stop
 from ..base.programs import run
-from ..base.stop import Stop
 from . import database, dependency_includes, extra_makefiles, marks, printed, recorded, shells
 from .answer import Answer, Line, Reading, Rule
 from .database import Database

@@ -1,4 +1,4 @@
-"""Makefiles that the makefile includes: what makes them, and which are nothing but header dependencies."""
+"""Makefiles that the makefile includes: what makes them, and which prerequisites those hidden from make name."""
 from __future__ import annotations
 
 import os
@@ -6,7 +6,7 @@ import re
 from typing import FrozenSet, Iterable, Iterator, Mapping, Tuple
 
 from ..base.files import read as bytes_in, text_of
-from ..base.stop import Stop
+from ..base.message import Stop
 from .answer import Answer, Include, Reading, Rule
 from .question import Question
 
@@ -26,8 +26,8 @@ def include_of(folder: str, name: str, is_absent: bool, rules: Rules) -> Include
     some = rules.get(name) or rules.get(os.path.normpath(name), ())
     has_rule = any(rule.recipe for rule in some)
     made_from = tuple(closure(name, rules)) if has_rule else ()
-    return Include(name, not is_absent, has_rule, not is_absent and is_rules_only(content(folder, name)),
-                   has_rule and any(is_always_made(rule, rules, folder) for rule in some), made_from)
+    is_always = has_rule and any(is_always_made(rule, rules, folder) for rule in some)
+    return Include(name, not is_absent, has_rule, is_always, made_from)
 
 
 def content(folder: str, name: str) -> bytes:
@@ -37,12 +37,6 @@ def content(folder: str, name: str) -> bytes:
         return (bytes_in(path) or b"") if os.path.isfile(path) and os.path.getsize(path) <= LARGE else b"\t"
     except (OSError, Stop):
         return b"\t"
-
-
-def is_rules_only(data: bytes) -> bool:
-    """Whether a makefile holds nothing but rules without recipes, and at least one."""
-    found = list(rules_in(data))
-    return bool(found) and None not in found
 
 
 def rules_in(data: bytes) -> Iterator[object]:

@@ -11,7 +11,7 @@ import os
 import stat
 from typing import FrozenSet, Iterable, Iterator, List
 
-from ..base import paths
+from ..base import files
 
 JOURNAL = "list"
 
@@ -33,7 +33,7 @@ def hidden(names: Iterable[str], top: str, folder: str) -> Iterator[FrozenSet[st
 def is_hidable(name: str, top: str) -> bool:
     """Whether a name is a regular file below the tree, without a link in its path that leads out of it."""
     path = os.path.join(top, name)
-    if os.path.isabs(name) or not paths.is_below(os.path.realpath(os.path.dirname(path)), os.path.realpath(top)):
+    if os.path.isabs(name) or not files.is_below(os.path.realpath(os.path.dirname(path)), os.path.realpath(top)):
         return False
     try:
         return stat.S_ISREG(os.lstat(path).st_mode)
@@ -70,7 +70,7 @@ def restore(top: str, folder: str) -> List[str]:
         kept, path = os.path.join(folder, str(number)), os.path.join(top, name)
         if not os.path.lexists(kept):
             continue
-        inside = not os.path.isabs(name) and paths.is_below(os.path.realpath(os.path.dirname(path)),
+        inside = not os.path.isabs(name) and files.is_below(os.path.realpath(os.path.dirname(path)),
                                                             os.path.realpath(top))
         if inside and not os.path.lexists(path) and is_back(kept, path):
             back.append(name)

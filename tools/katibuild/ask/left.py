@@ -5,8 +5,8 @@ import fnmatch
 import re
 from typing import Dict, FrozenSet, Iterable, Iterator, List, Mapping, NamedTuple, Optional, Set, Tuple
 
-from ..base.paths import ninja_name
-from ..base.stop import Stop
+from ..base.files import ninja_name
+from ..base.message import Stop
 from .answer import Rule
 from .database import Database, Variable
 from .extra_makefiles import name_text

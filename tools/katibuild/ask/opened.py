@@ -8,7 +8,7 @@ import re
 import struct
 from typing import Iterable, List, Set, Tuple
 
-from ..base import paths
+from ..base import files
 from ..base.programs import Meanwhile
 
 # <sys/inotify.h>
@@ -85,8 +85,8 @@ def folders(top: str, texts: Iterable[str]) -> List[str]:
     more = set()
     for link in links:
         target = os.path.realpath(link)
-        if os.path.isdir(target) and not paths.is_below(top, target):
-            more.update(itertools.islice(paths.folders(target), FEW))
+        if os.path.isdir(target) and not files.is_below(top, target):
+            more.update(itertools.islice(files.folders(target), FEW))
         else:
             more.add(os.path.dirname(target))
     more.update(above(top, texts))

@@ -6,7 +6,7 @@ import shutil
 from dataclasses import dataclass
 from typing import Mapping, Optional, Tuple
 
-from ..base.stop import Stop
+from ..base.message import Stop
 
 MAKEFILES = ("GNUmakefile", "makefile", "Makefile")   # GNU make manual, "What Name to Give Your Makefile"
 MAKE_OWN = ("MAKEFLAGS", "MFLAGS", "MAKELEVEL", "MAKEFILES", "GNUMAKEFLAGS", "MAKE_RESTARTS", "MAKEOVERRIDES")

@@ -7,9 +7,8 @@ from typing import Iterator, List, Tuple
 
 from ..base.files import bytes_of, read as bytes_in, replace, text_of
 from ..base.interrupt import scratch_folder
-from ..base.message import Place
+from ..base.message import Place, Stop
 from ..base.programs import Finished, run
-from ..base.stop import Stop
 from . import database, extra_makefiles
 from .answer import Reading
 from .question import Question, make_environment, makefile_of, program

@@ -6,7 +6,7 @@ import re
 from typing import Dict, FrozenSet, Iterable, Iterator, List, Mapping, NamedTuple, Set, Tuple
 
 from ..base.files import text_of
-from ..base.stop import Status, Stop
+from ..base.message import Status, Stop
 from .answer import Environment, Line
 from .database import Database
 from .recorder import CALL, END, ENVIRONMENT, SEPARATOR, TARGET, Recorder

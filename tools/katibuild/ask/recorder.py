@@ -8,7 +8,7 @@ from dataclasses import dataclass
 from typing import Mapping, Sequence
 
 from ..base.files import read, replace
-from ..base.stop import Status, Stop
+from ..base.message import Status, Stop
 
 TARGET = "KATI_AT"            # the environment variable that names the target whose recipe make runs
 ENVIRONMENT = "kati-environment"

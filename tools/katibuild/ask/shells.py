@@ -6,8 +6,7 @@ import re
 from typing import Iterable, Iterator, List, Mapping, Optional, Tuple
 
 from ..base.files import read, text_of
-from ..base.message import Place
-from ..base.stop import Stop
+from ..base.message import Place, Stop
 from .answer import Reading
 from .database import Database, Variable
 from .question import Question

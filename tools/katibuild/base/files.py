@@ -1,11 +1,12 @@
-"""Files that the tools read and write whole."""
+"""Files: their names, one spelling for each as Ninja has it, and their bytes, read and written whole."""
 from __future__ import annotations
 
 import hashlib
 import os
-from typing import Optional
+import posixpath
+from typing import Iterator, Optional
 
-from .stop import Status, Stop
+from .message import Status, Stop
 
 
 def read(path: str) -> Optional[bytes]:
@@ -63,3 +64,29 @@ def file_digest(path: str) -> Optional[str]:
     except OSError:
         return None
     return total.hexdigest()
+
+
+# -- names -------------------------------------------------------------------------------------------------------------
+
+def ninja_name(name: str) -> str:
+    """The name as Ninja spells it: `./a//b/../c` is `a/c`. make's `//a` is `/a`."""
+    short = posixpath.normpath(name)
+    return short[1:] if short.startswith("//") else short
+
+
+def is_below(path: str, folder: str) -> bool:
+    """Whether an absolute path is the folder or lies below it."""
+    return path == folder or path.startswith(folder.rstrip("/") + "/")
+
+
+def folders(top: str) -> Iterator[str]:
+    """The absolute paths of the folder `top` and of all folders below it; links are not followed."""
+    work = [top]
+    while work:
+        at = work.pop()
+        yield at
+        try:
+            with os.scandir(at) as entries:
+                work += [entry.path for entry in entries if entry.is_dir(follow_symlinks=False)]
+        except OSError:
+            continue  # a folder that cannot be listed holds nothing that make could list

@@ -7,7 +7,7 @@ import fcntl
 import os
 from typing import Callable, Iterator
 
-from .stop import Status, Stop
+from .message import Status, Stop
 
 
 @contextlib.contextmanager

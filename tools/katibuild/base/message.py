@@ -1,8 +1,8 @@
-"""Messages for people: `FILE:LINE: what is wrong`, then `help: what to do`."""
+"""Messages for people: `FILE:LINE: what is wrong`, then `help: what to do`; and how a tool ends with one."""
 from __future__ import annotations
 
+import enum
 import os
-import time
 from typing import NamedTuple, Optional
 
 ERRORS = 2   # the descriptor of the standard error
@@ -53,14 +53,22 @@ def say(message: Message) -> None:
         pass
 
 
-class Progress:
-    """Says once what is being done, if it takes longer than a second."""
+class Status(enum.IntEnum):
+    """Exit statuses of the tools."""
 
-    def __init__(self, text: str, seconds: float = 1.0):
-        self.text, self.due = text, time.monotonic() + seconds
+    DONE = 0
+    REFUSED = 2        # the makefile cannot be built
+    DEVICE = 3         # a file or program is missing or fails
+    DIFFERENT = 5      # Ninja would build something else than make
+    USAGE = 64
+    INTERNAL = 70      # a fault of the tools
+    INTERRUPTED = 130
 
-    def tick(self) -> None:
-        """Prints the text if it is due and has not been printed."""
-        if self.text and time.monotonic() >= self.due:
-            say(Message(self.text))
-            self.text = ""
+
+class Stop(Exception):
+    """Ends the tool with a message and a status; nothing that existed before is changed."""
+
+    def __init__(self, text: str, status: Status = Status.REFUSED, place: Optional[Place] = None,
+                 help: Optional[str] = None):
+        super().__init__(text)
+        self.message, self.status = Message(text, place, help), status

@@ -10,7 +10,7 @@ import sys
 import tempfile
 from typing import Mapping, NamedTuple, Optional, Sequence
 
-from .stop import Status, Stop
+from .message import Status, Stop
 
 NAMES = (("kati", "KATI"), ("kati-asked", "KATI_ASKED"), ("ninja", "NINJA"), ("make", "MAKE_PROGRAM"))
 BUILT = (("kati", "crates/kati_program/out/kati_program"), ("kati-asked", "crates/kati_asked/out/kati_asked"))

@@ -8,11 +8,9 @@ import traceback
 from typing import Mapping, Sequence
 
 from ..base import interrupt, message, programs
-from ..base.message import Message
-from ..base.stop import Status, Stop
+from ..base.message import Message, Status, Stop
 from ..keep import folder, record, rounds, why
-from ..keep.request import Request
-from ..keep.run import Run
+from ..keep.request import NINJA_FILE, Place, ROOM, Request, Run, place_of
 from . import options
 from .options import Settings
 
@@ -46,7 +44,7 @@ def built(settings: Settings, environ: Mapping[str, str]) -> int:
     if settings.by_ninja:
         return looked(settings, environ)
     request = Request(settings.makefile, settings.goals, settings.variables, jobs=settings.jobs)
-    place = folder.place_of(request)
+    place = place_of(request)
     if settings.is_remove:
         return removed()
     if settings.is_why:
@@ -57,24 +55,24 @@ def built(settings: Settings, environ: Mapping[str, str]) -> int:
 
 def looked(settings: Settings, environ: Mapping[str, str]) -> int:
     """What build.ninja runs: translates if needed, by the request of the record."""
-    earlier = record.load(folder.Place(settings.by_ninja, "").record)
+    earlier = record.load(Place(settings.by_ninja, "").record)
     request = earlier.request if earlier else Request(settings.makefile, (), settings.variables)
-    rounds.translated(run_of(request, folder.place_of(request), settings, environ), is_first=True)
+    rounds.translated(run_of(request, place_of(request), settings, environ), is_first=True)
     return 0
 
 
 def removed() -> int:
     """Deletes what kati-build has written; hidden files come back first."""
-    folder.refuse_foreign(folder.NINJA_FILE)
-    if os.path.isdir(folder.ROOM) and not os.path.islink(folder.ROOM):
-        with rounds.held(folder.Place(folder.ROOM, folder.NINJA_FILE)):
+    folder.refuse_foreign(NINJA_FILE)
+    if os.path.isdir(ROOM) and not os.path.islink(ROOM):
+        with rounds.held(Place(ROOM, NINJA_FILE)):
             folder.remove()
     else:
         folder.remove()
     return 0
 
 
-def explained(place: folder.Place) -> int:
+def explained(place: Place) -> int:
     """Prints what the build depends on."""
     earlier = record.load(place.record)
     if earlier is None:
@@ -106,7 +104,7 @@ def write_out(text: str) -> None:
         raise Stop(f"cannot write the standard output: {error.strerror}", Status.DEVICE) from error
 
 
-def run_of(request: Request, place: folder.Place, settings: Settings, environ: Mapping[str, str]) -> Run:
+def run_of(request: Request, place: Place, settings: Settings, environ: Mapping[str, str]) -> Run:
     """What the run goes by."""
     look = (sys.executable, "-I", "-S", os.path.realpath(sys.argv[0]), "--ask", "--by-ninja")
     return Run(request, place, programs.find(environ), environ, look, bool(settings.by_ninja), settings.is_anew,

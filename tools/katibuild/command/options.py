@@ -6,7 +6,7 @@ import difflib
 import re
 from typing import List, NamedTuple, NoReturn, Optional, Sequence, Tuple
 
-from ..base.stop import Status, Stop
+from ..base.message import Status, Stop
 
 VARIABLE = re.compile(r"[^\s:=+?!]+\s*(?:[+?!]|:{1,3})?=")
 

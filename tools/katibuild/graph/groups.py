@@ -5,8 +5,8 @@ from dataclasses import replace
 from typing import Collection, Dict, FrozenSet, Iterable, List, Optional, Tuple
 
 from ..ask.answer import Answer
-from .command_text import quoted
 from .node import Command, Graph, Node
+from .scripts import quoted
 from .walk import key_of
 
 KEPT = frozenset((".PRECIOUS", ".SECONDARY", ".NOTINTERMEDIATE"))   # what makes a file of these stay

@@ -1,4 +1,4 @@
-"""The graph that Ninja is to build. Paths are spelled as Ninja spells them (base.paths.ninja_name)."""
+"""The graph that Ninja is to build. Paths are spelled as Ninja spells them (base.files.ninja_name)."""
 from __future__ import annotations
 
 from dataclasses import dataclass, field

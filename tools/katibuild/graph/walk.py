@@ -5,9 +5,9 @@ from typing import Callable, Collection, Dict, List, Optional, Set, Tuple
 
 from ..ask.answer import Answer, Include, Line, Rule
 from ..base.message import Place
-from ..base.paths import ninja_name
-from .command_text import quoted
+from ..base.files import ninja_name
 from .node import Command, Graph, Node
+from .scripts import quoted
 
 WAIT = ".WAIT"
 

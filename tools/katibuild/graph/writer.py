@@ -8,11 +8,10 @@ from dataclasses import replace
 from typing import Dict, Iterable, List, Mapping, NamedTuple, Optional, Tuple
 
 from ..base.files import bytes_of, digest
-from ..base.message import Place
-from ..base.stop import Stop
+from ..base.message import Place, Stop
 from . import scripts
-from .command_text import is_bourne, one_line, quoted
 from .node import Command, Graph, Node
+from .scripts import is_bourne, one_line, quoted
 
 HEAD = """\
 # kati-build writes this makefile: the rules that GNU make answered, for kati to translate. Do not edit it.

@@ -11,8 +11,8 @@ from ..ask.answer import Answer, Reading
 from ..ask.dependency_includes import more_goals, prerequisites
 from ..ask.question import Question, makefile_of
 from ..base import files
-from ..base.paths import ninja_name
-from ..base.stop import Status, Stop
+from ..base.files import ninja_name
+from ..base.message import Status, Stop
 from ..graph import differences, groups, order, walk
 from ..graph.node import Graph
 from ..ninja import headers, inner_makes

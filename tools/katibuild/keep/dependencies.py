@@ -8,7 +8,7 @@ from typing import Dict, Iterable, Iterator, List, Mapping, NamedTuple, Optional
 from ..ask.answer import Answer
 from ..ask.question import Question
 from ..base import files
-from ..base.paths import is_below, ninja_name
+from ..base.files import is_below, ninja_name
 from . import environment
 from .record import Dependencies, FileState, FolderState
 from .stale import OWN, Counting, file_state, folder_state

@@ -2,71 +2,21 @@
 from __future__ import annotations
 
 import contextlib
-import hashlib
 import os
 import shutil
 import stat
-from typing import FrozenSet, Iterable, Iterator, NamedTuple, Tuple
+from typing import FrozenSet, Iterable, Iterator, Tuple
 
 from ..base import files
-from ..base.stop import Status, Stop
+from ..base.message import Status, Stop
 from .record import BuildRecord, load
-from .request import Request
+from .request import GOALS, NINJA_FILE, Place, ROOM
 
-ROOM = ".kati"
-LOCK, HIDDEN, RUN, GOALS = f"{ROOM}/lock", f"{ROOM}/hidden", f"{ROOM}/run", f"{ROOM}/goals"
+LOCK, HIDDEN, RUN = f"{ROOM}/lock", f"{ROOM}/hidden", f"{ROOM}/run"
 BUILDING = f"{ROOM}/building"        # locked while a build runs; LOCK, while the makefile is read
 LOG, DEPENDENCY_LOG = f"{ROOM}/.ninja_log", f"{ROOM}/.ninja_deps"
-NINJA_FILE = "build.ninja"
 FIRST_LINE = b"# kati-build wrote this file."   # as ninja.top writes it
 OLD_FIRST_LINE = b"# Written by kati-build, which"   # of the package that writes to build.kati
-OWN = frozenset((ROOM, "build.ninja", "build.ninja.new", "build.kati", ".ninja_log", ".ninja_deps"))
-
-
-class Place(NamedTuple):
-    """Where the files of one build are: the folder's own, or those of other goals."""
-
-    room: str
-    ninja_file: str
-
-    @property
-    def graph(self) -> str:
-        """The explicit makefile."""
-        return f"{self.room}/graph"
-
-    @property
-    def statements(self) -> str:
-        """Ninja's statements."""
-        return f"{self.room}/statements"
-
-    @property
-    def record(self) -> str:
-        """What the build depends on."""
-        return f"{self.room}/record"
-
-    @property
-    def watched(self) -> str:
-        """The names that the shell line looks at, a NUL behind each."""
-        return f"{self.room}/watched"
-
-    @property
-    def stat(self) -> str:
-        """What `stat` printed of them."""
-        return f"{self.room}/stat"
-
-    @property
-    def times(self) -> str:
-        """The times of outputs after ninja's last run."""
-        return f"{self.room}/times"
-
-
-def place_of(request: Request) -> Place:
-    """The default goal's files are in .kati, those of other goals in a folder named by goals and variables."""
-    if not request.goals:
-        return Place(ROOM, NINJA_FILE)
-    words = "\0".join((request.makefile or "", *request.goals, "", *request.variables))
-    room = f"{GOALS}/{hashlib.sha256(files.bytes_of(words)).hexdigest()[:16]}"
-    return Place(room, f"{room}/{NINJA_FILE}")
 
 
 def prepare(place: Place) -> None:

@@ -7,13 +7,11 @@ from typing import Iterator, List, TYPE_CHECKING, Tuple
 
 from ..ask.answer import Rule
 from ..base import files
-from ..base.paths import ninja_name
+from ..base.files import ninja_name
 from ..ninja import top
-from ..ninja.statement import NinjaText
+from ..ninja.text import NinjaText
 from ..ninja.top import PhonyGoal
-from . import folder
-from .request import default_of
-from .run import Run
+from .request import NINJA_FILE, ROOM, Run, default_of, place_of
 
 if TYPE_CHECKING:
     from .asked import Asked
@@ -54,13 +52,13 @@ def write_boot(run: Run) -> None:
 
     make does not read the makefile for the default goal now: that may run ./configure, where the goal is `clean`.
     """
-    if not run.request.goals or os.path.lexists(folder.NINJA_FILE):
+    if not run.request.goals or os.path.lexists(NINJA_FILE):
         return
-    place = folder.place_of(default_of(run.request))
+    place = place_of(default_of(run.request))
     words: Tuple[str, ...] = (*run.look, place.room, *arguments(run))
     files.replace(place.statements, b"")
     files.replace(place.ninja_file, top.text(" ".join(map(shlex.quote, words)), (), top.Paths(
-        place.ninja_file, place.statements, folder.ROOM)))
+        place.ninja_file, place.statements, ROOM)))
 
 
 def arguments(run: Run) -> Iterator[str]:

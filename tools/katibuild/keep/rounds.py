@@ -12,9 +12,8 @@ from ..base.message import Message, Reason
 from ..ninja import running
 from . import environment, folder, goals, stale, turns
 from .record import BuildRecord, load
-from .request import difference, is_same_build
+from .request import Place, Run, difference, is_same_build, tools_digest
 from .stale import Changes
-from .run import Run, tools_digest
 
 if TYPE_CHECKING:
     from .translate import Written
@@ -119,7 +118,7 @@ def begin(run: Run, record: Optional[BuildRecord]) -> None:
 
 
 @contextlib.contextmanager
-def held(place: folder.Place) -> Iterator[None]:
+def held(place: Place) -> Iterator[None]:
     """Prepares the folder and holds its lock; files that a killed run has hidden come back first."""
     folder.refuse_foreign(place.ninja_file)
     folder.prepare(place)

@@ -7,18 +7,17 @@ from typing import Callable, FrozenSet, Iterable, NamedTuple, Optional, Sequence
 
 from ..ask.question import Question, environment_of
 from ..base import files, message
-from ..base.message import Message
-from ..base.paths import ninja_name
-from ..base.stop import Status, Stop
+from ..base.files import ninja_name
+from ..base.message import Message, Status, Stop
 from ..graph import writer
 from ..graph.writer import GraphFile
 from ..ninja import as_made, blocks, kati, top
-from ..ninja.statement import NinjaText
+from ..ninja.text import NinjaText
 from ..ninja.top import PhonyGoal
 from . import asked, environment, folder, goals, stale, turns
 from .asked import Asked
 from .record import BuildRecord, save
-from .run import Run, statements_of, tools_digest
+from .request import Place, ROOM, Run, tools_digest
 from .stale import Changes
 
 
@@ -39,7 +38,7 @@ def translate(run: Run, record: Optional[BuildRecord], changes: Optional[Changes
     refuse_differences(found, run)
     made = writer.write(found.graph)
     is_same = files.read(run.place.graph) == made.text
-    before = statements_of(run.place) if record is not None and is_own(run, record) else None
+    before = turns.statements_of(run.place) if record is not None and is_own(run, record) else None
     text = before if is_same and before is not None else by_kati(run, made)
     new = record_of(run, record, found, made, text)
     if is_same and changes is not None:
@@ -177,7 +176,7 @@ def write(run: Run, record: BuildRecord, made: GraphFile, statements: bytes, mor
     names = (place.statements, place.graph, *(f"{folder.RUN}/{name}" for name in made.scripts))
     own = {name: stale.file_state(name) for name in names}
     depends = record.dependencies._replace(files={**record.dependencies.files, **own})
-    data = top.text(look_command(run, record), more, top.Paths(place.ninja_file, place.statements, folder.ROOM))
+    data = top.text(look_command(run, record), more, top.Paths(place.ninja_file, place.statements, ROOM))
     record = record._replace(dependencies=depends, ninja_sha256=files.digest(data))
     save(place.record, record)
     if not files.replace(place.ninja_file, data) and is_new:
@@ -192,7 +191,7 @@ def look_command(run: Run, record: BuildRecord) -> str:
     return python if record.dependencies.git else f"{stale.shell_line(run.place.room)} || {python}"
 
 
-def settle(place: folder.Place, record: BuildRecord) -> None:
+def settle(place: Place, record: BuildRecord) -> None:
     """Lets the look start from the folders as they are now: writing build.ninja has changed the time of one."""
     found = stale.changes(record)
     if not found.reasons:

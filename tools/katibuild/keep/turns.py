@@ -12,21 +12,26 @@ from typing import Callable, Dict, FrozenSet, Iterable, List, Mapping, Optional,
 
 from ..ask.answer import Answer
 from ..base import files
-from ..base.paths import ninja_name
+from ..base.files import ninja_name
 from ..base.programs import Programs
-from ..ninja import as_made, log
+from ..ninja import as_made, blocks, log
 from ..ninja.log import Entry, Log
-from ..ninja.statement import NinjaText
+from ..ninja.text import NinjaText, parse
 from . import folder
-from .folder import Place
 from .record import BuildRecord
-from .run import Run, statements_of
+from .request import Place, Run
 
 if TYPE_CHECKING:
     from .asked import Asked
 
 ASKS = re.compile(r"\$[({](?:shell|wildcard|file|realpath)\b")
 WORD = re.compile(r"[\w.-]+")
+
+
+def statements_of(place: Place) -> Optional[NinjaText]:
+    """kati's text of before, without the lines that were added; None if there is none."""
+    data = files.read(place.statements)
+    return None if data is None else parse(blocks.kati_data(data))
 
 
 # -- what exists before its statement ---------------------------------------------------------------------------------

@@ -4,10 +4,9 @@ from __future__ import annotations
 import re
 from typing import Callable, Collection, Dict, Iterable, List, Mapping, NamedTuple, Optional, Tuple
 
-from ..base.files import text_of
-from ..base.paths import ninja_name
+from ..base.files import ninja_name, text_of
 from .log import Entry, Log, hashed
-from .statement import NinjaText, Statement
+from .text import NinjaText, Statement
 from .text import ALWAYS, plain
 
 TimeOf = Callable[[str], Optional[int]]          # the time of a file in nanoseconds, None if it is absent

@@ -2,24 +2,52 @@
 from __future__ import annotations
 
 import re
-from typing import Callable, Collection, Dict, Iterable, List, Mapping
+from typing import Callable, Collection, Dict, Iterable, Iterator, List, Mapping
 
 from ..base.files import bytes_of
-from ..base.stop import Status, Stop
-from ..graph.node import Graph
-from . import descriptions, headers, inner_makes, restat
-from .statement import Block, NinjaText
-from .text import escaped_value
+from ..base.message import Status, Stop
+from ..graph.node import Graph, Node
+from ..graph.writer import by_output
+from . import headers, inner_makes
+from .text import ALWAYS, Block, NinjaText, escaped_value
 
 # No line of kati's begins as these.
 ADDED = re.compile(rb"^ (?:depfile|description|pool|restat) = .*\n", re.MULTILINE)
 DEPFILE = re.compile(rb"^ depfile = (.*)$", re.MULTILINE)
+LONGEST = 2_000                  # letters of a description
 
 
 def added(text: NinjaText, graph: Graph, depfiles: Mapping[str, str], is_file: Callable[[str], bool]) -> List[Block]:
     """All that is added to kati's text; `depfiles` are paths by outputs."""
-    return [*headers.blocks(text, depfiles), *restat.blocks(text, is_file), *inner_makes.blocks(text, graph),
-            *descriptions.blocks(text, graph)]
+    return [*headers.blocks(text, depfiles), *restats(text, is_file), *inner_makes.blocks(text, graph),
+            *descriptions(text, graph)]
+
+
+def restats(text: NinjaText, is_file: Callable[[str], bool]) -> Iterator[Block]:
+    """`restat` for each statement whose outputs are all files now.
+
+    Not where an output is absent: Ninja would take a command that makes no file for one that changed nothing, and what
+    depends on it would go stale. Not for phony targets either: make rebuilds what needs them each time.
+    """
+    for one in text.statements:
+        if not one.is_phony and ALWAYS not in one.inputs and all(map(is_file, one.outputs)):
+            yield Block(one.line, (("restat", "1"),))
+
+
+def description(node: Node) -> str:
+    """The lines that make would echo, as one; a silent recipe shows its target."""
+    echoed = [command.text for command in node.commands if command.is_echoed and command.text.strip()]
+    text = " && ".join(" ".join(text.replace("\\\n", " ").split()) for text in echoed)
+    return text[:LONGEST] or f"making {node.outputs[0]}"
+
+
+def descriptions(text: NinjaText, graph: Graph) -> Iterator[Block]:
+    """`description` for each statement with a command."""
+    nodes = by_output(graph)
+    for one in text.statements:
+        node = nodes.get(one.outputs[0])
+        if node is not None and not one.is_phony:
+            yield Block(one.line, (("description", description(node)),))
 
 
 def with_blocks(text: NinjaText, blocks: Iterable[Block], hidden: Collection[str] = ()) -> bytes:

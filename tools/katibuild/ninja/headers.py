@@ -4,9 +4,8 @@ from __future__ import annotations
 import re
 from typing import Callable, Dict, Iterable, Iterator, Mapping, Optional
 
-from ..base.files import text_of
-from ..base.paths import ninja_name
-from .statement import Block, NinjaText
+from ..base.files import ninja_name, text_of
+from .text import Block, NinjaText
 
 LARGEST = 1 << 22                # bytes; no compiler writes a longer depfile
 RULE = re.compile(r"([^\s:=#$%\\]+)\s*:(?![:=])((?:[^=:;$#\\]|\\.|\$\$)*)$")

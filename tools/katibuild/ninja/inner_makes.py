@@ -7,7 +7,7 @@ from typing import Iterator
 
 from ..graph import scripts
 from ..graph.node import Command, Graph, Node
-from .statement import Block, NinjaText
+from .text import Block, NinjaText
 
 POOL = "kati_not_parallel"
 POOL_LINES = (f"pool {POOL}", " depth = 1")

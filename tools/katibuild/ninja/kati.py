@@ -6,11 +6,10 @@ import re
 from typing import NamedTuple, Optional, Sequence, Union
 
 from ..base import files, interrupt, programs
-from ..base.message import Place
-from ..base.stop import Status, Stop
+from ..base.message import Place, Status, Stop
 from ..graph.writer import GraphFile
 from . import text
-from .statement import NinjaText
+from .text import NinjaText
 
 FAULT = re.compile(r"(?m)^(?:graph:(\d+)|kati): \*\*\* (.*?)(?: \[(E\d\d)\])?$")
 NAME = "graph"

@@ -7,7 +7,7 @@ import sys
 from typing import List, Mapping, Optional, Sequence
 
 from ..base.programs import Programs
-from ..base.stop import Status, Stop
+from ..base.message import Status, Stop
 
 # What Python ignores, and a program that it runs must not.
 IGNORED = (signal.SIGPIPE, signal.SIGXFSZ)

@@ -2,16 +2,41 @@
 from __future__ import annotations
 
 import re
-from typing import List, Tuple
+from typing import List, NamedTuple, Tuple
 
 from ..base.files import text_of
-from .statement import NinjaText, Statement
 
 ALWAYS = "_kati_always_build_"   # kati's phony output that is never there: what has it as an input always runs
 NAME = re.compile(r"(?:\$.|[^ $])+")
 COLON = re.compile(r"(?:\$.|[^:$])*")
 ESCAPE = re.compile(r"\$(.)")
 COMMAND, BUILD = " command = ", "build "
+
+
+class Statement(NamedTuple):
+    """A build statement. `line` is that of its `build`, from 1; `end` is the first line behind its last key."""
+
+    line: int
+    end: int
+    outputs: Tuple[str, ...]
+    inputs: Tuple[str, ...]
+    order_only: Tuple[str, ...]
+    command: str                                 # as Ninja runs it; empty for phony statements
+    is_phony: bool = False
+
+
+class NinjaText(NamedTuple):
+    """`data` is kati's own, byte for byte."""
+
+    data: bytes
+    statements: Tuple[Statement, ...]
+
+
+class Block(NamedTuple):
+    """Keys that are added to the statement that begins at `line`."""
+
+    line: int
+    pairs: Tuple[Tuple[str, str], ...]
 
 
 def escaped(name: str) -> str:
