@@ -51,6 +51,10 @@ RUNS = (
     ("special targets by ::", ".PHONY:: all\n.NOTPARALLEL::\n.PRECIOUS:: b\nall: a.z ; +touch a\n.INTERMEDIATE: a.y\n"
      "%.z: %.y ; cp $< $@\n%.y: %.x ; cp $< $@\na.z: export T = 1\n", "", ()),
     ("eval in a recipe", "N = S\nall: ; $(eval X := $$(SHELL)) $(eval $(Y) := 1)+touch $(X)\nY = Z\n", "", ()),
+    ("a lazy variable beside the word SHELL", "lazy = $(eval $1 = $$(eval $1 := $(value $1))$$($1))\n"
+     "KERNEL = $(shell touch k)\n$(call lazy,KERNEL)\nNAMES = TERM SHELL $(if $(KERNEL),KERNEL)\n"
+     "print = echo $1=$($1);\nall: vars ; +touch a\nvars: ; @$(foreach one,$(NAMES),$(call print,$(one)))\n", "",
+     ("touch k",)),
     ("delete on error", ".DELETE_ON_ERROR:\nall: ; +touch a; false\n", "", ()),
     ("goal that removes", "all: ; touch a\nclean: ; +rm -rf *\n", "clean", ()),
     ("default recipe", "all: nothing\n.DEFAULT: ; +touch $@\n", "", ()),
@@ -64,6 +68,18 @@ REFUSED = (
     ("eval in a variable of a recipe", "X = $(eval SHELL = /bin/bash)\nall: ; $(X) +touch a\n", 1),
     ("eval of a computed name", "set = $(eval override $1 := $2)\nall: ; $(call set,SHELL,/bin/bash)+touch a\n", 1),
     ("eval of a called name", "N := SHELL\nall: ; $(eval $(N) = /bin/bash)+touch a\n", 2),
+    ("eval of names in a list", "set = $(eval override $1 := /bin/bash)\nNAMES = TERM SHELL\n"
+     "all: ; $(foreach one,$(NAMES),$(call set,$(one)))+touch a\n", 1),
+    ("eval by a composed name", "K = all\nset_all = $(eval override $1 := /bin/bash)\n"
+     "all: ; $(call set_$K,SHELL)+touch a\n", 2),
+    ("eval for a target by a name", "N := SHELL\nall: b a\nb: ; $(eval a: $(N) = /bin/bash)+touch b\n"
+     "a: ; +touch a\n", 3),
+    ("eval of a name from an eval", "all: a ; $(eval override $(N) := /bin/bash)+touch b\n"
+     "a: ; $(eval N := SHELL)+touch a\n", 1),
+    ("eval of a name of a target", "all: N = SHELL\nall: ; $(eval override $(N) = /bin/bash)+touch a\n", 2),
+    ("undefined by eval", "all: ; $(eval override undefine SHELL)+touch a\n", 1),
+    ("eval of a text that is called", "define SET\noverride $1 := /bin/bash\nendef\n"
+     "all: ; $(eval $(call SET,SHELL))+touch a\n", 4),
     ("eval of flags", "all: ; $(eval .SHELLFLAGS = -e) +touch a\n", 1),
     ("eval for a target", "all: a ; $(eval a: SHELL = /bin/bash) +touch x\na: ; +touch a\n", 1),
     ("eval in a second expansion", ".SECONDEXPANSION:\nall: $$(eval SHELL = /bin/bash) ; +touch a\n", 2),

@@ -3,19 +3,26 @@ from __future__ import annotations
 
 import os
 import re
-from typing import Iterable, Iterator, List, Mapping, Optional, Tuple
+from typing import AbstractSet, Dict, Iterable, Iterator, List, Mapping, Optional, Set, Tuple
 
 from ..base.files import read, text_of
 from ..base.message import Place, Stop
 from .answer import Reading
 from .database import Database, Variable
+from .heads import behind_reference
 from .question import Question
 
 REFERENCE = re.compile(r"\$(?:\(([\w.-]+)\)|\{([\w.-]+)\})")
 EVAL = re.compile(r"\$[({]eval\b")
 SETS_SHELL = re.compile(r"(?:^|[\s:(,])\.?SHELL(?:FLAGS)?\s*(?:[:+?!]{0,3}=|\n)", re.MULTILINE)
 BARE_SHELL = re.compile(r"(?<![\w.$({])\.?SHELL(?:FLAGS)?\b")
-COMPUTED = re.compile(r"\$[({]eval\s+(?:(?:override|export|private)\s+)*\$")   # the name that is set is computed
+PLAIN = r"\s*(?:(?:override|export|private)\s+)*([\w.-]+)\s*[:+?!]{0,3}="
+PLAIN_EVAL = re.compile(EVAL.pattern + PLAIN)                # sets the variable that its text names
+OTHER_EVAL = re.compile(rf"{EVAL.pattern}(?!{PLAIN})")
+# What an eval must meet to set SHELL: any eval a text that sets it, one whose text names no variable the mere word.
+MEETINGS = ((EVAL, SETS_SHELL), (OTHER_EVAL, BARE_SHELL))
+NAME = re.compile(r"[\w.-]+")
+COMPOSED = re.compile(r"([\w.-]+)\$[({\w@*<]")              # `set_$(1)` may name each variable that begins so
 DEPTH = 10                    # of variables that name variables
 OF_COMMAND_LINE = frozenset(("MAKEFLAGS", "MAKEOVERRIDES", "MFLAGS", "-*-command-variables-*-"))
 HELP = "set SHELL outside of recipes"
@@ -61,18 +68,53 @@ def refuse_foreign(question: Question, reading: Reading) -> None:
         raise Stop("MAKEFLAGS sets SHELL", place=place_in(question.folder, reading.makefiles), help=HELP)
     if shell is not None and (expanded(shell, found.variables) or "/bin/sh") != reading.shell:
         raise Stop("SHELL is set by $(eval) when make has read all makefiles", place=shell.place, help=HELP)
-    texts = [(text, place) for text, place in late_texts(found) if "eval" in text and EVAL.search(text)]
-    if not texts:
+    refuse_evals(found)
+
+
+def refuse_evals(found: Database) -> None:
+    """Stops with status 2 if a text that make expands late leads to an eval, and to what that could set SHELL by."""
+    texts: Dict[str, Optional[Place]] = {}
+    for text, place in late_texts(found):
+        texts.setdefault(text, place)
+    if not any("eval" in text and EVAL.search(text) for text in texts):
         return
-    setting = any(SETS_SHELL.search(one.value) for one in found.variables.values()
-                  if "SHELL" in one.value and one.name not in OF_COMMAND_LINE)
-    values = (one.value for one in found.variables.values()
-              if one.origin not in ("default", "environment") and one.name not in OF_COMMAND_LINE)
-    named = (*(text for text, _ in late_texts(found)), *values)
-    is_named = any(BARE_SHELL.search(text) for text in named if "SHELL" in text)
-    for text, place in texts:
-        if setting or SETS_SHELL.search(text) or is_named and COMPUTED.search(text):
-            raise Stop("a recipe sets SHELL by $(eval)", place=place, help=HELP)
+    values = values_of(found, texts)
+    for is_eval, is_shell in MEETINGS:
+        evals, shells = ({name for name, text in values.items() if form.search(text)} for form in (is_eval, is_shell))
+        evals, shells = naming(values, evals), naming(values, shells)
+        for text, place in texts.items():
+            own = is_eval.search(text)
+            if (is_shell.search(text) or names_one(text, shells)) and (own or names_one(text, evals)):
+                led = (one.place for one in (*found.variables.values(), *found.of_targets)
+                       if is_eval.search(one.value) and names_one(text, naming(values, {one.name})))
+                raise Stop("a recipe sets SHELL by $(eval)", place=place if own else next(led, place), help=HELP)
+
+
+def values_of(found: Database, texts: Iterable[str]) -> Mapping[str, str]:
+    """The unexpanded texts that each variable stands for, now or after an eval."""
+    values: Dict[str, str] = {}
+    now = ((one.name, one.value) for one in (*found.variables.values(), *found.of_targets))
+    late = ((one.group(1), text[one.start():behind_reference(text, one.start())])
+            for text in texts for one in PLAIN_EVAL.finditer(text))
+    for name, text in (*now, *late):
+        if name not in OF_COMMAND_LINE:
+            values[name] = f"{values.get(name, '')}\n{text}"
+    return values
+
+
+def naming(values: Mapping[str, str], names: AbstractSet[str]) -> Set[str]:
+    """These variables, and all whose values name one of them, through others too."""
+    found, new = set(names), set(names)
+    while new:
+        new = {name for name, text in values.items() if name not in found and names_one(text, new)}
+        found |= new
+    return found
+
+
+def names_one(text: str, names: AbstractSet[str]) -> bool:
+    """Whether a text has one of the names as a word, or the beginning of one before a reference."""
+    return bool(names) and (not names.isdisjoint(NAME.findall(text)) or any(
+        name.startswith(begin) for begin in COMPOSED.findall(text) for name in names))
 
 
 def late_texts(found: Database) -> Iterator[Tuple[str, Optional[Place]]]:
