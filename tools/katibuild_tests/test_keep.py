@@ -192,6 +192,14 @@ class Keep(Tree):
         self.assertEqual(0, self.build().status)
         self.assertEqual("1\n", self.read("prog"))
 
+    def test_recipes_have_makes_environment(self):
+        self.put({"Makefile": "prog:\n\tenv | grep -v '^MAKE\\|^MFLAGS' | sort > prog\n"})
+        self.sh("make")
+        by_make = self.read("prog")
+        self.sh("rm prog")
+        self.assertEqual(0, self.build().status)
+        self.assertEqual(by_make, self.read("prog"))
+
     def test_killed_while_files_are_hidden(self):
         self.put(FILES)
         self.build()

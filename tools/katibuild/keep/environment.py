@@ -11,7 +11,7 @@ from ..base import files
 # Variables that make and shells set themselves, or that name the terminal and the working folder.
 OWN = frozenset((*MAKE_OWN, "MAKE", "MAKECMDGOALS", "MAKEFILE_LIST", "CURDIR", "PWD", "OLDPWD", "SHLVL", "SHELL", "_",
                  "TERM", "COLUMNS", "LINES", "MAKE_TERMOUT", "MAKE_TERMERR", "LANGUAGE", "NINJA_STATUS", "KATI",
-                 "KATI_ASKED", "KATI_JOBS", "KATI_BUILDING"))
+                 "KATI_ASKED", "KATI_JOBS"))
 # The variables of make's built-in rules (GNU make manual, "Variables Used by Implicit Rules").
 BUILT_IN = ("AR", "ARFLAGS", "AS", "ASFLAGS", "CC", "CFLAGS", "CPP", "CPPFLAGS", "CXX", "CXXFLAGS", "FC", "FFLAGS",
             "LDFLAGS", "LDLIBS", "LEX", "LFLAGS", "LOADLIBES", "M2C", "PC", "PFLAGS", "RFLAGS", "RM", "TARGET_ARCH",

@@ -41,12 +41,9 @@ def one_build(run: Run) -> Iterator[None]:
 
     A recipe that calls kati-build in the folder that is being built doesn't wait for itself.
     """
-    if run.environ.get(running.BUILDING) == os.getcwd():
-        yield
-        return
     folder.refuse_foreign(run.place.ninja_file)
     folder.prepare(run.place)
-    with lock.held(folder.BUILDING, waiting):
+    with lock.held(folder.BUILDING, waiting, is_open_below=True):
         yield
 
 

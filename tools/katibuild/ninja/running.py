@@ -12,7 +12,6 @@ from ..base.message import Status, Stop
 # What Python ignores, and a program that it runs must not.
 IGNORED = (signal.SIGPIPE, signal.SIGXFSZ)
 HANDED_ON = (signal.SIGINT, signal.SIGTERM, signal.SIGHUP)
-BUILDING = "KATI_BUILDING"   # the environment variable that tells recipes which folder is being built
 
 
 def run(programs: Programs, arguments: Sequence[str], jobs: Optional[int] = None) -> int:
@@ -23,8 +22,8 @@ def run(programs: Programs, arguments: Sequence[str], jobs: Optional[int] = None
     sys.stdout.flush()
     sys.stderr.flush()
     came: List[int] = []
-    more = {BUILDING: os.getcwd(), **({"KATI_JOBS": str(jobs)} if jobs else {})}
-    child = started([programs.ninja, *arguments], {**os.environ, **more})
+    environ = {**os.environ, "KATI_JOBS": str(jobs)} if jobs else os.environ
+    child = started([programs.ninja, *arguments], environ)
 
     def hand_on(number: int, _frame: object) -> None:
         came.append(number)
