@@ -10,8 +10,9 @@ command's text as the shell reads it (bash prints it as the body of a function),
 environment. Inner makes and `$(shell ..)` are not recorded. MAKEFLAGS, MFLAGS, MAKELEVEL and MAKE_TERM* do not count,
 nor what a shell sets by itself.
 
-With --list, FOLDER holds unpacked programs, and FILE names one makefile a line by its path there. A makefile counts if
-`make -n` accepts it. If make's build fails, both builds go on as far as they can (-k), and their commands are compared.
+With --list, FOLDER holds unpacked programs, and FILE names one makefile a line by its path there, with comments after
+`#`. A makefile counts if `make -n` accepts it. If make's build fails, both builds go on as far as they can (-k), and
+their commands are compared.
 
   same       ninja ran make's commands; `repeated N`: some ran more often than by make
   differ     they differ; the first commands of each build alone follow
@@ -108,7 +109,8 @@ def found(subject: Subject, name: str, given: argparse.Namespace) -> Found:
 
 def listed(given: argparse.Namespace) -> List[Subject]:
     """The makefiles of --list."""
-    top, names = given.tree, Path(given.list).read_text(encoding="utf-8").split()
+    top, lines = given.tree, Path(given.list).read_text(encoding="utf-8").split("\n")
+    names = [name for line in lines for name in line.split("#")[0].split()]
     return [Subject(top / name.split("/")[0], Path(*name.split("/")[1:-1]), name.split("/")[-1]) for name in names]
 
 

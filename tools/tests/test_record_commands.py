@@ -38,7 +38,7 @@ class Recording(Tree):
     def test_makefiles_of_a_list(self):
         self.put_all({"one/Makefile": "all: ; @echo\n", "two/sub/x.mk": "all: ; @echo $(A)\n",
                       "three/Makefile": "all: absent\n",
-                      "list": "one/Makefile\ntwo/sub/x.mk\nthree/Makefile\nfour/m\n"})
+                      "list": "# A rule.\none/Makefile  # 1.0\ntwo/sub/x.mk\nthree/Makefile\nfour/m\n"})
         found = self.record("--list", "list", ".", status=0).split("\n")
         self.assertEqual(found[:2], ["one/Makefile: same, 1 commands", "two/sub/x.mk: same, 1 commands"])
         self.assertRegex(found[2], r"^three/Makefile: not make's, make: \*\*\* No rule to make target 'absent'")
