@@ -14,7 +14,7 @@ from ..graph.writer import GraphFile
 from ..ninja import as_made, blocks, kati, top
 from ..ninja.text import NinjaText
 from ..ninja.top import PhonyGoal
-from . import asked, environment, folder, goals, stale, turns
+from . import asked, dependencies, environment, folder, goals, stale, turns
 from .asked import Asked
 from .record import BuildRecord, save
 from .request import Place, ROOM, Run, tools_digest
@@ -62,11 +62,23 @@ def log_lines(run: Run, record: Optional[BuildRecord], found: Asked, text: Ninja
         message.say(Message(f"{counted(lines)} taken as make left {'it' if len(lines) == 1 else 'them'} "
                             "(kati-build --anew rebuilds)"))
     needs_run = is_late(record, found, text)
-    if is_only_built:
-        lines.update(as_made.same_build(before, text, log, needs_run))
+    same = as_made.same_build(before, text, log, needs_run) if is_only_built else {}
+    if not read_products(record, found):
+        lines.update(same)
     lines.update(as_made.of_folders(text, log, turns.time_of_folder))
     turns.add(log, lines)
-    return frozenset(lines).union(as_made.always_run(before, text, needs_run) if is_only_built else ())
+    return frozenset((*lines, *same, *(as_made.always_run(before, text, needs_run) if is_only_built else ())))
+
+
+def read_products(record: Optional[BuildRecord], found: Asked) -> FrozenSet[str]:
+    """The products whose new content make has read, as by `V := $(shell cat ver)`. What a text says of them, Ninja
+    builds in its next run: a build runs no recipe twice."""
+    if record is None:
+        return frozenset()
+    opened = (dependencies.relative(path, found.question.folder) for path in found.answer.opened)
+    before, now = record.dependencies.files, found.dependencies.files
+    return frozenset(name for name in set(opened).intersection(record.outputs).difference(record.made_includes)
+                     if stale.is_other(before.get(name), now.get(name), False))
 
 
 def is_late(record: Optional[BuildRecord], found: Asked, text: NinjaText) -> Callable[[str], bool]:
