@@ -69,3 +69,42 @@ class Pieces(unittest.TestCase):
         first, rest = b"build a: r0 x\n", b"rule r1\n command = build no: r\nbuild b c: r1 y\nbuild d$:e: r1\n"
         self.assertEqual(ninja_text.Heads([first, rest]).outputs(), {"a", "b", "c", "d:e"})
         self.assertEqual(ninja_text.Heads([first + rest]).outputs(), {"a", "b", "c", "d:e"})
+
+    def test_no_names_before_colons(self):
+        self.assertEqual(ninja_text.Heads([b"# kati\n"]).outputs(), set())
+
+
+class AnyExists(unittest.TestCase):
+    """Whether one of many files exists is what a look at each tells, in folders that are read and in others."""
+
+    FEW, MANY = 3, files.MANY + 1
+
+    def setUp(self):
+        room = tempfile.TemporaryDirectory()
+        self.addCleanup(room.cleanup)
+        self.addCleanup(os.chdir, os.getcwd())
+        os.chdir(room.name)
+        os.mkdir("d")
+        Path("there").touch()
+        Path("d/there").touch()
+        os.symlink("nowhere", "link")
+
+    def test_each_way_to_spell_a_name(self):
+        lone = ["there", "./there", "d/there", "d//there", "d/../there", "link", "d", "d/", "d/.", "d/..", ".", "..",
+                "/", os.path.abspath("there"), "absent", "d/absent", "there/absent", "link/absent", "no/there",
+                "no/../there"]
+        folders = ["", "./", "d/", "d//", "d/../", "there/", "link/", "no/", os.path.abspath("d") + "/"]
+        for count in (0, self.FEW, self.MANY):
+            for folder in folders:
+                others = [f"{folder}t{number}" for number in range(count)]
+                for name in lone:
+                    with self.subTest(count=count, folder=folder, name=name):
+                        is_there = not name.endswith("absent") and not name.startswith("no/")
+                        self.assertEqual(files.any_exists([*others, name]), is_there)
+                self.assertFalse(files.any_exists(others))
+
+    def test_one_of_many(self):
+        for folder in ("", "d/"):
+            names = [f"{folder}t{number}" for number in range(self.MANY)]
+            Path(names[7]).touch()
+            self.assertTrue(files.any_exists(names))

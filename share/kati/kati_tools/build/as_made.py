@@ -55,12 +55,12 @@ def refuse_beside_others(output):
 
 def any_exists(path):
     """Whether one of the files exists that a file of statements makes."""
-    return any(map(os.path.lexists, ninja_text.Heads([files.content(path) or b""]).outputs()))
+    return files.any_exists(ninja_text.Heads([files.content(path) or b""]).outputs())
 
 
 def makes_what_exists(translation):
     """Whether one of the files exists that a translation makes, those aside that it makes at each run."""
-    if not any(map(os.path.lexists, translation.outputs)):
+    if not files.any_exists(translation.outputs):
         return False
     made = (one for one in translation.statements if one.command is not None and always_run.ALWAYS not in one.needs)
     return any(os.path.lexists(name) for one in made for name in one.outputs)

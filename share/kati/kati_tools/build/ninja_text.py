@@ -113,7 +113,7 @@ class Heads:
     def outputs(self):
         """All names that the statements make."""
         if self.are_names:
-            return set(map(text_of, self.all))
+            return set(text_of(self.joined).split("\n")) if self.all else set()
         return {plain(name) for one in self.all for name in names(text_of(one))}
 
 

@@ -20,8 +20,9 @@ IGNORED_TABS = re.compile(r"""^[ ]*\$[({](?:eval|info|warning|error)\b.*\n
                               (?:[ ]*(?:(?:\#|ifn?eq|ifn?def|else|endif).*)?\n)*\t
                               |^\t[ \t]*(?:ifn?eq|ifn?def|else|endif)\b""", re.MULTILINE | re.VERBOSE)
 # Lines with a reference or a `%` before a colon, and suffix rules; no recipe lines, and no comments. The first of these
-# bytes stands where it is looked for, so that a line of many is looked through once.
-COMPUTED_RULE = re.compile(r"^(?![\t#])(?:\.[^\n:]*|[^\n$%]*[$%][^\n]*):.*", re.MULTILINE)
+# bytes stands where it is looked for, so that a line of many is looked through once. Behind a line's end, as all forms
+# that begin so: what begins with a byte is found twice as fast as the beginning of a line.
+COMPUTED_RULE = re.compile(r"\n(?![\t#])((?:\.[^\n:]*|[^\n$%]*[$%][^\n]*):.*)")
 ASSIGNING = re.compile(r":{1,3}=")
 # What may take back make's own rules.
 TAKING_BACK = re.compile(r"^ *%[^:=\n]*:[ \t]*%|\.SUFFIXES\b|\bMAKEFLAGS[ \t]*[:+?!]*=.*r|--no-builtin-rules",
@@ -31,8 +32,8 @@ COMPUTED = re.compile(r"\$[({](?:(?:call|value|flavor|origin)[ \t]+)?([^\s(){}$:
 # References to macros by names that are written out, with what may stand behind these, and without.
 NAMED, PLAIN = re.compile(r"\$[({]([^\s:,$(){}]+)"), re.compile(r"\$[({]([^\s:,$(){}]+)[)}]")
 # An assignment that leaves nothing of a value of before, and what begins and ends lines that may not count.
-ASSIGNED_OR_LINES = re.compile(r"""^(?:[ ]*(?:(?:override|export)[ ]+)*([\w.]+)[ \t]*(?::{0,3}|\?|!)=
-                                   |[ \t]*(?:(ifn?def|ifn?eq|define)|endif|endef)\b)""", re.MULTILINE | re.VERBOSE)
+ASSIGNED_OR_LINES = re.compile(r"""\n(?:[ ]*(?:(?:override|export)[ ]+)*([\w.]+)[ \t]*(?::{0,3}|\?|!)=
+                                   |[ \t]*(?:(ifn?def|ifn?eq|define)|endif|endef)\b)""", re.VERBOSE)
 
 
 def places_of(text, part):
@@ -90,7 +91,7 @@ def may_include_up(text):
 
 def computed_rules(text):
     """The lines of such a text that may be rules with a reference or a `%` in their targets, and suffix rules."""
-    return COMPUTED_RULE.findall(text)
+    return COMPUTED_RULE.findall("\n" + text)
 
 
 def before_colons(line):
@@ -126,7 +127,7 @@ def beginnings_of_computed(text):
 def surely_assigned(text):
     """The macros to which a makefile's text gives a value whatever holds: in no conditional, and in no `define`."""
     found, depth = set(), 0
-    for statement in ASSIGNED_OR_LINES.finditer(without_continuations(text)):
+    for statement in ASSIGNED_OR_LINES.finditer("\n" + without_continuations(text)):
         assigned, begin = statement.groups()
         if not assigned:
             depth += 1 if begin else -1
