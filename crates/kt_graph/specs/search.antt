@@ -2,4 +2,3 @@
 -- there is one, and what was asked to find it. Begin with the definition `choice_of` in `Search`.
 pub mod Candidates
 pub mod Search
-pub mod Views

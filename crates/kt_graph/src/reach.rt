@@ -2,8 +2,9 @@
 ghost use Rattle.std.specs.Prelude.{◌≡◌, IfErr, IfOk};
 ghost use Rattle.kt_text.specs.Words.{Text};
 ghost use Rattle.kt_graph.specs.Known.{known_names};
-ghost use Rattle.kt_graph.specs.faults.Faults.{IsSoundGraph, ReportsFirst};
-ghost use Rattle.kt_graph.specs.Reach.{HasMadeInputs};
+ghost use Rattle.kt_graph.specs.faults.Faults.{IsSoundGraph};
+ghost use Rattle.kt_graph.specs.views.faults.Faults.{ReportsFirst};
+ghost use Rattle.kt_graph.specs.views.Reach.{HasMadeInputs};
 
 use crate::faults::fault::GraphFault;
 use crate::known::Known;

@@ -2,7 +2,7 @@
 use Rattle.std.proofs.Common.{◌≡◌, ◌≢◌, ℕ, suc, ◌+◌, ◌≤◌, Bool, true, false, ◌==◌, List, [], ◌∷◌, ◌++◌, refl, sym, ◌∙◌, ap, append_assoc, append-nil, length, take, drop, arith, MatchOption, Option, Some, None, option_map, if◌then◌else◌, ⊎_elim}
 use Rattle.kt_ninja_reader.proofs.Common.{cases_Bool, false≢true, eqb-true, length-drop, option_and_then, prefix_len, DollarCut, PartFault, Bytes, is_empty, Piece, Plain, Escaped, Variable, Where, after_dollar, in_braces, in_name, is_escapable, is_long_name_byte, is_short_name_byte, outer_step, outside, pieces_from}
 use Rattle.kt_ninja_reader.specs.inner.Cutting.{CutsOff, CutsShort, dollar_piece}
-use Rattle.kt_ninja_reader.specs.Spellings.{name_goes_on}
+use Rattle.kt_ninja_reader.specs.views.Spellings.{name_goes_on}
 use Rattle.kt_ninja_reader.specs.inner.Refusals.{LacksReading}
 
 -- a refusal of one reading is one of another that has no value either

@@ -3,7 +3,9 @@ use Rattle.std.proofs.Common.{◌≡◌, ◌≤◌, ◌+◌, ◌-◌, ℕ, suc, 
 use Rattle.kt_ninja_reader.proofs.Common.{cases_Bool, drop-drop, length-drop, map_push, prefix_len, Plan, PartFault, NoReading, JoinedLine, Bytes, is_blank_line, is_comment, Binding, FilePart, State, all_parts, and_then_parts, begins_part, block_from, cut_lines, ninja_read, nothing_read, read_part, read_parts, plan_text, IsWritable}
 use Rattle.kt_ninja_reader.specs.declared.read_fault.ReadFault.{ReadFault}
 use Rattle.kt_ninja_reader.specs.declared.read_fault.ReadFault.TheVariants.{Memory as MemoryRefused}
-use Rattle.kt_ninja_reader.specs.Reading.{AddsBindings, Misreads, StopsBlock, file_part, line_binding, part_before, part_fault}
+use Rattle.kt_ninja_reader.specs.inner.Reading.{AddsBindings, StopsBlock, file_part, line_binding, part_before}
+use Rattle.kt_ninja_reader.specs.inner.Reading.{part_fault}
+use Rattle.kt_ninja_reader.specs.views.Reading.{Misreads}
 use Rattle.kt_ninja_reader.specs.inner.Refusals.{LacksReading}
 use Rattle.kt_ninja_reader.proofs.PrintThenRead.{printed_is_read}
 

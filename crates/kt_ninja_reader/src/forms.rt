@@ -4,8 +4,8 @@ ghost use Rattle.std.specs.List.{list_any, slice_split};
 ghost use Rattle.kt_ninja_reader.specs.Forms.{binding_of, build_after, build_inputs, build_of, build_with, defaults_of};
 ghost use Rattle.kt_ninja_reader.specs.Forms.{is_keyword, is_plain_byte, paths_of, rule_name_in, single_name, spelled_words};
 ghost use Rattle.kt_ninja_reader.specs.inner.Cutting.{is_own_byte};
-ghost use Rattle.kt_ninja_reader.specs.inner.Wording.{bars_cut, binding_view, build_view, inputs_view, key_of, some_word};
-ghost use Rattle.kt_ninja_reader.specs.inner.Wording.{two_bars, two_of};
+ghost use Rattle.kt_ninja_reader.specs.inner.Wording.{bars_cut, binding_view, build_view, inputs_view, key_of};
+ghost use Rattle.kt_ninja_reader.specs.inner.Wording.{some_word, two_bars, two_of};
 ghost use Rattle.kt_ninja_reader.specs.inner.Refusals.{Reads, ReadsAs};
 ghost use Rattle.std.specs.Prelude.{true};
 

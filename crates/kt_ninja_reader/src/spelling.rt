@@ -10,8 +10,8 @@ ghost use Rattle.kt_ninja_reader.specs.Pieces.{is_short_name_byte, pieces, piece
 ghost use Rattle.kt_ninja_reader.specs.inner.Spelled.{is_spelled, pieces_in};
 ghost use Rattle.kt_ninja.specs.Writable.{is_empty};
 ghost use Rattle.kt_ninja_reader.specs.inner.Cutting.{AreSides, CutsOff, CutsShort, dollar_piece, dollar_pieces};
-ghost use Rattle.kt_ninja_reader.specs.Spellings.{name_goes_on};
 ghost use Rattle.kt_ninja_reader.specs.inner.Cutting.{is_own_byte, stops_at, variable_names};
+ghost use Rattle.kt_ninja_reader.specs.views.Spellings.{name_goes_on};
 
 use crate::bytes::first_byte;
 use crate::joined::without_indent;

@@ -2,7 +2,8 @@
 ghost use Rattle.std.specs.Prelude.{◌≡◌, ◌≤◌, ◌∷◌, [], IfOk, OnOk, length, map};
 ghost use Rattle.std.specs.List.{join_with_byte};
 ghost use Rattle.kt_text.specs.Functions.{name_part, name_place};
-ghost use Rattle.kt_text.specs.Words.{list_text, put_word};
+ghost use Rattle.kt_text.specs.Words.{list_text};
+ghost use Rattle.kt_text.specs.views.Words.{put_word};
 ghost use Rattle.kt_recipe.specs.Forms.{directory_of, names_text_in};
 
 use memchr::memrchr;

@@ -58,7 +58,7 @@ pub(crate) struct KeptLines<'m> {
 }
 
 impl<'m> Model for KeptLines<'m> {
-    ghost use Rattle.kt_recipe.specs.Shell.{Commands};
+    ghost use Rattle.kt_recipe.specs.views.Commands.{Commands};
     ghost use Rattle.kt_recipe.specs.inner.Prepared.{IsRightLine};
     ghost use Rattle.std.specs.List.{All};
 

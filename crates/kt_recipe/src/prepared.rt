@@ -3,7 +3,8 @@
 //! expanded once, to pieces. Spares the search for references, a hash for each macro, and each call.
 ghost use Rattle.std.specs.Prelude.{◌≡◌, ◌++◌, [], IfOk, IfSome, OnOk, false, map, option_map, true};
 ghost use Rattle.kt_text.specs.Words.{stripped};
-ghost use Rattle.kt_syntax.specs.Terms.{reference, token_of};
+ghost use Rattle.kt_syntax.specs.Terms.{reference};
+ghost use Rattle.kt_syntax.specs.views.Terms.{token_of};
 ghost use Rattle.kt_eval.specs.State.{lookup};
 ghost use Rattle.kt_eval.specs.expanding.Expansion.{apply, apply_if, apply_text, each_argument, expanded, flavoured};
 ghost use Rattle.kt_eval.specs.expanding.Expansion.{term_of, value_of};

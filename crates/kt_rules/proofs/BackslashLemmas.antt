@@ -1,7 +1,7 @@
 -- Texts without a backslash, in which nothing is quoted, and texts without a colon, which aren't cut.
 use Rattle.std.proofs.Common.{◌≡◌, ℕ, zero, suc, ◌+◌, ◌-◌, ◌<◌, ◌≤◌, Bool, false, [], ◌∷◌, Option, None, Some, length, refl, sym, ◌∙◌, ap, arith, true≢false, get_or, take, drop, ◌==◌, if◌then◌else◌}
 use Rattle.kt_rules.proofs.Common.{list_any, position_or_len, eq-eqb, eqb-true, false_from_ne_true, le-ltb, ne_eqb, or_parts, list_any_at, IsFirstByte, OccursAt, is_byte, Text, quotes_percent, list_any-place, first_byte_place, occurs_found, Colon, cut_place, name_of, unquoted, without_dots, colon_cut, less_one}
-use Rattle.kt_rules.specs.Cuts.{ends_in_backslash}
+use Rattle.kt_rules.specs.views.Cuts.{ends_in_backslash}
 use Rattle.kt_rules.specs.inner.Telling.{is_backslash}
 
 one_stays : (byte : ℕ) (text : Text) → is_backslash byte ≡ false → unquoted (byte ∷ text) ≡ byte ∷ unquoted text

@@ -1,7 +1,7 @@
 -- What a book keeps beside its rules, as rules are added.
 use Rattle.std.proofs.Common.{rules, ◌≡◌, ℕ, ◌+◌, Bool, true, false, cond, ◌||◌, if◌then◌else◌, List, [], ◌∷◌, ◌++◌, length, map, filter, fold, find, drop, take, slice_get, ◌≤◌, Option, Some, None, refl, sym, ap, ◌∙◌, arith, subst, is_some, ◌⊎◌, inl, ⊎_elim, length-append, true≢false}
 use Rattle.kt_rules.proofs.Common.{option_map, take-append_seam, option_and_then, option_or, option_map_or, list_any, bytes_eq, or_parts, append-nil, length_push, filter-append, list_any-append, flat_map-append, fold-append, bytes_eq-Decides, or_nothing, Text, Target, Spot, HoldsAll, Entry, is_among, with_name, suffixes_after, start_suffixes, AreApart, is_made, made_targets, target_rules, rules_of, recipes_of, has_recipe, is_double, is_group, phony_of, is_phony, xor, differ_in_colons, is_beside_group, both_colons_in, beside_group_in, two_recipes_in, refusal_of, spots_at, target_rule, spot_rule, found, first_of, spot_at, target_spots, spots_from, spots_for, AreBefore, AreIn, ForgotFrom, GrewIn, GotSpots, GotRecipes, AllAgree, IsIndexOf, IsKept}
-use Rattle.kt_list.specs.Prefixes.{HasMore}
+use Rattle.kt_list.specs.views.Prefixes.{HasMore}
 use Rattle.std.proofs.lemmas.List.Quantifiers.{all_pairs_push}
 use Rattle.kt_rules.specs.inner.Lists.{Notes}
 use Rattle.kt_rules.proofs.FindLemmas.{find_none, some_none}

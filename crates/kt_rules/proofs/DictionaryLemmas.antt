@@ -1,7 +1,7 @@
 -- Names and lists of names by numbers.
 use Rattle.std.proofs.Common.{rules, ◌≡◌, ℕ, Bool, true, false, if◌then◌else◌, List, [], ◌∷◌, ◌++◌, length, slice_get, get_or, Option, Some, option_map, sym, ap, ◌∙◌, subst, arith, length-append}
 use Rattle.kt_rules.proofs.Common.{All, append-nil, append_assoc, get_or_append_left, All-push, All-weaker, get_or_from_slice_get, slice_get_within, number_found, Text, is_among, with_name, place_of, AreBelow, AreNumbersOf, name_at, name_read, number_stays, numbers_below, numbers_stay, GrowsDictionary, IsListOf, IsNumberOf}
-use Rattle.kt_list.specs.Prefixes.{HasMore}
+use Rattle.kt_list.specs.views.Prefixes.{HasMore}
 
 -- ---- lists that others begin with
 

@@ -2,7 +2,7 @@
 use Rattle.std.proofs.Common.{arith, rules, ◌≡◌, Bool, true, false, if◌then◌else◌, List, [], ◌++◌, Option, Some, Vec, Global, sym, ◌∙◌}
 use Rattle.kt_rules.proofs.Common.{bytes_eq, unwrap_or, option_map, bytes_eq-Decides, append-nil, Text}
 use Rattle.std.specs.Map.{lookup, KeepsOthers}
-use Rattle.kt_rules.specs.Indexes.{noted_in}
+use Rattle.kt_rules.specs.views.Indexes.{noted_in}
 
 -- the entries of a map of names
 abbrev Entries : Type 0 → Type 0

@@ -1,8 +1,8 @@
 -- Targets that are told by the numbers of their names.
 use Rattle.std.proofs.Common.{◌≡◌, ℕ, ◌+◌, ◌<◌, List, ◌∷◌, length, drop, map, get_or, sym, ap}
 use Rattle.kt_rules.proofs.Common.{IsDistinct, bytes_eq, drop_more, Text, Spot, Target, line_needs, list_of, name_at, named_at, names_at, numbered_target, spots_at, target_of}
-use Rattle.kt_rules.specs.Prelude.{BookRule}
-use Rattle.kt_rules.specs.Targets.{text_in}
+use Rattle.kt_rules.specs.views.Prelude.{BookRule}
+use Rattle.kt_rules.specs.views.Targets.{text_in}
 use Rattle.kt_rules.specs.inner.Lists.{list_at}
 use Rattle.kt_rules.proofs.NoteLemmas.{place_at}
 

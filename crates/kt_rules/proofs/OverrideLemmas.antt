@@ -1,9 +1,9 @@
 -- Warnings on targets that get a second recipe, told once their rule has its numbers.
 use Rattle.std.proofs.Common.{◌≡◌, Bool, true, ◌&&◌, if◌then◌else◌, List, [], ◌∷◌, ◌++◌, filter, map, is_some, refl, ap, ◌∙◌}
 use Rattle.kt_rules.proofs.Common.{list_any, HoldsAll, Text, Spot, Target, Entry, first_found, first_of, made_targets, override_message, recipes_of, spots_at}
-use Rattle.kt_list.specs.Prefixes.{HasMore}
+use Rattle.kt_list.specs.views.Prefixes.{HasMore}
 use Rattle.kt_rules.specs.Book.{override_messages}
-use Rattle.kt_rules.specs.Slots.{noted_messages}
+use Rattle.kt_rules.specs.inner.Slots.{noted_messages}
 use Rattle.kt_rules.specs.Suffixes.{is_single}
 use Rattle.kt_rules.proofs.BookLemmas.{holds_grown}
 use Rattle.kt_rules.proofs.SpotLemmas.{found-before}

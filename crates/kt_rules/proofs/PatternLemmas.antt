@@ -6,7 +6,7 @@ use Rattle.std.proofs.lemmas.Cmp.{lists_equiv}
 use Rattle.indexmap.specs.IndexSet.{insert_key}
 use Rattle.kt_rules.specs.declared.book.pattern_set.PatternKey.{PatternKey}
 use Rattle.kt_rules.specs.declared.book.pattern_set.PatternSet.{PatternSet}
-use Rattle.kt_rules.specs.Patterns.{suffix_rules_at, stays_before, held, has_repeated, has_pattern, IsKeyOf}
+use Rattle.kt_rules.specs.inner.Patterns.{suffix_rules_at, stays_before, held, has_repeated, has_pattern, IsKeyOf}
 
 -- the rules after the remaining ones are sorted: the kept ones are in reverse order, and the set has them all
 pub record IsSorted (all left kept : List Entry) (set : PatternSet) : Type 0 where

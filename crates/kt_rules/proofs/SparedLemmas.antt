@@ -1,9 +1,9 @@
 -- Targets at which nobody has to look.
 use Rattle.std.proofs.Common.{arith, ◌≡◌, Bool, true, false, cond, ◌&&◌, List, [], ◌∷◌, ◌++◌, map, filter, find, None, Option, Some, refl, sym, ◌∙◌, ap}
 use Rattle.kt_rules.proofs.Common.{All, append-nil, filter_map, list_any, Text, Kind, Needs, RecipeLine, Entry, rule_by, target_of, stemmed_of, is_bare, is_made, made_targets, is_double, is_group, rules_of, recipes_of, differ_in_colons, is_beside_group, both_colons_in, beside_group_in, suffix_rule_as_pattern, entry_view, line_needs, names_at, option_map}
-use Rattle.kt_rules.specs.Patterns.{suffix_rules_in}
-use Rattle.kt_rules.specs.Prelude.{BookRule}
-use Rattle.kt_rules.specs.Targets.{text_in}
+use Rattle.kt_rules.specs.inner.Patterns.{suffix_rules_in}
+use Rattle.kt_rules.specs.views.Prelude.{BookRule}
+use Rattle.kt_rules.specs.views.Targets.{text_in}
 use Rattle.kt_rules.specs.declared.place.Place.{Place}
 use Rattle.kt_rules.specs.inner.SuffixCuts.{may_be_bare}
 use Rattle.kt_rules.proofs.GoalLemmas.{none_beside, none_differs}

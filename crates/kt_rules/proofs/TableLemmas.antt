@@ -2,7 +2,7 @@
 use Rattle.std.proofs.Common.{◌≡◌, ℕ, ◌<◌, List, [], ◌∷◌, length, map, get_or, Option, Some, None, refl, ap, sym, subst}
 use Rattle.kt_rules.proofs.Common.{All, Contains, flat_map, All-append, All-head, All-map, All-nil, All-tail, All-weaker, Contains-get_or, Text, Kinds, Needs, RecipeLine, Entry, shared_needs, target_of, all_needs, AreNumbersOf, AreRuleNumbers, name_at, names_read, numbers_below, unwrap_or-slice_get, IsKnownRow, rule_held, rules_held}
 use Rattle.kt_rules.proofs.HeldLemmas.{rule_named}
-use Rattle.kt_rules.specs.Known.{names_in}
+use Rattle.kt_rules.specs.views.Known.{names_in}
 use Rattle.kt_rules.specs.declared.book.row.Row.{Row}
 
 -- names with numbers

@@ -2,11 +2,13 @@
 ghost use Rattle.std.specs.Prelude.{◌≡◌, ◌++◌, ◌∷◌, [], All, IfOk, None, OnErr, OnOk, find, flat_map, nat_eq};
 ghost use Rattle.std.specs.Prelude.{IsTrue, option_map};
 ghost use Rattle.std.specs.List.{Contains, ends_with};
-ghost use Rattle.kt_rules.specs.Book.{AreMadeAlike, GroupsStandAlone, added, explicit_rules, first_goal_of};
-ghost use Rattle.kt_rules.specs.Book.{is_explicit, is_phony, override_messages, patterns_of, refusal_of};
-ghost use Rattle.kt_rules.specs.Known.{named_by, names_in};
-ghost use Rattle.kt_rules.specs.Refusals.{GivesExpected};
-ghost use Rattle.kt_rules.specs.Slots.{rule_view};
+ghost use Rattle.kt_rules.specs.views.Book.{AreMadeAlike, GroupsStandAlone};
+ghost use Rattle.kt_rules.specs.Book.{added, explicit_rules, first_goal_of, is_explicit, is_phony, override_messages};
+ghost use Rattle.kt_rules.specs.Book.{patterns_of, refusal_of};
+ghost use Rattle.kt_rules.specs.Known.{named_by};
+ghost use Rattle.kt_rules.specs.views.Known.{names_in};
+ghost use Rattle.kt_rules.specs.views.Refusals.{GivesExpected};
+ghost use Rattle.kt_rules.specs.views.Targets.{rule_view};
 ghost use Rattle.kt_rules.specs.Suffixes.{suffixes_of};
 
 mod alike;

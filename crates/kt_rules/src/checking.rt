@@ -7,7 +7,8 @@ ghost use Rattle.kt_rules.specs.Names.{is_among, is_refused_name, is_special, is
 ghost use Rattle.kt_rules.specs.inner.Remembered.{needs_wait};
 ghost use Rattle.kt_rules.specs.inner.Telling.{Tells};
 ghost use Rattle.kt_rules.specs.RuleLine.{first_refusal, fits, is_bad_group, line_refusal, mixes_patterns};
-ghost use Rattle.kt_rules.specs.RuleLine.{name_refusal, option_list, refusal_in, target_refusal, tested_needs};
+ghost use Rattle.kt_rules.specs.RuleLine.{name_refusal, option_list, target_refusal, tested_needs};
+ghost use Rattle.kt_rules.specs.inner.Heads.{refusal_in};
 
 use crate::entry::{Name, Needs};
 use crate::head::Separator;

@@ -1,6 +1,6 @@
 //! Cuts texts at colons and separators that aren't quoted.
 ghost use Rattle.std.specs.Prelude.{◌≡◌, ◌≤◌, false, length, option_map, take};
-ghost use Rattle.kt_rules.specs.Cuts.{ends_in_backslash};
+ghost use Rattle.kt_rules.specs.views.Cuts.{ends_in_backslash};
 ghost use Rattle.kt_rules.specs.Names.{cut_place, is_cut, is_quotable};
 ghost use Rattle.kt_rules.specs.RuleLine.{colon_cut};
 

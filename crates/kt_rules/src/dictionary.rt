@@ -2,9 +2,9 @@
 //! Fast: a name is held once and told by its number from then on, and so is a list of names. Spares a hash, a copy and
 //! a comparison at each further place, and the numbers of a list that several rules have.
 ghost use Rattle.std.specs.Prelude.{◌≡◌, [], Some, get_or, length, option_map, slice_get, IfOk, IsTrue, OnOk};
-ghost use Rattle.kt_list.specs.Names.{AreBelow, AreNumbersOf, name_at, place_of};
-ghost use Rattle.kt_list.specs.Prefixes.{HasMore};
-ghost use Rattle.kt_rules.specs.Targets.{text_in};
+ghost use Rattle.kt_list.specs.views.Names.{AreBelow, AreNumbersOf, name_at, place_of};
+ghost use Rattle.kt_list.specs.views.Prefixes.{HasMore};
+ghost use Rattle.kt_rules.specs.views.Targets.{text_in};
 ghost use Rattle.kt_rules.specs.inner.Dictionary.{GrowsDictionary, IsListOf};
 
 use crate::entry::Name;
@@ -26,7 +26,7 @@ pub(crate) struct Dictionary {
 impl Model for Dictionary {
     ghost use Rattle.std.specs.Prelude.{ℕ, List, All, length};
     ghost use Rattle.kt_text.specs.Words.{Text};
-    ghost use Rattle.kt_list.specs.Names.{AreBelow};
+    ghost use Rattle.kt_list.specs.views.Names.{AreBelow};
 
     ghost Value = { List Text × List (List ℕ) };
 

@@ -1,7 +1,7 @@
 //! Rules as a makefile writes them.
 ghost use Rattle.std.specs.Prelude.{◌≡◌, ◌<◌, ◌^◌, [], ◌∷◌, length, option_map, IfOk, OnErr, OnOk};
 ghost use Rattle.kt_rules.specs.Entry.{needs_for, no_needs, with_line};
-ghost use Rattle.kt_rules.specs.Targets.{needs_view, target_view, targets_view};
+ghost use Rattle.kt_rules.specs.views.Targets.{needs_view, target_view, targets_view};
 
 use crate::held_needs::HeldNeeds;
 use crate::listed::{AnyNames, ListedNeeds};

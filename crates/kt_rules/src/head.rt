@@ -2,7 +2,8 @@
 ghost use Rattle.std.specs.Prelude.{◌≡◌, List, ℕ, option_map};
 ghost use Rattle.kt_rules.specs.Names.{written_words};
 ghost use Rattle.kt_rules.specs.RuleLine.{after_double, colon_cut, group_head, group_targets, head_after, head_of};
-ghost use Rattle.kt_rules.specs.RuleLine.{head_round, heads_view, pattern_word};
+ghost use Rattle.kt_rules.specs.RuleLine.{head_round, pattern_word};
+ghost use Rattle.kt_rules.specs.inner.Heads.{heads_view};
 
 use crate::cutting::{colon_cut, later_cut};
 use crate::refusal::Refusal;

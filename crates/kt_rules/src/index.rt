@@ -1,7 +1,7 @@
 //! Lists of items, each at a name.
 ghost use Rattle.std.specs.Prelude.{◌≡◌, ◌++◌, ◌∷◌, [], OnErr, OnOk, bytes_eq, if◌then◌else◌};
 ghost use Rattle.kt_text.specs.Words.{Text};
-ghost use Rattle.kt_rules.specs.Indexes.{noted_at};
+ghost use Rattle.kt_rules.specs.views.Indexes.{noted_at};
 
 use crate::entry::Name;
 use indexmap::IndexMap;

@@ -4,7 +4,8 @@ ghost use Rattle.kt_rules.specs.Names.{name_of, without_repeats, written_words};
 ghost use Rattle.kt_rules.specs.Entry.{empty_line};
 ghost use Rattle.std.specs.List.{list_any};
 ghost use Rattle.kt_rules.specs.inner.Telling.{is_backslash, signs_of};
-ghost use Rattle.kt_rules.specs.RuleLine.{head_view, is_bar, line_of, needs_of};
+ghost use Rattle.kt_rules.specs.inner.Heads.{head_view};
+ghost use Rattle.kt_rules.specs.RuleLine.{is_bar, line_of, needs_of};
 
 use crate::entry::{Name, Needs};
 use crate::head::{Head, Separator};
@@ -87,7 +88,7 @@ fn only_word(text: &[u8]) -> Option<&[u8]>
     }
 }
 
-#[tactic(auto, unfolding(crate::specs::Names::without_repeats))]
+#[tactic(auto, unfolding(kt_list::specs::Names::without_repeats))]
 fn one_target(alloc: Global, word: &[u8]) -> Result<Sequence<Name>, AllocError>
     ensures { IfOk result (λ names. names ≡ without_repeats (name_of word.now ∷ [])) }
 {
@@ -96,7 +97,7 @@ fn one_target(alloc: Global, word: &[u8]) -> Result<Sequence<Name>, AllocError>
     Ok(Sequence::from(names))
 }
 
-#[tactic(auto, unfolding(crate::specs::Names::without_repeats))]
+#[tactic(auto, unfolding(kt_list::specs::Names::without_repeats))]
 #[inline(never)]
 fn several_targets(alloc: Global, text: &[u8]) -> Result<Sequence<Name>, AllocError>
     ensures { IfOk result (λ names. names ≡ without_repeats (map name_of (written_words text.now))) }
@@ -112,7 +113,7 @@ fn several_targets(alloc: Global, text: &[u8]) -> Result<Sequence<Name>, AllocEr
 }
 
 // As `targets`, for a text without a backslash.
-#[tactic(auto, using(crate::proofs::PlainLemmas::plain_names), unfolding(crate::specs::Names::without_repeats))]
+#[tactic(auto, using(crate::proofs::PlainLemmas::plain_names), unfolding(kt_list::specs::Names::without_repeats))]
 #[inline(never)]
 fn plain_targets(alloc: Global, text: &[u8]) -> Result<Sequence<Name>, AllocError>
     requires { list_any is_backslash text.now ≡ false }

@@ -5,7 +5,8 @@ ghost use Rattle.std.specs.Iterator.{YieldsFirstBy, item_count};
 ghost use Rattle.kt_text.specs.Words.{Text};
 ghost use Rattle.kt_rules.specs.Entry.{no_needs, shared_needs, stemmed};
 ghost use Rattle.kt_rules.specs.Suffixes.{needs_nothing};
-ghost use Rattle.kt_rules.specs.Targets.{listed_needs, needed_view, names_view, needs_view, stemmed_name, text_in};
+ghost use Rattle.kt_rules.specs.views.Targets.{listed_needs, needed_view, names_view, needs_view, stemmed_name};
+ghost use Rattle.kt_rules.specs.views.Targets.{text_in};
 
 use crate::entry::Needs;
 use crate::listed::{AnyNames, ListedNeeds};

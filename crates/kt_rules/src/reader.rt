@@ -7,7 +7,7 @@ ghost use Rattle.kt_text.specs.Match.{has_percent};
 ghost use Rattle.kt_text.specs.Words.{words_of};
 ghost use Rattle.kt_rules.specs.Entry.{is_nil, rule_of};
 ghost use Rattle.kt_rules.specs.Names.{name_of, without_repeats, written_words};
-ghost use Rattle.kt_rules.specs.Refusals.{GivesExpected};
+ghost use Rattle.kt_rules.specs.views.Refusals.{GivesExpected};
 ghost use Rattle.kt_rules.specs.RuleLine.{colon_cut, group_targets, needs_of};
 ghost use Rattle.kt_rules.specs.inner.Remembered.{IsLongCut, IsPlain, NamesNeeds, ReadsAsLong, long_line};
 ghost use Rattle.kt_rules.specs.inner.Telling.{is_telling};

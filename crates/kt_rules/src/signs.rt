@@ -4,7 +4,8 @@
 ghost use Rattle.std.specs.Prelude.{◌≡◌, option_map};
 ghost use Rattle.std.specs.List.{list_any};
 ghost use Rattle.kt_text.specs.Match.{has_percent};
-ghost use Rattle.kt_rules.specs.RuleLine.{head_view, option_list};
+ghost use Rattle.kt_rules.specs.inner.Heads.{head_view};
+ghost use Rattle.kt_rules.specs.RuleLine.{option_list};
 ghost use Rattle.kt_rules.specs.inner.Telling.{is_telling, signs_of};
 
 use crate::head::Head;

@@ -1,7 +1,9 @@
 -- Worked values of the definitions, as facts that compute. The lines are those of the GNU make manual's sections on
 -- rules, and of kati's own rules where it has some.
 use Rattle.std.specs.Prelude.{◌≡◌, List, [], ◌∷◌, ◌++◌, Some, None, Ok, Err, codes}
-use Rattle.kt_rules.specs.Prelude.{Text, without_dots, empty_line, head_names, stemmed_of}
+use Rattle.kt_rules.specs.Prelude.{Text}
+use Rattle.kt_rules.specs.Names.{without_dots}
+use Rattle.kt_rules.specs.Entry.{empty_line, head_names, stemmed_of}
 use Rattle.kt_rules.specs.declared.head.Separator.TheVariants.{Single, Double, Grouped}
 use Rattle.kt_rules.specs.declared.line.HeadNames.{HeadNames}
 use Rattle.kt_rules.specs.declared.head.Separator.{Separator}

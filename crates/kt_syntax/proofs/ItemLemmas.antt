@@ -1,7 +1,7 @@
 -- Items, and nothing behind them.
 use Rattle.std.proofs.Common.{◌≡◌, refl, ap}
 use Rattle.kt_syntax.specs.Blocks.{Items, none, line, fault, definition, conditional}
-use Rattle.kt_syntax.specs.Reading.{append}
+use Rattle.kt_syntax.specs.views.Reading.{append}
 
 -- nothing more
 pub append-none : (items : Items) → append items none ≡ items

@@ -3,7 +3,8 @@ use Rattle.std.proofs.Common.{◌≡◌, ◌≤◌, ◌<◌, ◌+◌, ℕ, suc, 
 use Rattle.kt_syntax.proofs.Common.{drop-cons, drop_all, OpenDefine, OpenConditional, BlockPart, NumberedRole, Role, BlockStep, Text}
 use Rattle.kt_text.specs.declared.line.Line.{Line}
 use Rattle.kt_syntax.specs.Roles.{heads_of, numbered_role}
-use Rattle.kt_syntax.specs.Parts.{Scan, after, block_part, depth_of, open_at_end, parts_from}
+use Rattle.kt_syntax.specs.Parts.{Scan, after, block_part, open_at_end, parts_from}
+use Rattle.kt_syntax.specs.inner.Blocks.{depth_of}
 use Rattle.kt_syntax.specs.declared.step.BlockStep.TheVariants as step
 use Rattle.kt_syntax.proofs.StepListLemmas.{put_before}
 use Rattle.kt_syntax.specs.Steps.{Places, ahead_of, places_after, step_of, steps_from}

@@ -4,7 +4,8 @@ use Rattle.kt_syntax.proofs.Common.{slice_get, BlockPart, BlockStep}
 use Rattle.kt_syntax.specs.declared.step.BranchExits.{BranchExits}
 use Rattle.kt_syntax.specs.Steps.{Places, ahead_of, exits_of, places_after, step_of, steps_from}
 use Rattle.kt_syntax.specs.Blocks.{Items, Level, none, innermost_level, levels_from, levels_with, outer}
-use Rattle.kt_syntax.specs.Reading.{AreReadable, AreTried, IsAhead, ReadsOn, after_branches, append, items_left, left_at}
+use Rattle.kt_syntax.specs.inner.Blocks.{AreReadable}
+use Rattle.kt_syntax.specs.views.Reading.{AreTried, IsAhead, ReadsOn, after_branches, append, items_left, left_at}
 
 -- what is left of the innermost block and of those round it
 left-split : (levels : List Level) → items_left levels ≡ append (innermost_level levels).items (after_branches (innermost_level levels).others (items_left (outer levels)))

@@ -7,7 +7,8 @@ use Rattle.kt_syntax.proofs.LeadingWords.{none_taken}
 use Rattle.kt_syntax.proofs.Masking.{mask_from-nil}
 use Rattle.kt_syntax.proofs.OwnRuns.{blank_unmarked, prefix_no, prefix_yes}
 use Rattle.kt_syntax.proofs.OwnSymbols.{own_byte}
-use Rattle.kt_syntax.specs.Roles.{first_word, may_open, role_by_word, role_of, starts_condition}
+use Rattle.kt_syntax.specs.Roles.{first_word, role_by_word, role_of, starts_condition}
+use Rattle.kt_syntax.specs.inner.Leading.{may_open}
 
 refused_or_rule : (first rest : Text) → role_of (kind_by_word None first rest) ≡ Ordinary
 unfolding role_of

@@ -6,7 +6,7 @@ use Rattle.kt_syntax.specs.declared.role.Role.TheVariants as role
 use Rattle.kt_syntax.specs.Parts.{Scan, after, block_part, missing_in, open_at_end, parts_from}
 use Rattle.kt_syntax.specs.Steps.{ahead_of, places_after, step_of, steps_from}
 use Rattle.kt_syntax.specs.Blocks.{Level, blocks_of, innermost_level, levels_from, outer, tree_of}
-use Rattle.kt_syntax.specs.Grammar.{IsTreeOf, TakesBody, TakesBranches, TakesEndif, TakesItems}
+use Rattle.kt_syntax.specs.views.Grammar.{IsTreeOf, TakesBody, TakesBranches, TakesEndif, TakesItems}
 
 -- the lines from a place on are those of what is left of the open blocks, and then this end is missing
 abbrev pub TakesLevels : Option Missing → List OpenConditional → List Level → Option Missing → ℕ → List NumberedRole → Type 0

@@ -5,7 +5,7 @@ use Rattle.kt_syntax.specs.declared.role.Role.TheVariants as role
 use Rattle.kt_syntax.specs.Blocks.{Level, no_branch, blocks_of, innermost_level, levels_from, outer, tree_of}
 use Rattle.kt_syntax.specs.Parts.{after, block_part, parts_from}
 use Rattle.kt_syntax.specs.Steps.{ahead_of, places_after, step_of, steps_from}
-use Rattle.kt_syntax.specs.Reading.{items_left, left_at}
+use Rattle.kt_syntax.specs.views.Reading.{items_left, left_at}
 use Rattle.kt_syntax.proofs.Sound.{levels_at}
 use Rattle.kt_syntax.proofs.ItemLemmas.{append-none}
 

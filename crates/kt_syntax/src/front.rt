@@ -5,7 +5,8 @@
 ghost use Rattle.std.specs.Prelude.{◌≡◌, ◌≤◌, ◌<◌, ◌++◌, None, length, not, true, IfSome};
 ghost use Rattle.std.specs.List.{list_all, position_or_len};
 ghost use Rattle.kt_text.specs.Words.{trimmed_start};
-ghost use Rattle.kt_syntax.specs.Kinds.{form_of, line_form_view, operator_of};
+ghost use Rattle.kt_syntax.specs.Kinds.{form_of, operator_of};
+ghost use Rattle.kt_syntax.specs.views.Lines.{line_form_view};
 ghost use Rattle.kt_syntax.specs.inner.Leading.{IsQuietWord, begins_colon, begins_slash, is_loud};
 
 use crate::form::Form;

@@ -5,7 +5,7 @@ ghost use Rattle.std.specs.List.{position_or_len};
 ghost use Rattle.kt_syntax.specs.Kinds.{comment_place};
 ghost use Rattle.kt_syntax.specs.Heads.{after_colon, after_modifiers, colon_place, first_recipe, head_end, head_text};
 ghost use Rattle.kt_syntax.specs.Heads.{is_modifier, is_target_specific, line_parts, parts_with, rule_texts};
-ghost use Rattle.kt_syntax.specs.Heads.{texts_view};
+ghost use Rattle.kt_syntax.specs.views.Lines.{texts_view};
 ghost use Rattle.kt_syntax.specs.Mask.{mask_of};
 ghost use Rattle.kt_syntax.specs.inner.Places.{first_symbols};
 

@@ -5,9 +5,9 @@ ghost use Rattle.std.specs.Prelude.{◌≡◌, ◌≤◌, ◌+◌, drop, false, 
 ghost use Rattle.std.specs.Prelude.{MatchOption};
 ghost use Rattle.std.specs.Str.{bytes_eq};
 ghost use Rattle.kt_syntax.specs.Kinds.{assignment_parts, blank, block_word, directive_of, ends_name, include_word};
-ghost use Rattle.kt_syntax.specs.Kinds.{form_of, is_refused_word, kind_by_word, line_form_view, name_end, operator_of};
+ghost use Rattle.kt_syntax.specs.Kinds.{form_of, is_refused_word, kind_by_word, name_end, operator_of};
+ghost use Rattle.kt_syntax.specs.views.Lines.{line_form_view, begins_comment};
 ghost use Rattle.kt_syntax.specs.Kinds.{line_form, worded};
-ghost use Rattle.kt_syntax.specs.Comments.{begins_comment};
 ghost use Rattle.kt_syntax.specs.inner.Leading.{may_be_word};
 ghost use Rattle.kt_syntax.specs.Mask.{mask_of};
 ghost use Rattle.kt_syntax.specs.inner.Places.{ArePartsAt, IsBetween, StandsWithin, first_symbols};

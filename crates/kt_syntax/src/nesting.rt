@@ -1,10 +1,11 @@
 //! The blocks of a text found, by one pass over its lines and one back over their parts.
 ghost use Rattle.std.specs.Prelude.{◌≡◌, ◌≤◌, ◌<◌, ◌^◌, length, IfOk};
-ghost use Rattle.kt_text.specs.Lines.{AreInOrder};
+ghost use Rattle.kt_text.specs.views.Lines.{AreInOrder};
 ghost use Rattle.kt_syntax.specs.Blocks.{blocks_of, tree_of};
-ghost use Rattle.kt_syntax.specs.Grammar.{IsTreeOf};
-ghost use Rattle.kt_syntax.specs.Parts.{after, block_part, block_parts, depth_of, missing_end};
-ghost use Rattle.kt_syntax.specs.Reading.{left_at};
+ghost use Rattle.kt_syntax.specs.views.Grammar.{IsTreeOf};
+ghost use Rattle.kt_syntax.specs.Parts.{after, block_part, block_parts, missing_end};
+ghost use Rattle.kt_syntax.specs.inner.Blocks.{depth_of};
+ghost use Rattle.kt_syntax.specs.views.Reading.{left_at};
 ghost use Rattle.kt_syntax.specs.Roles.{heads_of, numbered_role};
 ghost use Rattle.kt_syntax.specs.Steps.{steps_from};
 

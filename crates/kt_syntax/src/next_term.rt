@@ -1,7 +1,8 @@
 //! The first term of a text.
 ghost use Rattle.std.specs.Prelude.{◌≡◌, ◌==◌, ◌+◌, ◌^◌, ◌∷◌, ◌<◌, ◌≤◌, [], length, MatchOption, IfSome};
 ghost use Rattle.std.specs.List.{position_or_len};
-ghost use Rattle.kt_syntax.specs.Terms.{after_dollar, closing, dropped, first_term, token_of, reference_of, terms_of};
+ghost use Rattle.kt_syntax.specs.Terms.{after_dollar, closing, dropped, first_term, reference_of, terms_of};
+ghost use Rattle.kt_syntax.specs.views.Terms.{token_of};
 
 use crate::term::{Mark, Term, Unterminated};
 use memchr::memchr;

@@ -3,7 +3,8 @@ ghost use Rattle.std.specs.Prelude.{◌≡◌, ◌≤◌, false, length, true, I
 ghost use Rattle.std.specs.List.{slice_range};
 ghost use Rattle.kt_syntax.specs.declared.role.Role.TheVariants as role;
 ghost use Rattle.kt_syntax.specs.Kinds.{block_word, form_of, line_form};
-ghost use Rattle.kt_syntax.specs.Roles.{first_word, line_text, may_open, numbered_role, opens_conditional};
+ghost use Rattle.kt_syntax.specs.Roles.{first_word, line_text, numbered_role, opens_conditional};
+ghost use Rattle.kt_syntax.specs.inner.Leading.{may_open};
 ghost use Rattle.kt_syntax.specs.Roles.{role_by_word, role_of, starts_condition};
 
 use crate::form::{Directive, Form};

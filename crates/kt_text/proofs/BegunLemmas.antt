@@ -1,6 +1,6 @@
 -- What a text holds where the appending of more was cut off.
 use Rattle.std.proofs.Common.{arith, ◌≡◌, [], ◌++◌, refl, sym, ap, ◌∙◌, append_assoc, append-nil}
-use Rattle.kt_text.specs.Begun.{HasBegun}
+use Rattle.kt_text.specs.views.Begun.{HasBegun}
 use Rattle.kt_text.specs.Words.{Text}
 
 -- nothing more

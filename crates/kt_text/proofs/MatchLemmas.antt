@@ -2,7 +2,8 @@
 use Rattle.std.proofs.Common.{◌≡◌, ℕ, ◌+◌, ◌-◌, ◌<◌, ◌≤◌, Bool, true, false, List, [], ◌∷◌, ◌++◌, length, get_or, drop, take, refl, sym, ◌∙◌, ap, eqb, leb, ltb, arith, ⊎_elim, All, Option, Some, None, append_assoc, length-append, MatchOption, IfNone}
 use Rattle.kt_text.proofs.Common.{position_or_len, list_any, starts_with, ends_with, slice_range, false≢true, cases_Bool, ltb-true, lt-ltb, le-ltb, nat_tests, Decides-eqb, take_at, drop_at, drop-drop, take-append-drop, get_or_at, get_or_append_left, drop_more, length-take, get_or-take, position_or_len_is, passes_at_first, fails_before_first, starts_is, ends_is, IsFirstByte, is_byte, Text}
 use Rattle.std.proofs.lemmas.List.Prefix.{end_rest}
-use Rattle.kt_text.specs.Match.{Match, is_percent, has_percent, pattern_front, pattern_back, is_between, stem_span}
+use Rattle.kt_text.specs.views.Match.{Match}
+use Rattle.kt_text.specs.Match.{is_percent, has_percent, pattern_front, pattern_back, is_between, stem_span}
 use Rattle.kt_text.proofs.PlaceLemmas.{first_byte_place}
 
 -- a test that some byte passes, by the place of the first that does

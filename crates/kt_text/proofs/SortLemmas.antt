@@ -14,7 +14,7 @@ use Rattle.std.proofs.lemmas.Map.Made.{Contains-tail}
 use Rattle.std.proofs.lemmas.List.Kept.{IsStrictlySortedBy-dedup, Contains-dedup, Contains-from_dedup}
 use Rattle.std.proofs.lemmas.List.Sorted.{IsPermutation-sym, Contains-permutation}
 use Rattle.std.proofs.lemmas.List.Elements.{All-contains, All-weaker, All-cons, All-head, All-tail, Contains-append_right, recursion_from_All}
-use Rattle.kt_text.specs.Sorted.{IsSorting, front_number}
+use Rattle.kt_text.specs.views.Sorted.{IsSorting, front_number}
 
 -- the order of texts by bytes
 abbrev pub order : Text → Text → Ordering

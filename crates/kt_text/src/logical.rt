@@ -1,7 +1,8 @@
 //! A text cut into logical lines.
 ghost use Rattle.std.specs.Prelude.{◌≡◌, ◌+◌, ◌==◌, None, Some, MatchResult, IfOk, count_by, if◌then◌else◌, ◌≤◌};
 ghost use Rattle.std.specs.Prelude.{length};
-ghost use Rattle.kt_text.specs.Lines.{AreInOrder, NulFault, logical_lines_of, nul_line};
+ghost use Rattle.kt_text.specs.views.Lines.{AreInOrder, NulFault};
+ghost use Rattle.kt_text.specs.Lines.{logical_lines_of, nul_line};
 
 use crate::line::{Line, LineFault};
 use crate::mark::LineMark;

@@ -3,9 +3,10 @@ ghost use Rattle.std.specs.Prelude.{◌≡◌, ◌++◌, ◌+◌, ◌-◌, ◌�
 ghost use Rattle.std.specs.Prelude.{OnErr, OnOk, option_map};
 ghost use Rattle.std.specs.List.{slice_range};
 ghost use Rattle.kt_text.specs.Functions.{with_stem};
-ghost use Rattle.kt_text.specs.Begun.{HasBegun};
+ghost use Rattle.kt_text.specs.views.Begun.{HasBegun};
 ghost use Rattle.kt_text.specs.Words.{Text};
-ghost use Rattle.kt_text.specs.Match.{Match, has_percent, is_between, pattern_back, pattern_front, stem_span};
+ghost use Rattle.kt_text.specs.views.Match.{Match};
+ghost use Rattle.kt_text.specs.Match.{has_percent, is_between, pattern_back, pattern_front, stem_span};
 
 use memchr::memchr;
 use std::alloc::AllocError;

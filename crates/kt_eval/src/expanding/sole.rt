@@ -8,7 +8,7 @@ ghost use Rattle.kt_eval.specs.Outcome.{Gave};
 ghost use Rattle.kt_eval.specs.expanding.Levels.{evaluator};
 ghost use Rattle.kt_eval.specs.files.Files.{Store};
 ghost use Rattle.kt_eval.specs.inner.Plain.{put_of, still_deferred};
-ghost use Rattle.kt_eval.specs.expanding.Calls.{names_plainly};
+ghost use Rattle.kt_eval.specs.views.expanding.Calls.{names_plainly};
 ghost use Rattle.kt_eval.specs.inner.Views.{compared_view};
 ghost use Rattle.kt_eval.specs.reading.Conditionals.{are_equal};
 

@@ -3,12 +3,13 @@
 //! look a line.
 ghost use Rattle.std.specs.Prelude.{◌≡◌, ◌+◌, ◌<◌, ◌≤◌, ◌^◌, ℕ, Bool, false, length, map, true, IfOk, IfSome, None, Some};
 ghost use Rattle.std.specs.List.{slice_get, slice_range};
-ghost use Rattle.kt_syntax.specs.Reading.{ReadsOn, left_at};
+ghost use Rattle.kt_syntax.specs.views.Reading.{ReadsOn, left_at};
 ghost use Rattle.kt_syntax.specs.Blocks.{none, tree_of};
 ghost use Rattle.kt_syntax.specs.declared.step.BlockStep.TheVariants as step;
 ghost use Rattle.kt_syntax.specs.Kinds.{blank, line_form};
 ghost use Rattle.kt_syntax.specs.Roles.{line_text};
-ghost use Rattle.kt_text.specs.Lines.{AreInOrder, logical_lines_of};
+ghost use Rattle.kt_text.specs.views.Lines.{AreInOrder};
+ghost use Rattle.kt_text.specs.Lines.{logical_lines_of};
 ghost use Rattle.kt_eval.specs.macros.Assignments.{body_text};
 ghost use Rattle.kt_eval.specs.reading.Reading.{line_at, sheet_of};
 ghost use Rattle.kt_eval.specs.inner.Doing.{IsStepAt, ReadsAlike};
@@ -49,7 +50,7 @@ pub(crate) struct Page<'a> {
 impl<'a> Model for Page<'a> {
     ghost use Rattle.std.specs.Prelude.{◌≡◌, length, map};
     ghost use Rattle.kt_syntax.specs.Blocks.{tree_of};
-    ghost use Rattle.kt_syntax.specs.Reading.{left_at};
+    ghost use Rattle.kt_syntax.specs.views.Reading.{left_at};
     ghost use Rattle.kt_eval.specs.reading.Reading.{Page, raw_line};
 
     ghost Value = { Page };

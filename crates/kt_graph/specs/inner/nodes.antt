@@ -10,3 +10,4 @@ pub mod Inferring
 pub mod Graph
 pub mod Fronts
 pub mod Grouping
+pub mod NodeTable

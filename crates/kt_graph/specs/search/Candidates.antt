@@ -13,7 +13,7 @@ use Rattle.kt_rules.specs.declared.entry.Target.{Target}
 use Rattle.kt_rules.specs.Names.{without_dots}
 use Rattle.kt_rules.specs.Suffixes.{all_needs, percent}
 use Rattle.kt_rules.specs.Entry.{Entry}
-use Rattle.kt_rules.specs.Patterns.{is_terminal}
+use Rattle.kt_rules.specs.Book.{is_terminal}
 
 -- ---- a name and a pattern
 

@@ -10,14 +10,14 @@ ghost use Rattle.std.specs.List.Sorted.{IsStrictlySortedBy};
 ghost use Rattle.std.specs.Ordering.{nat_cmp};
 ghost use Rattle.kt_text.specs.Words.{Text};
 ghost use Rattle.kt_rules.specs.Entry.{Entry};
-ghost use Rattle.kt_graph.specs.faults.Faults.{IsFileTrouble, trouble_view};
+ghost use Rattle.kt_graph.specs.inner.faults.Troubles.{IsFileTrouble, trouble_view};
 ghost use Rattle.kt_graph.specs.faults.Paths.{canon_of, is_reserved};
 ghost use Rattle.kt_graph.specs.nodes.Groups.{groups_of};
-ghost use Rattle.kt_graph.specs.inner.faults.Files.{is_repeated, made_names};
+ghost use Rattle.kt_graph.specs.views.faults.Files.{is_repeated, made_names};
 ghost use Rattle.kt_graph.specs.Reach.{ComesFirst, IsCyclic, IsFirst, IsGraph};
 ghost use Rattle.kt_graph.specs.inner.nodes.GraphBuilder.{IsDone};
 ghost use Rattle.kt_graph.specs.inner.nodes.Graph.{makes_among};
-ghost use Rattle.kt_graph.specs.nodes.Views.{node_at, nodes_view};
+ghost use Rattle.kt_graph.specs.inner.nodes.NodeTable.{node_at, nodes_view};
 
 use crate::faults::cycles::first_circular;
 use crate::faults::edges::Edges;
@@ -51,7 +51,7 @@ impl<'a> Model for Graph<'a> {
 
     ghost Value = { List Node };
 
-    ghost use Rattle.kt_graph.specs.nodes.Views.{nodes_view};
+    ghost use Rattle.kt_graph.specs.inner.nodes.NodeTable.{nodes_view};
 
     ghost view = { λ graph. nodes_view graph.table graph.order.items };
 
@@ -243,7 +243,7 @@ impl<'g> Model for Nodes<'g> {
 
     ghost Value = { List Node };
 
-    ghost use Rattle.kt_graph.specs.nodes.Views.{nodes_view};
+    ghost use Rattle.kt_graph.specs.inner.nodes.NodeTable.{nodes_view};
 
     ghost view = { λ nodes. nodes_view nodes.table.now nodes.numbers.now };
 }

@@ -10,7 +10,7 @@ ghost use Rattle.kt_rules.specs.Book.{explicit_rules, is_phony};
 ghost use Rattle.kt_rules.specs.Entry.{Entry, needs_for};
 ghost use Rattle.kt_rules.specs.declared.entry.Target.{Target as HeldTarget};
 ghost use Rattle.kt_rules.specs.Names.{with_name};
-ghost use Rattle.kt_rules.specs.Slots.{rule_view};
+ghost use Rattle.kt_rules.specs.views.Targets.{rule_view};
 ghost use Rattle.kt_rules.specs.Suffixes.{suffixes_of};
 ghost use Rattle.kt_graph.specs.inner.nodes.Inferring.{Infers, InfersFrom, inferred_node};
 ghost use Rattle.kt_graph.specs.inner.nodes.Needed.{needing_view, single_node};
@@ -21,7 +21,7 @@ ghost use Rattle.kt_graph.specs.inner.nodes.GraphBuilder.{AreOf, AreTold, Builds
 ghost use Rattle.kt_graph.specs.inner.nodes.GraphBuilder.{HasLastNeeds, IsLikeLast, IsOver, NeedsAs, NeedsAsLast};
 ghost use Rattle.kt_graph.specs.inner.nodes.GraphBuilder.{ReachesMore, sole_node};
 ghost use Rattle.kt_graph.specs.inner.nodes.Reached.{reached_text};
-ghost use Rattle.kt_graph.specs.nodes.Views.{instance_view};
+ghost use Rattle.kt_graph.specs.views.nodes.Node.{instance_view};
 
 use crate::known::Known;
 use crate::nodes::building::{

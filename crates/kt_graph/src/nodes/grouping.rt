@@ -4,8 +4,9 @@ ghost use Rattle.std.specs.List.{prefix_len};
 ghost use Rattle.kt_graph.specs.inner.faults.Edges.{rows_held};
 ghost use Rattle.kt_graph.specs.inner.nodes.Grouping.{AreAllAlike, HasMembers, is_first, is_made_at, leads_at};
 ghost use Rattle.kt_graph.specs.inner.nodes.Grouping.{leads_by, making_at, members_of, with_member};
-ghost use Rattle.kt_graph.specs.nodes.Groups.{FirstSharesInputs, groups_of};
-ghost use Rattle.kt_graph.specs.nodes.Views.{nodes_view};
+ghost use Rattle.kt_graph.specs.views.nodes.Groups.{FirstSharesInputs};
+ghost use Rattle.kt_graph.specs.nodes.Groups.{groups_of};
+ghost use Rattle.kt_graph.specs.inner.nodes.NodeTable.{nodes_view};
 ghost use Rattle.kt_graph.specs.inner.nodes.Graph.{IsWhole};
 
 use crate::faults::rows::{add, bare, row_at};

@@ -3,7 +3,7 @@
 //! equal. Spares an allocation for each list, and equal lists of targets that stand together.
 ghost use Rattle.std.specs.Prelude.{◌≡◌, IfOk, Some, slice_get, true};
 ghost use Rattle.kt_graph.specs.inner.nodes.Stored.{AreRowsOf};
-ghost use Rattle.kt_list.specs.Prefixes.{HasMore};
+ghost use Rattle.kt_list.specs.views.Prefixes.{HasMore};
 
 use kt_list::{Rows, narrow};
 use std::alloc::AllocError;

@@ -3,7 +3,7 @@
 //! 16 bytes, and a text for each part.
 ghost use Rattle.std.specs.Prelude.{◌≡◌, ◌<◌, ◌⊎◌, ◌++◌, drop, take, true, IfOk, IfSome, OnErr};
 ghost use Rattle.kt_text.specs.Words.{Text};
-ghost use Rattle.kt_rules.specs.Slots.{rule_view};
+ghost use Rattle.kt_rules.specs.views.Targets.{rule_view};
 ghost use Rattle.kt_rules.specs.Suffixes.{suffixes_of};
 ghost use Rattle.kt_graph.specs.inner.nodes.Stems.{Lies, own, stem_in};
 ghost use Rattle.kt_graph.specs.nodes.Node.{stem_for, suffix_stem};

@@ -2,13 +2,12 @@
 ghost use Rattle.std.specs.Prelude.{◌≡◌, ◌++◌, ◌∷◌, ◌<◌, ◌≤◌, ◌^◌, ◌⊎◌, [], All, IfOk, OnErr, OnOk, drop, get_or, length};
 ghost use Rattle.std.specs.Prelude.{option_map, option_to_list, slice_get, true, None, Some};
 ghost use Rattle.kt_graph.specs.declared.nodes.node.NodeKind.TheVariants.{DoubleColon};
-ghost use Rattle.kt_graph.specs.inner.nodes.Stored.{input_numbers, order_only_numbers};
+ghost use Rattle.kt_graph.specs.inner.nodes.Stored.{input_numbers, order_only_numbers, AreRowsOf, AreStored, Grew};
+ghost use Rattle.kt_graph.specs.inner.nodes.Stored.{HasOnePart, HaveOneMaking, IsHeadOf, IsLike, IsPartWithin};
+ghost use Rattle.kt_graph.specs.inner.nodes.Stored.{IsSpanWithin, node_like, nodes_stored, PutsParts, cut, stored_with};
+ghost use Rattle.kt_graph.specs.inner.nodes.Stored.{part_held, part_seen, parts_held, parts_stored, some_if, stored_at};
 ghost use Rattle.kt_graph.specs.declared.nodes.stored.NodeHead.{NodeHead};
-ghost use Rattle.kt_graph.specs.inner.nodes.Stored.{AreRowsOf, AreStored, Grew, HasOnePart, HaveOneMaking, IsHeadOf, IsLike};
-ghost use Rattle.kt_list.specs.Prefixes.{HasMore};
-ghost use Rattle.kt_graph.specs.inner.nodes.Stored.{IsPartWithin, IsSpanWithin, node_like, nodes_stored};
-ghost use Rattle.kt_graph.specs.inner.nodes.Stored.{PutsParts, cut, stored_with, part_held, part_seen};
-ghost use Rattle.kt_graph.specs.inner.nodes.Stored.{parts_held, parts_stored, some_if, stored_at};
+ghost use Rattle.kt_list.specs.views.Prefixes.{HasMore};
 
 use crate::nodes::inputs::{has_own_inputs, input_set, order_only_set};
 use crate::nodes::node::NodeKind;

@@ -3,7 +3,7 @@ ghost use Rattle.std.specs.Prelude.{◌≡◌, ◌≤◌, drop, length, take, op
 ghost use Rattle.std.specs.List.{slice_range};
 ghost use Rattle.kt_text.specs.Functions.{name_place};
 ghost use Rattle.kt_graph.specs.search.Candidates.{fit_of, has_slash, left_out, matched_part};
-ghost use Rattle.kt_graph.specs.search.Views.{IsFitWithin, fit_view};
+ghost use Rattle.kt_graph.specs.inner.search.Candidates.{IsFitWithin, fit_view};
 
 use kt_text::match_pattern;
 use memchr::{memchr, memrchr};

@@ -5,7 +5,7 @@ ghost use Rattle.kt_text.specs.Functions.{with_stem};
 ghost use Rattle.kt_text.specs.Match.{has_percent};
 ghost use Rattle.kt_graph.specs.search.Candidates.{are_short, name_limit, needed_name, needed_names, needs_with};
 ghost use Rattle.kt_graph.specs.search.Candidates.{spelled_out};
-ghost use Rattle.kt_graph.specs.search.Views.{IsFitWithin};
+ghost use Rattle.kt_graph.specs.inner.search.Candidates.{IsFitWithin};
 
 use crate::search::candidate::Fit;
 use kt_list::Sequence;

@@ -2,7 +2,7 @@
 //! Fast: that two names need the same is told by the numbers of lists, not by what is in them. Spares a look at each
 //! prerequisite of each member of a group.
 ghost use Rattle.std.specs.Prelude.{◌≡◌, IsTrue};
-ghost use Rattle.kt_rules.specs.Slots.{rule_view};
+ghost use Rattle.kt_rules.specs.views.Targets.{rule_view};
 ghost use Rattle.kt_rules.specs.inner.Alike.{AreAlike, IsCommon, NeedSame};
 
 use super::rules::Rules;

@@ -3,12 +3,12 @@
 ghost use Rattle.std.specs.Prelude.{◌≡◌, ◌||◌, List, bytes_eq, codes, false, find, flat_map, get_or, length, ◌<◌};
 ghost use Rattle.std.specs.Prelude.{option_map, true, unwrap_or, IfOk, OnOk};
 ghost use Rattle.kt_text.specs.Words.{Text};
-ghost use Rattle.kt_list.specs.Names.{AreBelow, name_at, names_at, place_of};
+ghost use Rattle.kt_list.specs.views.Names.{AreBelow, name_at, names_at, place_of};
 ghost use Rattle.kt_rules.specs.Known.{named_by, named_with};
 ghost use Rattle.kt_rules.specs.Entry.{needs_for};
 ghost use Rattle.kt_rules.specs.Names.{is_among};
 ghost use Rattle.kt_rules.specs.Suffixes.{all_needs};
-ghost use Rattle.kt_rules.specs.Targets.{entry_view, names_view, needs_view, target_view};
+ghost use Rattle.kt_rules.specs.views.Targets.{entry_view, names_view, needs_view, target_view};
 ghost use Rattle.kt_rules.specs.inner.Held.{numbered_target};
 ghost use Rattle.kt_rules.specs.inner.Marks.{HasShared, IsOf, is_marked};
 

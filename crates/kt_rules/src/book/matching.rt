@@ -3,9 +3,9 @@
 ghost use Rattle.std.specs.Prelude.{◌≡◌, ◌++◌, ◌||◌, ◌∷◌, [], IfOk, OnOk, flat_map, option_map, if◌then◌else◌};
 ghost use Rattle.kt_rules.specs.Book.{pattern_rule, patterns_in, repeats, unrepeated};
 ghost use Rattle.kt_rules.specs.Entry.{Entry};
-ghost use Rattle.kt_rules.specs.Patterns.{form_view, has_pattern, stays_before, suffix_rules_at, suffix_rules_in};
+ghost use Rattle.kt_rules.specs.inner.Patterns.{form_view, has_pattern, stays_before, suffix_rules_at, suffix_rules_in};
 ghost use Rattle.kt_rules.specs.Suffixes.{percent, suffix_patterns};
-ghost use Rattle.kt_rules.specs.Targets.{entry_view, target_view};
+ghost use Rattle.kt_rules.specs.views.Targets.{entry_view, target_view};
 
 use super::book_rule::BookRule;
 use super::entries::Entries;

@@ -3,12 +3,12 @@ ghost use Rattle.std.specs.Prelude.{◌≡◌, ◌++◌, [], ◌<◌, ◌≤◌,
 ghost use Rattle.kt_text.specs.Words.{Text};
 ghost use Rattle.kt_rules.specs.Book.{phony_of};
 ghost use Rattle.kt_rules.specs.Names.{with_name};
-ghost use Rattle.kt_rules.specs.Slots.{GotRecipes, GotSpots, GrewIn, noted_messages, spots_at, target_spots};
+ghost use Rattle.kt_rules.specs.inner.Slots.{GotRecipes, GotSpots, GrewIn, noted_messages, spots_at, target_spots};
 ghost use Rattle.kt_rules.specs.Suffixes.{suffixes_after};
-ghost use Rattle.kt_rules.specs.Targets.{entry_view};
+ghost use Rattle.kt_rules.specs.views.Targets.{entry_view};
 ghost use Rattle.kt_rules.specs.Entry.{Entry};
 ghost use Rattle.kt_rules.specs.inner.Held.{numbered_target};
-ghost use Rattle.kt_list.specs.Names.{AreBelow};
+ghost use Rattle.kt_list.specs.views.Names.{AreBelow};
 
 use super::Warnings;
 use super::book_rule::BookRule;

@@ -2,7 +2,7 @@
 ghost use Rattle.std.specs.Prelude.{◌≡◌, ◌||◌, false, not, map, IfOk, OnOk};
 ghost use Rattle.kt_rules.specs.Book.{repeats};
 ghost use Rattle.kt_rules.specs.Entry.{Entry};
-ghost use Rattle.kt_rules.specs.Patterns.{IsKeyOf, has_pattern, held};
+ghost use Rattle.kt_rules.specs.inner.Patterns.{IsKeyOf, has_pattern, held};
 
 use super::pattern::Pattern;
 use crate::entry::{Name, Target};

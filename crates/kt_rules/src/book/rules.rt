@@ -6,12 +6,12 @@
 ghost use Rattle.std.specs.Prelude.{◌≡◌, ◌++◌, ◌∷◌, [], ℕ, All, List, Some, false, flat_map, length, take};
 ghost use Rattle.std.specs.Prelude.{None, option_map, slice_get, unwrap_or, if◌then◌else◌, IfOk, IfSome, IsTrue, OnErr, OnOk};
 ghost use Rattle.std.specs.List.{Contains};
-ghost use Rattle.kt_list.specs.Names.{AreBelow, place_of};
-ghost use Rattle.kt_list.specs.Prefixes.{HasMore};
+ghost use Rattle.kt_list.specs.views.Names.{AreBelow, place_of};
+ghost use Rattle.kt_list.specs.views.Prefixes.{HasMore};
 ghost use Rattle.kt_text.specs.Words.{Text};
 ghost use Rattle.kt_rules.specs.Book.{is_double, is_group};
-ghost use Rattle.kt_rules.specs.Known.{names_in};
-ghost use Rattle.kt_rules.specs.Targets.{entry_view};
+ghost use Rattle.kt_rules.specs.views.Known.{names_in};
+ghost use Rattle.kt_rules.specs.views.Targets.{entry_view};
 ghost use Rattle.kt_rules.specs.inner.Alike.{HaveSameNeeds, SaySame};
 ghost use Rattle.kt_rules.specs.inner.Dictionary.{GrowsDictionary, IsNumberOf};
 ghost use Rattle.kt_rules.specs.inner.Held.{AreNeeds, AreRuleNumbers, IsLast, rule_held};

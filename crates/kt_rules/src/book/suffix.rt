@@ -1,6 +1,7 @@
 //! Names of suffix rules, and suffixes at the end of names.
 ghost use Rattle.std.specs.Prelude.{◌≡◌, ◌≤◌, length, is_some};
-ghost use Rattle.kt_rules.specs.inner.SuffixCuts.{cut_after, earlier, end_of_length, first_cut, first_end, is_cut_inside};
+ghost use Rattle.kt_rules.specs.inner.SuffixCuts.{cut_after, earlier, end_of_length, first_cut, first_end};
+ghost use Rattle.kt_rules.specs.inner.SuffixCuts.{is_cut_inside};
 ghost use Rattle.kt_rules.specs.Suffixes.{is_cut_at, suffix_patterns};
 
 use super::suffixes::Suffixes;

@@ -6,7 +6,7 @@ ghost use Rattle.std.specs.List.{ends_with};
 ghost use Rattle.kt_rules.specs.Names.{is_among, with_name};
 ghost use Rattle.kt_rules.specs.inner.SuffixCuts.{KeepLengths, lengths_with};
 ghost use Rattle.kt_rules.specs.Suffixes.{all_needs, start_suffixes, suffix_cut};
-ghost use Rattle.kt_rules.specs.Targets.{names_view, needs_view};
+ghost use Rattle.kt_rules.specs.views.Targets.{names_view, needs_view};
 
 use super::special::{add_needs, start_names};
 use super::suffix::{first_cut, first_end};

@@ -2,7 +2,8 @@
 ghost use Rattle.std.specs.Prelude.{◌≡◌, ◌∷◌, ◌++◌, ◌-◌, List, length, Some};
 ghost use Rattle.std.specs.List.{slice_range};
 ghost use Rattle.kt_text.specs.Words.{Text, list_text, words_of};
-ghost use Rattle.kt_text.specs.Functions.{Answers, joined_pairs, word_at, strip_of, word_of, wordlist_of};
+ghost use Rattle.kt_text.specs.views.Functions.{Answers};
+ghost use Rattle.kt_text.specs.Functions.{joined_pairs, word_at, strip_of, word_of, wordlist_of};
 ghost use Rattle.kt_text.specs.Functions.{words_count_of, firstword_of, lastword_of, join_of};
 
 use crate::cut::words as words_of_text;

@@ -1,6 +1,7 @@
 //! Functions on file names.
 ghost use Rattle.std.specs.Prelude.{◌≡◌, ◌≤◌, length, Some};
-ghost use Rattle.kt_text.specs.Functions.{Answers, dir_part, name_place, suffix_place, dir_of, notdir_of, suffix_of};
+ghost use Rattle.kt_text.specs.views.Functions.{Answers};
+ghost use Rattle.kt_text.specs.Functions.{dir_part, name_place, suffix_place, dir_of, notdir_of, suffix_of};
 ghost use Rattle.kt_text.specs.Functions.{basename_of, addsuffix_of, addprefix_of};
 
 use crate::cut::words;

@@ -4,7 +4,8 @@ ghost use Rattle.std.specs.Borrow.{Bor};
 ghost use Rattle.std.specs.List.{list_any};
 ghost use Rattle.kt_text.specs.Words.{Text, words_of};
 ghost use Rattle.kt_text.specs.Match.{stem_span};
-ghost use Rattle.kt_text.specs.Functions.{matches_held, matches_some, occurs, quotes_percent};
+ghost use Rattle.kt_text.specs.inner.Patterns.{matches_held};
+ghost use Rattle.kt_text.specs.Functions.{matches_some, occurs, quotes_percent};
 
 use crate::cut::words;
 use crate::pattern::{has_percent, match_pattern};

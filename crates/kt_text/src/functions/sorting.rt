@@ -1,7 +1,8 @@
 //! Words in byte order.
 ghost use Rattle.std.specs.Prelude.{◌≡◌, Some, IfOk};
 ghost use Rattle.kt_text.specs.Words.{words_of};
-ghost use Rattle.kt_text.specs.Functions.{Answers, word_set, sort_of};
+ghost use Rattle.kt_text.specs.views.Functions.{Answers};
+ghost use Rattle.kt_text.specs.Functions.{word_set, sort_of};
 
 use crate::cut::words;
 use crate::fault::TextFault;

@@ -1,7 +1,8 @@
 //! Functions that replace and select.
 ghost use Rattle.std.specs.Prelude.{◌≡◌, OnOk, Some};
-ghost use Rattle.kt_text.specs.Words.{put_word};
-ghost use Rattle.kt_text.specs.Functions.{Answers, patsubst_word, with_stem, subst_of, findstring_of, patsubst_of};
+ghost use Rattle.kt_text.specs.views.Words.{put_word};
+ghost use Rattle.kt_text.specs.views.Functions.{Answers};
+ghost use Rattle.kt_text.specs.Functions.{patsubst_word, with_stem, subst_of, findstring_of, patsubst_of};
 ghost use Rattle.kt_text.specs.Functions.{filter_of, filter_out_of};
 
 use crate::cut::words;

@@ -1,8 +1,8 @@
 -- What is wrong with a graph, from its nodes.
 use Rattle.std.proofs.Common.{rules, ◌≡◌, ◌<◌, Bool, true, false, not, ◌||◌, cond, ◌⊎◌, ⊎_elim, List, [], ◌∷◌, ◌++◌, length, map, filter, find, All, Option, None, Some, option_map, refl, sym, ap, ◌∙◌, subst, arith}
 use Rattle.kt_graph.proofs.Common.{Contains, list_any, IsStrictlySortedBy, nat_cmp, option_map_or, Ordering, Less, slice_cmp, bytes_eq, false≢true, true≢false, lt-ltb, ltb-true, length-map, All-contains, All-filter, All-map, sorted_tail, All-after_first, none-some, same_Some, bytes_eq-Decides, Text, Entry, is_repeated, made_names, Node, is_leaf, node_of, canon_of, is_reserved, ComesFirst, IsCyclic, IsDoubled, IsFirst, IsGraph, IsMade, IsReached, IsReserved, Trouble, one_file, is_unmade, unmade_goal, first_or_rest, in_first, in_rest}
-use Rattle.kt_graph.specs.faults.Faults.{IsFileTrouble}
-use Rattle.kt_graph.specs.inner.faults.Files.{spelling_count}
+use Rattle.kt_graph.specs.inner.faults.Troubles.{IsFileTrouble}
+use Rattle.kt_graph.specs.views.faults.Files.{spelling_count}
 use Rattle.kt_graph.specs.nodes.Groups.{made_nodes}
 use Rattle.kt_graph.specs.inner.nodes.Graph.{makes_among}
 use Rattle.kt_graph.proofs.lemmas.MemberLemmas.{Contains-from_map, Contains-map, Contains-none}

@@ -2,7 +2,8 @@
 -- makings of several names come after the names.
 use Rattle.std.specs.Prelude.{◌≡◌, ◌↔◌, ℕ, suc, ◌+◌, ◌<◌, true, false, Bool, ◌⊎◌, List, [], ◌∷◌, ◌++◌, length, get_or}
 use Rattle.std.specs.Prelude.{set, replicate, take, flat_map, fold, map, All, IfSome, if◌then◌else◌, Option, Some, None}
-use Rattle.kt_graph.specs.Prelude.{slice_get, Vec, Contains, count_by, range_with_len, option_to_list}
+use Rattle.kt_graph.specs.inner.Prelude.{slice_get, Vec, count_by, range_with_len, option_to_list}
+use Rattle.kt_graph.specs.Prelude.{Contains}
 use Rattle.std.specs.declared.alloc.Global.{Global}
 use Rattle.kt_graph.specs.inner.nodes.Stored.{HaveOneMaking, StoredNode, stored_at}
 use Rattle.kt_graph.specs.declared.faults.edges.Edges.{Edges}

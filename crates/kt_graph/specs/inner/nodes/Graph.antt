@@ -4,7 +4,7 @@ use Rattle.kt_graph.specs.Prelude.{option_map_or, Text, Node, is_leaf}
 use Rattle.kt_graph.specs.declared.nodes.node.Instance.{Instance as Held}
 use Rattle.kt_graph.specs.inner.faults.Files.{AreDistinct, IsByteOrder}
 use Rattle.kt_graph.specs.inner.nodes.Numbering.{HasNumbers}
-use Rattle.kt_graph.specs.nodes.Views.{NodeTable, instance_at}
+use Rattle.kt_graph.specs.inner.nodes.NodeTable.{NodeTable, instance_at}
 
 -- no two makings are equal
 abbrev pub AreDifferent : List Held → Type 0

@@ -1,7 +1,7 @@
 -- Nodes as the graph holds them: with numbers for names, and with the lists of all nodes in one (kati's own).
 use Rattle.std.specs.Prelude.{◌≡◌, ℕ, ◌≤◌, ◌<◌, ◌+◌, List, [], ◌++◌, length, map, All, Option, None, option_map}
 use Rattle.std.specs.Prelude.{◌∷◌, Bool, Some, false, flat_map, fold, get_or, slice_get, true}
-use Rattle.kt_graph.specs.Prelude.{slice_range, HasMore, RecipeLine, NodeKind, Leaf}
+use Rattle.kt_graph.specs.inner.Prelude.{slice_range, HasMore, RecipeLine, NodeKind, Leaf}
 use Rattle.kt_graph.specs.declared.nodes.part.Maker.{Maker}
 use Rattle.kt_graph.specs.declared.nodes.part.NumberedNeeds.{NumberedNeeds}
 use Rattle.kt_graph.specs.declared.nodes.part.NumberedPart.{NumberedPart}

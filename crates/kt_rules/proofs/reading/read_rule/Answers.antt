@@ -1,7 +1,7 @@
 use Rattle.std.proofs.Common.{arith, sym, ◌∙◌}
 use Rattle.kt_rules.proofs.ReadingLemmas.{told_fault, head_fault, line_tested}
 use Rattle.kt_rules.proofs.SignLemmas.{signs_tell}
-use Rattle.kt_rules.specs.RuleLine.{head_view}
+use Rattle.kt_rules.specs.inner.Heads.{head_view}
 use Rattle.kt_rules.proofs.reading.read_rule.Goals as goal
 
 pub returns-in-Err : goal.returns-in-Err

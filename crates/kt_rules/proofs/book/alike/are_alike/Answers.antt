@@ -1,4 +1,4 @@
-use Rattle.kt_rules.specs.Slots.{rule_view}
+use Rattle.kt_rules.specs.views.Targets.{rule_view}
 use Rattle.kt_rules.proofs.AlikeLemmas.{alike_by_entry}
 use Rattle.kt_rules.proofs.book.alike.are_alike.Goals as goal
 

@@ -1,4 +1,4 @@
-use Rattle.kt_rules.specs.Targets.{entry_view}
+use Rattle.kt_rules.specs.views.Targets.{entry_view}
 use Rattle.kt_rules.proofs.SpotLemmas.{rules_left}
 use Rattle.kt_rules.proofs.book.entries.first_entry.Goals as goal
 

@@ -1,4 +1,4 @@
-use Rattle.kt_rules.specs.RuleLine.{head_view}
+use Rattle.kt_rules.specs.inner.Heads.{head_view}
 use Rattle.kt_rules.proofs.SignLemmas.{plain_text_of_needs, plain_text_of_targets}
 use Rattle.kt_rules.proofs.line.HeadNames.of.Goals as goal
 

@@ -1,6 +1,6 @@
 use Rattle.std.proofs.Common.{Some, ap, sym, ◌∙◌, option_map}
 use Rattle.kt_graph.proofs.Common.{MatchOption-at_none, MatchOption-at_some, IfOk-weaker, Text}
-use Rattle.kt_graph.specs.faults.Faults.{trouble_view}
+use Rattle.kt_graph.specs.inner.faults.Troubles.{trouble_view}
 use Rattle.kt_graph.proofs.lemmas.faults.TroubleLemmas.{comes_first, goals_are}
 use Rattle.kt_graph.proofs.nodes.graph.Graph.trouble.Goals as goal
 
