@@ -17,6 +17,8 @@ The checks:
              and of tests depend on crates of laws
   lemmas     no crate of the product has a lemma that no proof of its code needs, except for the laws on limits: what
              only a law needs is in a crate of laws
+  closed     specs/ of the product's crates has only the definitions that the promise depends on, and imports nothing
+             from specs/views/ or specs/inner/; only its own crate uses specs/inner/
   lines      lines of documents have at most 120 columns, except in tables and output
   sizes      documents have at most the words of scripts/document_sizes.py, outside code blocks
   examples   each block ```console of README.md, example/README.md and docs/USING.md prints what the document has. bash
@@ -62,6 +64,7 @@ import lemmas_used
 import names_stated
 import options_stated
 import shapes_stated
+import specs_closed
 import tested_calls
 import tricks_stated
 import trusted_stated
@@ -304,6 +307,11 @@ def check_lemmas(place, report):
     report.check(not found, "lemmas that no proof of code needs:", *found)
 
 
+def check_closed(place, report):
+    found = list(specs_closed.troubles(place.root))
+    report.check(not found, "definitions in the wrong folder:", *found)
+
+
 def check_lines(place, report):
     for path in place.documents():
         fenced, long = False, []
@@ -420,7 +428,8 @@ def check_trusted(place, report):
 
 CHECKS = {"options": check_options, "faults": check_faults, "cases": check_cases, "calls": check_calls,
           "files": check_files, "specs": check_specs, "walk": check_walk, "shapes": check_shapes, "names": check_names,
-          "crates": check_crates, "lemmas": check_lemmas, "lines": check_lines, "sizes": check_sizes,
+          "crates": check_crates, "lemmas": check_lemmas, "closed": check_closed, "lines": check_lines,
+          "sizes": check_sizes,
           "examples": check_examples, "scripts": check_scripts, "gate": check_gate, "picture": check_picture,
           "tricks": check_tricks, "diagrams": check_diagrams, "trusted": check_trusted}
 

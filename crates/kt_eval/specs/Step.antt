@@ -1,4 +1,4 @@
--- The steps of an evaluation, which leave a world, and what else a call leaves (kati's own).
+-- The steps of an evaluation, which leave a world (kati's own).
 use Rattle.std.specs.Prelude.{ℕ, Option}
 use Rattle.kt_text.specs.Words.{Text}
 use Rattle.kt_rules.specs.declared.fault_kind.FaultKind.{FaultKind}

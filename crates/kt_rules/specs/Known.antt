@@ -1,5 +1,4 @@
--- The names that stand in rules, and those that rules make known: those of explicit rules, and the phony ones (kati's
--- own).
+-- The names that rules make known: those of explicit rules, and the phony ones (kati's own).
 use Rattle.std.specs.Prelude.{List, [], ◌∷◌, ◌++◌, flat_map, if◌then◌else◌}
 use Rattle.kt_rules.specs.Prelude.{Text, Target, Entry, needs_for}
 use Rattle.kt_rules.specs.Suffixes.{all_needs}

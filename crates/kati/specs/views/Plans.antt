@@ -6,7 +6,7 @@ use Rattle.kati.specs.Meaning.{Meaning, Means}
 use Rattle.kati.specs.Exact.{IsGraphOf}
 use Rattle.kati.specs.Sound.{IsSoundPlan}
 
--- each plan that a run means is exactly that graph
+-- each plan that a run means is exactly the graph of its goals
 abbrev pub PlansAreGraphs : Type 0
 PlansAreGraphs = (args : Args) (store : Store) (asked : List Text) (m : Meaning) (plan : Plan)
     → Means args store asked m → m.result ≡ Ok plan → IsGraphOf args store asked plan
@@ -16,6 +16,7 @@ abbrev pub PlansReadBack : Type 0
 PlansReadBack = (args : Args) (store : Store) (asked : List Text) (m : Meaning) (plan : Plan)
     → Means args store asked m → m.result ≡ Ok plan → IsWritable plan × (ninja_read (plan_text plan) ≡ Ok plan)
 
+-- each plan that a run means is sound
 abbrev pub PlansAreSound : Type 0
 PlansAreSound = (args : Args) (store : Store) (asked : List Text) (m : Meaning) (plan : Plan)
     → Means args store asked m → m.result ≡ Ok plan → IsSoundPlan plan

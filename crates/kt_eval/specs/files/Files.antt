@@ -1,4 +1,4 @@
--- What files hold, and what a read changes (kati's own).
+-- What files hold, and what is seen of the reads (kati's own).
 use Rattle.std.specs.Prelude.{◌≡◌, ◌+◌, Bool, true, false, ℕ, List, [], ◌∷◌, nat_eq, Option, Some, None, if◌then◌else◌}
 use Rattle.std.specs.Cmp.Lexicographic.{pointwise}
 

@@ -1,5 +1,4 @@
--- The result of reading makefiles, and what a machine holds between two readings (kati's own; GNU make manual, "What
--- Name to Give Your Makefile").
+-- The result of reading makefiles (kati's own; GNU make manual, "What Name to Give Your Makefile").
 use Rattle.std.specs.Prelude.{ℕ, true, List, [], Option, Some, None, codes}
 use Rattle.kt_eval.specs.Prelude.{Text, Entry, Deferred, Macro, Store, World, Step}
 use Rattle.kt_eval.specs.macros.Macros.{Macros, find, put, set_by_makefile}

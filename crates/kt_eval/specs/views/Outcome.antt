@@ -62,7 +62,7 @@ BlamesBy (Err stops.Memory) old new asked = new ≡ old
 abbrev pub Blames : {A : Type 0} → Result A Stop → FilesSeen → FilesSeen → Type 0
 Blames result old new = BlamesBy result old.failed new.failed new.names
 
--- why a rule is refused
+-- the stop for a rule that is refused
 abbrev pub rule_stop : RuleFault → Stop
 rule_stop (Refused number place words) = stops.Fault (fault_at (Some place) number words)
 rule_stop Memory = stops.Memory

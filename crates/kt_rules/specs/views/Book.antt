@@ -24,7 +24,7 @@ numbers_in suffixes name numbered = map (λ target. numbered.0)
 unfoldable pub explicit_numbers : List Entry → Text → List ℕ
 explicit_numbers rules name = flat_map (numbers_in (suffixes_of rules) name) (enumerate_from 0 rules)
 
--- ---- one more rule
+-- ---- groups
 
 -- whether a rule makes a target of this name
 abbrev pub makes : Entry → Text → Bool

@@ -13,10 +13,12 @@ abbrev pub begins_comment : Text → Bool
 begins_comment [] = true
 begins_comment (byte ∷ text) = byte == 35
 
+-- the parts of a rule line, or none if it is a target-specific macro
 abbrev pub texts_view : Result HeldRuleParts TargetSpecific → Option RuleParts
 texts_view (Ok parts) = Some (record { head = parts.head.now; recipe = option_map (λ recipe. recipe.now) parts.recipe })
 texts_view (Err fault) = None
 
+-- what a line is
 abbrev pub line_form_view : HeldForm → Form
 line_form_view told.Blank = blank
 line_form_view (told.Assignment name operator value) = assignment name.now operator value.now

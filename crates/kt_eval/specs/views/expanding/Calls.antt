@@ -13,10 +13,11 @@ asked_view (asked.Calls function arguments) = calls function (map (λ argument. 
 asked_view (asked.Refuses name) = refuses name.now
 asked_view (asked.Refers body) = refers body.now
 
--- whether a body is just a name: it has no dollar, colon or separator
+-- whether a byte is none of a dollar, a colon and a separator
 unfoldable pub is_name_byte : ℕ → Bool
 is_name_byte byte = not (byte == 36) && (not (byte == 58) && not (is_separator byte))
 
+-- whether a body is just a name: all its bytes are such
 unfoldable pub names_plainly : Mark → Text → Bool
 names_plainly Byte body = length body == 1 && list_all is_name_byte body
 names_plainly Parentheses body = list_all is_name_byte body

@@ -13,5 +13,6 @@ spelling_count names file = length (filter (λ name. bytes_eq (canon_of name) fi
 abbrev pub is_repeated : List Text → Text → Bool
 is_repeated names name = nat_lt 1 (spelling_count names (canon_of name))
 
+-- the names of the nodes that are made
 abbrev pub made_names : List Node → List Text
 made_names nodes = map (λ node. node.name) (made_nodes nodes)

@@ -64,6 +64,8 @@ pub record Search : Type 0 where
   pub known : List Text
   pub asked : List Question
 
+-- ---- trees
+
 -- a finite tree of rules that makes a name after a chain: its root is a candidate for the name, and its branches are
 -- trees for the unknown prerequisites. No path of it has a rule twice, or more rules than may be added; a terminal rule
 -- has no branch. The order of candidates doesn't matter here.
@@ -78,9 +80,12 @@ HasTree rules known (suc left) used name =
 abbrev pub IsFoundByTrees : {A : Type 0} → List Entry → List Text → Text → Option A → Type 0
 IsFoundByTrees rules known name found = (is_some found ≡ true) ↔ HasTree rules known chain_limit [] name
 
+-- ---- in the code's own types
+
 -- the choice of a candidate
 abbrev pub choice_view : Candidate → Chosen
 choice_view candidate = record { rule = candidate.rule; directory = candidate.directory; stem = candidate.stem }
 
+-- a question of the code as one of the definitions
 abbrev pub question_view : HeldQuestion → Question
 question_view question = (question.name, question.used.items)
