@@ -29,6 +29,7 @@ The checks:
   gate       README's test command runs .ci/run
   picture    docs/times.svg is drawn from the table in docs/BENCHMARKS.md
   tricks     docs/TRICKS.md is what the heads of the modules say
+  quick      docs/QUICK.md lists the clauses that go one way, and their labels say so
   diagrams   the diagrams of docs/DESIGN.md are current
   trusted    docs/TRUSTED.md lists the definitions that the promise depends on, and each of them has a comment
 
@@ -63,6 +64,7 @@ import document_sizes
 import lemmas_used
 import names_stated
 import options_stated
+import quick_clauses
 import shapes_stated
 import specs_closed
 import tested_calls
@@ -416,6 +418,11 @@ def check_tricks(place, report):
     report.check(not differ, "docs/TRICKS.md and the heads of the modules differ:", *differ)
 
 
+def check_quick(place, report):
+    wrong = list(quick_clauses.differing(place.root))
+    report.check(not wrong, "clauses that go one way:", *wrong)
+
+
 def check_diagrams(place, report):
     wrong = list(diagrams.troubles(place.root))
     report.check(not wrong, "diagrams:", *wrong)
@@ -431,7 +438,7 @@ CHECKS = {"options": check_options, "faults": check_faults, "cases": check_cases
           "crates": check_crates, "lemmas": check_lemmas, "closed": check_closed, "lines": check_lines,
           "sizes": check_sizes,
           "examples": check_examples, "scripts": check_scripts, "gate": check_gate, "picture": check_picture,
-          "tricks": check_tricks, "diagrams": check_diagrams, "trusted": check_trusted}
+          "tricks": check_tricks, "quick": check_quick, "diagrams": check_diagrams, "trusted": check_trusted}
 
 
 class Parser(argparse.ArgumentParser):

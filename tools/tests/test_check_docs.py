@@ -50,7 +50,8 @@ class Spoiling(unittest.TestCase):
 
     def test_as_it_is(self):
         self.check("options", "cases", "calls", "files", "specs", "walk", "shapes", "names", "crates", "lemmas",
-                   "closed", "lines", "sizes", "gate", "picture", "tricks", "diagrams", "trusted", failed=0)
+                   "closed", "lines", "sizes", "gate", "picture", "tricks", "quick", "diagrams", "trusted",
+                   failed=0)
 
     def test_an_option_that_only_the_code_has(self):
         self.spoil("crates/kati_args/src/command.rt", '.long("depth")', '.long("deep")')
@@ -282,6 +283,16 @@ class Spoiling(unittest.TestCase):
         self.spoil("docs/TRICKS.md", "a name is hashed in one write |", "a name is hashed |")
         self.check("tricks", failed=1)
         self.is_written_by("tricks_stated.py", "docs/TRICKS.md")
+
+    def test_a_clause_that_does_not_say_that_it_goes_one_way(self):
+        self.spoil("crates/kt_syntax/src/leading.rt", "ensures quick {", "ensures {")
+        self.assertIn("    crates/kt_syntax/src/leading.rt: leading_directive has a clause that goes one way",
+                      self.check("quick", failed=1))
+
+    def test_clauses_that_are_written_anew(self):
+        self.spoil("docs/QUICK.md", "| `quick` | `None` |", "| `quick` | `false` |")
+        self.check("quick", failed=1)
+        self.is_written_by("quick_clauses.py", "docs/QUICK.md")
 
     def test_diagrams_that_are_not_current(self):
         for name, old, new, said in (

@@ -77,7 +77,7 @@ fn compare_text(alloc: Global, plan: &GraphPlan, text: &[u8]) -> Result<Status, 
 // Whether this is the text that is written for the plan.
 fn is_text_of(plan: &GraphPlan, text: &[u8]) -> bool
     requires { IsWritable (plan_view plan.now) }
-    ensures { result ≡ true → plan_text (plan_view plan.now) ≡ text.now }
+    ensures quick { result ≡ true → plan_text (plan_view plan.now) ≡ text.now }
 {
     let mut expecting = Expecting::new(text);
     write_view(plan, &mut expecting).is_ok() && expecting.has_taken(text)

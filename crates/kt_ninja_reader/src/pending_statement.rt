@@ -98,7 +98,7 @@ impl<'t> Model for PendingStatements<'t> {
 impl More {
     // Whether there is nothing of it.
     fn is_none(&self) -> bool
-        ensures { result ≡ true → self.now ≡ no_more }
+        ensures quick { result ≡ true → self.now ≡ no_more }
     {
         self.block.is_unset()
             && are_none(self.implicit.as_slice())
@@ -107,7 +107,7 @@ impl More {
 }
 
 fn are_none(names: &[Path]) -> bool
-    ensures { result ≡ true → names.now ≡ [] }
+    ensures quick { result ≡ true → names.now ≡ [] }
 {
     matches!(names, [])
 }

@@ -41,7 +41,7 @@ impl BlockScope {
 
     /// Whether it holds no table.
     pub(crate) fn is_unset(&self) -> bool
-        ensures { result ≡ true → self.now ≡ [] }
+        ensures quick { result ≡ true → self.now ≡ [] }
     {
         self.values.is_none()
     }

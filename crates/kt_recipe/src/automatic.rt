@@ -109,7 +109,7 @@ pub(crate) fn put_told(
 // The name of a subject that has only one name, which is then borrowed.
 #[tactic(auto, unfolding(crate::specs::Automatic::subject_names))]
 fn only_name<'g>(node: &Node<'g>, part: usize, subject: Subject) -> Option<&'g [u8]>
-    ensures { IfSome result (λ name. subject_names_in node.now part subject ≡ name.now ∷ []) }
+    ensures quick { IfSome result (λ name. subject_names_in node.now part subject ≡ name.now ∷ []) }
 {
     match subject {
         Subject::Target => Some(node.name()),

@@ -183,7 +183,7 @@ impl Book {
         other: &[u8],
         other_number: usize,
     ) -> bool
-        ensures { IsTrue result → AreMadeAlike self.now name.now other.now }
+        ensures quick { IsTrue result → AreMadeAlike self.now name.now other.now }
     {
         let rules = &self.rules;
         let spots = spots_by_number(rules, &self.spots.targets, name, number);

@@ -85,7 +85,7 @@ impl Dictionary {
     /// Whether a name has this number, told without hashing.
     #[tactic(auto, using(crate::proofs::NoteLemmas::place_at))]
     pub(crate) fn has_number(&self, name: &[u8], number: usize) -> bool
-        ensures { IsTrue result → place_of self.now.0 name.now ≡ Some number }
+        ensures quick { IsTrue result → place_of self.now.0 name.now ≡ Some number }
     {
         // The contract of `len` makes known that the names differ.
         let _count = self.names.len();
@@ -115,7 +115,7 @@ impl Dictionary {
 
 // Whether a number is that of a name, told without hashing.
 fn is_name_at(names: &Names, number: usize, name: &[u8]) -> bool
-    ensures { IsTrue result → slice_get names.now number ≡ Some name.now }
+    ensures quick { IsTrue result → slice_get names.now number ≡ Some name.now }
 {
     match names.get(number) {
         Some(held) => held == name,

@@ -82,7 +82,7 @@ impl HeldNeeds {
 
     /// Those that others may hold, too.
     pub(crate) fn as_shared(&self) -> Option<&PlainNeeds>
-        ensures { IfSome result (λ plain. plain.now.1 ≡ self.now) }
+        ensures quick { IfSome result (λ plain. plain.now.1 ≡ self.now) }
     {
         match &self.form {
             NeedsStorage::Own(_) => None,
@@ -92,7 +92,7 @@ impl HeldNeeds {
 
     /// As `as_shared`, but no longer held by this entry.
     pub(crate) fn into_shared(self) -> Option<Rc<PlainNeeds>>
-        ensures { IfSome result (λ plain. plain.value.1 ≡ self) }
+        ensures quick { IfSome result (λ plain. plain.value.1 ≡ self) }
     {
         match self.form {
             NeedsStorage::Own(_) => None,
@@ -153,7 +153,7 @@ impl PlainNeeds {
 
     /// Whether they are those of a text.
     pub(crate) fn are_of(&self, text: &[u8]) -> bool
-        ensures { IsTrue result → NamesNeeds text.now self.now.1 }
+        ensures quick { IsTrue result → NamesNeeds text.now self.now.1 }
     {
         let _needs = &self.needs;
         self.text.as_slice() == text
@@ -161,7 +161,7 @@ impl PlainNeeds {
 
     /// Whether others have the same text.
     pub(crate) fn are_same(&self, other: &PlainNeeds) -> bool
-        ensures { IsTrue result → self.now.1 ≡ other.now.1 }
+        ensures quick { IsTrue result → self.now.1 ≡ other.now.1 }
     {
         other.are_of(self.text.as_slice())
     }

@@ -79,7 +79,7 @@ pub(crate) fn targets(
 
 // The only word of a text, or `None` if there are others or none.
 fn only_word(text: &[u8]) -> Option<&[u8]>
-    ensures { IfSome result (λ word. written_words text.now ≡ word.now ∷ []) }
+    ensures quick { IfSome result (λ word. written_words text.now ≡ word.now ∷ []) }
 {
     let (word, after) = first_word(text)?;
     match first_word(after) {

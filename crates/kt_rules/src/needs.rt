@@ -153,7 +153,7 @@ impl<'a> NeededName<'a> {
     /// Its number in a table, found without hashing: where the table is that of the book whose rule needs the name, and
     /// no stem is put in. Takes no memory.
     pub fn number_in(self, table: &Names) -> Option<usize>
-        ensures { IfSome result (λ number. slice_get table.now number ≡ Some (needed_view self.entry)) }
+        ensures quick { IfSome result (λ number. slice_get table.now number ≡ Some (needed_view self.entry)) }
     {
         let number = self.number?;
         let name = self.plain_text()?;
@@ -166,7 +166,7 @@ impl<'a> NeededName<'a> {
 
     // Its bytes, where no stem is put in.
     fn plain_text(self) -> Option<&'a [u8]>
-        ensures { IfSome result (λ name. name.now ≡ needed_view self.entry) }
+        ensures quick { IfSome result (λ name. name.now ≡ needed_view self.entry) }
     {
         match self.stem {
             None => Some(self.name),
@@ -178,7 +178,7 @@ impl<'a> NeededName<'a> {
 // A name without percent sign, into which no stem is put.
 #[tactic(auto, using(crate::proofs::TargetLemmas::plain_put))]
 fn stemless_text(name: &[u8]) -> Option<&[u8]>
-    ensures { IfSome result (λ text. (stem : Text) → text.now ≡ stemmed_name stem name.now) }
+    ensures quick { IfSome result (λ text. (stem : Text) → text.now ≡ stemmed_name stem name.now) }
 {
     if has_percent(name) {
         None

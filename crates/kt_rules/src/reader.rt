@@ -79,7 +79,7 @@ impl RuleReader {
     // The line of a text, if its prerequisites are long and plain.
     #[inline(never)]
     fn long_line(&mut self, text: &[u8]) -> Result<Option<LongLine>, AllocError>
-        ensures { IfOk result (λ found. IfSome found (ReadsAsLong text.now)) }
+        ensures quick { IfOk result (λ found. IfSome found (ReadsAsLong text.now)) }
     {
         match long_cut(text) {
             None => Ok(None),
@@ -92,7 +92,7 @@ impl RuleReader {
 
     // The prerequisites of a text, if it is plain.
     fn needs(&mut self, text: &[u8]) -> Result<Option<HeldNeeds>, AllocError>
-        ensures { IfOk result (λ found. IfSome found (NamesNeeds text.now)) }
+        ensures quick { IfOk result (λ found. IfSome found (NamesNeeds text.now)) }
     {
         match &self.last {
             Some(last) if last.are_of(text) => Ok(Some(HeldNeeds::shared(last)?)),
@@ -137,7 +137,7 @@ impl LongLine {
 
 // The texts before and after the first colon of a line, unless it makes a group or the prerequisites are short.
 fn long_cut(text: &[u8]) -> Option<(&[u8], &[u8])>
-    ensures { IfSome result (λ cut. IsLongCut text.now cut.0.now cut.1.now) }
+    ensures quick { IfSome result (λ cut. IsLongCut text.now cut.0.now cut.1.now) }
 {
     if text.len() < LONG || is_blank(text) {
         return None;
@@ -152,7 +152,7 @@ fn long_cut(text: &[u8]) -> Option<(&[u8], &[u8])>
 
 // Whether a text has no colon and no telling byte.
 fn is_plain(text: &[u8]) -> bool
-    ensures { IsTrue result → IsPlain text.now }
+    ensures quick { IsTrue result → IsPlain text.now }
 {
     !has_byte(text, b':') && !has_telling(text)
 }

@@ -17,7 +17,7 @@ use kt_text::trim_start;
 // The kind of a line; `None` where it takes a look at the whole line.
 #[tactic(auto, using(crate::proofs::LeadingForms::form_assigned, std::proofs::lemmas::List::take_rest))]
 pub(crate) fn leading_form(text: &[u8], tab: bool) -> Option<Form<'_>>
-    ensures { IfSome result (λ form. line_form_view form ≡ form_of text.now tab) }
+    ensures quick { IfSome result (λ form. line_form_view form ≡ form_of text.now tab) }
 {
     let (word, after) = quiet_word(text)?;
     let rest = trim_start(after);
@@ -45,7 +45,7 @@ fn unassigning_form<'a>(
     requires some { 0 < length word.now }
     requires rest { rest.now ≡ trimmed_start after.now }
     requires none { None ≡ operator_of rest.now }
-    ensures { IfSome result (λ form. line_form_view form ≡ form_of (word.now ++ after.now) tab) }
+    ensures quick { IfSome result (λ form. line_form_view form ≡ form_of (word.now ++ after.now) tab) }
 {
     if begins_colon(after) {
         return Some(Form::Rule);
@@ -61,7 +61,7 @@ fn unassigning_form<'a>(
 
 // The first word, which nothing in it ends before a blank, an operator or the comment could, and what comes after it.
 fn quiet_word(text: &[u8]) -> Option<(&[u8], &[u8])>
-    ensures { IfSome result (λ cut. IsQuietWord cut.0.now cut.1.now text.now) }
+    ensures quick { IfSome result (λ cut. IsQuietWord cut.0.now cut.1.now text.now) }
 {
     let size = quiet_run(text);
     if size == 0 {

@@ -170,7 +170,7 @@ fn ends_name(symbol: &Symbol, text: &[u8]) -> bool
 // Whether the first byte is one that operators begin with: few are, and the test is a quick one.
 #[tactic(auto, unfolding(crate::specs::Kinds::operator_of))]
 fn may_begin_operator(text: &[u8]) -> bool
-    ensures { is_some (operator_of text.now) ≡ true → result ≡ true }
+    ensures quick { is_some (operator_of text.now) ≡ true → result ≡ true }
 {
     matches!(text, [b'=' | b':' | b'?' | b'+' | b'!', ..])
 }

@@ -59,8 +59,8 @@ impl<'a> LineText<'a> {
 
     // The line, where it is its own text.
     pub(crate) fn own_text(&self) -> Option<&[u8]>
-        ensures value { IfSome result (λ text. text.now ≡ self.now) }
-        ensures own { IfSome result (λ text. condensed_of self.now ≡ self.now) }
+        ensures quick_value { IfSome result (λ text. text.now ≡ self.now) }
+        ensures quick_own { IfSome result (λ text. condensed_of self.now ≡ self.now) }
     {
         match &self.condensed {
             None => Some(self.line),

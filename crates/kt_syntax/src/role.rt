@@ -61,10 +61,11 @@ fn line_text<'a>(text: &'a [u8], line: &Line) -> &'a [u8]
 
 // Whether a line has no role, as its first byte tells of most: one that begins with a tab has none, whatever stands on
 // it, and few others begin as those do that have one.
+// Idle: whether it begins with a tab.
 pub(crate) fn opens_nothing(text: &[u8], line: &Line) -> bool
     requires order { line.now.span.start ≤ line.now.span.end }
     requires within { line.now.span.end ≤ length text.now }
-    ensures role { result ≡ true → (numbered_role text.now line.now).role ≡ role.Ordinary }
+    ensures quick_role { result ≡ true → (numbered_role text.now line.now).role ≡ role.Ordinary }
     ensures tab { result ≡ false → line.now.tab ≡ false }
 {
     if line.tab {

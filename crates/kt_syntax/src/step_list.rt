@@ -69,7 +69,7 @@ impl StepList {
 
     // Whether that of a place is told to be an ordinary line's by its number alone, as each is that was never put.
     pub(crate) fn is_unput(&self, place: usize) -> bool
-        ensures { result ≡ true → slice_get self.now place ≡ Some step.Line }
+        ensures quick { result ≡ true → slice_get self.now place ≡ Some step.Line }
     {
         match self.numbers.get(place) {
             Some(number) => *number == 0,

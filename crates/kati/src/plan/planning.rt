@@ -162,13 +162,14 @@ impl<'m> Planner<'m> {
 }
 
 // The next group, if one remains, and whether its members are told to share their inputs.
+// Idle: they are not told to.
 fn next_group<'g>(
     left: &mut Groups<'g>,
     group: &mut Vec<Node<'g>>,
     shares: &mut bool,
 ) -> Result<bool, AllocError>
     ensures next { IfOk result (λ some. left.old ≡ (if some then group.new.items ∷ left.new else [])) }
-    ensures shares { IfOk result (λ some. some ≡ true → MayShare group.new.items shares.new) }
+    ensures quick_shares { IfOk result (λ some. some ≡ true → MayShare group.new.items shares.new) }
 {
     *shares = left.next_shares_inputs();
     left.next_into(group)
@@ -176,7 +177,7 @@ fn next_group<'g>(
 
 // Whether each name of the graph and each command can be written. A name that many need is looked at once.
 fn has_writable_texts(graph: &Graph, sketch: &Sketch) -> bool
-    ensures { result ≡ true → (list_all (λ node. is_name node.name) graph.now ≡ true)
+    ensures quick { result ≡ true → (list_all (λ node. is_name node.name) graph.now ≡ true)
         × (list_all (λ drawn. is_writable_making (made_by drawn.command)) sketch.now ≡ true) }
 {
     sketch.has_writable_commands() && has_writable_names(graph)

@@ -76,7 +76,7 @@ impl Sketch {
 
     /// Whether each command can be written. Nothing is promised where it isn't known that all can.
     pub(crate) fn has_writable_commands(&self) -> bool
-        ensures { result ≡ true → list_all (λ drawn. is_writable_making (made_by drawn.command)) self.now ≡ true }
+        ensures quick { result ≡ true → list_all (λ drawn. is_writable_making (made_by drawn.command)) self.now ≡ true }
     {
         self.writable
     }

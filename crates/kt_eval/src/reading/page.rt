@@ -114,11 +114,12 @@ impl<'a> Page<'a> {
 
     // The last of the lines, from one on, of which each but the last is blank at its first byte and comes before an
     // ordinary line: reading such a line only moves the place, and the next one moves it too.
+    // Idle: the place.
     pub(crate) fn past_comments(&self, place: usize, step: BlockStep) -> usize
         requires step { IsStepAt self.now.blocks.steps place step }
         ensures step { IsStepAt self.now.blocks.steps result step }
         ensures after { place ≤ result }
-        ensures same { ReadsAlike self.now place result }
+        ensures quick_same { ReadsAlike self.now place result }
     {
         let mut at = place;
         while self.is_passed(at) {
@@ -129,13 +130,13 @@ impl<'a> Page<'a> {
 
     // Whether a line is blank at its first byte, and comes before an ordinary line.
     fn is_passed(&self, place: usize) -> bool
-        ensures within { result ≡ true → place + 1 < length self.now.blocks.steps }
-        ensures fits { result ≡ true → place + 1 < 2 ^ 64 }
-        ensures line { result ≡ true → slice_get self.now.blocks.steps place ≡ Some step.Line }
-        ensures next { result ≡ true → slice_get self.now.blocks.steps (place + 1) ≡ Some step.Line }
-        ensures reads { result ≡ true → ReadsOn self.now.blocks.steps (place + 1) step.Line }
-        ensures tab { result ≡ true → (line_at self.now.lines place).tab ≡ false }
-        ensures blank { result ≡ true → line_form (line_at self.now.lines place).text false ≡ blank }
+        ensures quick_within { result ≡ true → place + 1 < length self.now.blocks.steps }
+        ensures quick_fits { result ≡ true → place + 1 < 2 ^ 64 }
+        ensures quick_line { result ≡ true → slice_get self.now.blocks.steps place ≡ Some step.Line }
+        ensures quick_next { result ≡ true → slice_get self.now.blocks.steps (place + 1) ≡ Some step.Line }
+        ensures quick_reads { result ≡ true → ReadsOn self.now.blocks.steps (place + 1) step.Line }
+        ensures quick_tab { result ≡ true → (line_at self.now.lines place).tab ≡ false }
+        ensures quick_blank { result ≡ true → line_form (line_at self.now.lines place).text false ≡ blank }
     {
         place < self.lines.len()
             && self.begins_comment(place)
@@ -145,16 +146,16 @@ impl<'a> Page<'a> {
 
     // Whether the step of a line is to read it by itself.
     fn is_ordinary(&self, place: usize) -> bool
-        ensures within { result ≡ true → place < length self.now.blocks.steps }
-        ensures step { result ≡ true → slice_get self.now.blocks.steps place ≡ Some step.Line }
-        ensures reads { result ≡ true → ReadsOn self.now.blocks.steps place step.Line }
+        ensures quick_within { result ≡ true → place < length self.now.blocks.steps }
+        ensures quick_step { result ≡ true → slice_get self.now.blocks.steps place ≡ Some step.Line }
+        ensures quick_reads { result ≡ true → ReadsOn self.now.blocks.steps place step.Line }
     {
         self.blocks.is_ordinary(place)
     }
 
     fn begins_comment(&self, place: usize) -> bool
-        ensures tab { result ≡ true → (line_at self.now.lines place).tab ≡ false }
-        ensures kind { result ≡ true → line_form (line_at self.now.lines place).text false ≡ blank }
+        ensures quick_tab { result ≡ true → (line_at self.now.lines place).tab ≡ false }
+        ensures quick_kind { result ≡ true → line_form (line_at self.now.lines place).text false ≡ blank }
     {
         let line = self.line(place);
         !line.tab && begins_comment(line.text)

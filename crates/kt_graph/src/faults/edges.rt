@@ -150,7 +150,7 @@ fn add_new(rows: &mut Vec<Vec<u32>>, nodes: &StoredNodes, number: usize) -> Resu
 
 // Whether a node has the making and the inputs of the one before.
 fn is_repeated(nodes: &StoredNodes, number: usize) -> bool
-    ensures { result ≡ true → IsRepeated nodes.now number }
+    ensures quick { result ≡ true → IsRepeated nodes.now number }
 {
     match number.checked_sub(1) {
         Some(before) => nodes.are_alike(before, number),

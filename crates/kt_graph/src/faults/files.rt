@@ -21,8 +21,8 @@ use std::alloc::{AllocError, Global};
 
 /// Whether a name is the canonical spelling of its file, and not the name that is reserved for kati. Takes no memory.
 pub(crate) fn is_plain(name: &[u8]) -> bool
-    ensures canonical { result ≡ true → canon_of name.now ≡ name.now }
-    ensures unreserved { result ≡ true → is_reserved name.now ≡ false }
+    ensures quick_canonical { result ≡ true → canon_of name.now ≡ name.now }
+    ensures quick_unreserved { result ≡ true → is_reserved name.now ≡ false }
 {
     is_canonical(name) && !is_always(name)
 }
@@ -52,7 +52,7 @@ fn is_always_name(alloc: Global, name: &[u8]) -> Result<bool, AllocError>
 /// Whether each made name is the canonical spelling of its file, so that no two of them are names of one file. Takes no
 /// memory.
 pub(crate) fn are_canonical(nodes: Nodes<'_>) -> bool
-    ensures { result ≡ true → All (λ name. canon_of name ≡ name) (made_names nodes.entry) }
+    ensures quick { result ≡ true → All (λ name. canon_of name ≡ name) (made_names nodes.entry) }
 {
     for node in nodes {
         if !is_canonical_if_made(&node) {
@@ -63,7 +63,7 @@ pub(crate) fn are_canonical(nodes: Nodes<'_>) -> bool
 }
 
 fn is_canonical_if_made(node: &Node<'_>) -> bool
-    ensures { result ≡ true → All (λ name. canon_of name ≡ name) (made_names (node.now ∷ [])) }
+    ensures quick { result ≡ true → All (λ name. canon_of name ≡ name) (made_names (node.now ∷ [])) }
 {
     if !node.is_made() {
         return true;

@@ -107,7 +107,7 @@ fn is_double(rule: TargetRule) -> bool
 
 /// Whether a rule with one colon has a recipe and several targets.
 pub(crate) fn makes_several(rule: TargetRule) -> bool
-    ensures { IsTrue result → (has_recipe (rule_view rule.entry) ≡ true)
+    ensures quick { IsTrue result → (has_recipe (rule_view rule.entry) ≡ true)
         × (is_double (rule_view rule.entry).0.kind ≡ false) }
 {
     !is_double(rule) && rule.entry.recipe().is_some() && rule.entry.targets().len() > 1

@@ -203,8 +203,8 @@ impl<'a> Graph<'a> {
     // order in which they were reached, in which they lie: in byte order each look would wait for memory. Takes no
     // memory.
     fn has_plain_names(&self) -> bool
-        ensures unreserved { result ≡ true → list_any (λ node. is_reserved node.name) self.now ≡ false }
-        ensures canonical { result ≡ true → All (λ name. canon_of name ≡ name) (made_names self.now) }
+        ensures quick_unreserved { result ≡ true → list_any (λ node. is_reserved node.name) self.now ≡ false }
+        ensures quick_canonical { result ≡ true → All (λ name. canon_of name ≡ name) (made_names self.now) }
     {
         let names = self.table.names();
         for number in 0..names.len() {

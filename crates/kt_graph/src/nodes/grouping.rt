@@ -63,7 +63,7 @@ impl<'g> Groups<'g> {
     /// Whether the members of the next group hold their inputs together: those of one are then those of all. Nothing is
     /// promised where they don't. Takes no memory; looks for the group as `next_into` does.
     pub fn next_shares_inputs(&self) -> bool
-        ensures { result ≡ true → FirstSharesInputs self.now }
+        ensures quick { result ≡ true → FirstSharesInputs self.now }
     {
         let nodes = self.table.nodes();
         let numbers = self.numbers;
@@ -95,7 +95,7 @@ impl<'g> Groups<'g> {
 
 // Whether the nodes of the group that a number is in hold their inputs together.
 fn are_members_alike(nodes: &StoredNodes, members: &[Vec<u32>], number: usize) -> bool
-    ensures { result ≡ true → AreAllAlike nodes.now number (members_of nodes.now (rows_held members.now) number) }
+    ensures quick { result ≡ true → AreAllAlike nodes.now number (members_of nodes.now (rows_held members.now) number) }
 {
     match making_at(nodes, number) {
         Some(making) => are_all_alike(nodes, number, row_at(members, making)),
@@ -106,7 +106,7 @@ fn are_members_alike(nodes: &StoredNodes, members: &[Vec<u32>], number: usize) -
 // Whether these nodes hold their inputs together with one.
 #[tactic(auto, using(std::proofs::lemmas::List::take_all))]
 fn are_all_alike(nodes: &StoredNodes, one: usize, numbers: &[u32]) -> bool
-    ensures { result ≡ true → AreAllAlike nodes.now one numbers.now }
+    ensures quick { result ≡ true → AreAllAlike nodes.now one numbers.now }
 {
     for number in numbers {
         if !nodes.are_alike(one, *number as usize) {

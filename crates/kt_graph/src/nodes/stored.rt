@@ -233,7 +233,7 @@ impl<'a> StoredNodes<'a> {
 
     /// Whether two nodes have one making and hold their inputs together. Nothing is promised of those that don't.
     pub(crate) fn are_alike(&self, one: usize, other: usize) -> bool
-        ensures { result ≡ true → HaveOneMaking (stored_at self.now one) (stored_at self.now other) }
+        ensures quick { result ≡ true → HaveOneMaking (stored_at self.now one) (stored_at self.now other) }
     {
         match (self.heads.get(one), self.heads.get(other)) {
             (Some(one), Some(other)) => {

@@ -86,7 +86,7 @@ impl<'a> Tables<'a> {
 
     /// The number of a name that a rule of the book needs, found without hashing.
     pub(crate) fn needed(&self, name: NeededName<'_>) -> Option<usize>
-        ensures { IfSome result (λ number. place_of self.now (needed_view name.entry) ≡ Some number) }
+        ensures quick { IfSome result (λ number. place_of self.now (needed_view name.entry) ≡ Some number) }
     {
         let number = name.number_in(self.book)?;
         // The contract of `len` makes known that the names differ.

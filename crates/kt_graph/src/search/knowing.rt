@@ -73,7 +73,7 @@ fn knows(
 // Whether a prerequisite may be known, told by what stands after its percent sign.
 #[tactic(auto, using(crate::proofs::lemmas::EndMarkLemmas::unknown_need))]
 fn may_be_known(known: &Known<'_>, name: &[u8]) -> bool
-    ensures { result ≡ false
+    ensures quick { result ≡ false
         → (directory stem : Text) → is_among known.now (needed_name directory stem name.now) ≡ false }
 {
     match fixed_end(end_of(name)) {
@@ -84,7 +84,7 @@ fn may_be_known(known: &Known<'_>, name: &[u8]) -> bool
 
 // The last two bytes of a text, unless a slash is among them. They stay when a leading `./` is removed.
 fn fixed_end(text: &[u8]) -> Option<&[u8]>
-    ensures { IfSome result (λ end. IsFixedEnd text.now end.now) }
+    ensures quick { IfSome result (λ end. IsFixedEnd text.now end.now) }
 {
     if text.len() < 2 {
         return None;

@@ -165,7 +165,7 @@ impl Marks {
             ≡ (is_marked rule.entry.names.now self.old name || is_among (named_with suffixes.now (entry_view rule.entry)
             (numbered_target rule.entry number)) name)) }
         ensures many { length self.new.numbers.items ≡ length self.old.numbers.items }
-        ensures shared { IfOk result (λ shared. shared ≡ true → HasShared rule.entry self.new) }
+        ensures quick_shared { IfOk result (λ shared. shared ≡ true → HasShared rule.entry self.new) }
     {
         let target = rule.target(number);
         if !is_explicit(
@@ -194,7 +194,7 @@ impl Marks {
             ≡ (is_marked rule.entry.names.now self.old name
             || is_among (all_needs (needs_for (entry_view rule.entry) (target_view target.entry))) name)) }
         ensures many { length self.new.numbers.items ≡ length self.old.numbers.items }
-        ensures shared { IfOk result (λ shared. shared ≡ true → HasShared rule.entry self.new) }
+        ensures quick_shared { IfOk result (λ shared. shared ≡ true → HasShared rule.entry self.new) }
     {
         match target.stem() {
             Some(stem) => {

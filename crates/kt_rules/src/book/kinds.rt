@@ -26,9 +26,10 @@ impl Kinds {
     }
 
     /// These kinds, and that of one more rule.
+    /// Idle: both.
     pub(crate) fn with(self, kind: Kind) -> Kinds
-        ensures kept { (other : AnyKind) → sees self other ≡ true → sees result other ≡ true }
-        ensures added { sees result kind ≡ true }
+        ensures quick_kept { (other : AnyKind) → sees self other ≡ true → sees result other ≡ true }
+        ensures quick_added { sees result kind ≡ true }
     {
         Kinds {
             double: self.double || is_double(kind),

@@ -107,21 +107,21 @@ impl Rules {
 
     /// Whether a name has this number, told without hashing.
     pub(crate) fn has_number(&self, name: &[u8], number: usize) -> bool
-        ensures { IsTrue result → place_of self.now.0 name.now ≡ Some number }
+        ensures quick { IsTrue result → place_of self.now.0 name.now ≡ Some number }
     {
         self.dictionary.has_number(name, number)
     }
 
     /// Whether there may be rules with two colons.
     pub(crate) fn may_have_double(&self) -> bool
-        ensures { result ≡ false → All (λ rule. is_double rule.kind ≡ false) self.now.1 }
+        ensures quick { result ≡ false → All (λ rule. is_double rule.kind ≡ false) self.now.1 }
     {
         self.kinds.double
     }
 
     /// Whether there may be groups.
     pub(crate) fn may_have_group(&self) -> bool
-        ensures { result ≡ false → All (λ rule. is_group rule.kind ≡ false) self.now.1 }
+        ensures quick { result ≡ false → All (λ rule. is_group rule.kind ≡ false) self.now.1 }
     {
         self.kinds.group
     }
@@ -141,7 +141,7 @@ impl Rules {
     /// Whether the rules at two places say the same of all their targets: they have the same lists of prerequisites,
     /// without a static pattern.
     pub(crate) fn say_same(&self, place: usize, other: usize) -> bool
-        ensures { IsTrue result → SaySame (slice_get self.now.1 place) (slice_get self.now.1 other) }
+        ensures quick { IsTrue result → SaySame (slice_get self.now.1 place) (slice_get self.now.1 other) }
     {
         let rows = self.rows.as_slice();
         match held_at(rows, place) {
@@ -245,7 +245,7 @@ fn lines_if(has_recipe: bool, lines: &[RecipeLine]) -> Option<&[RecipeLine]>
 
 // Whether both rows have rules that say the same of their targets, by numbers, and none has a static pattern.
 fn have_same_needs(row: &Row, other: &Row) -> bool
-    ensures { IsTrue result → HaveSameNeeds row.now other.now }
+    ensures quick { IsTrue result → HaveSameNeeds row.now other.now }
 {
     row.kind == other.kind
         && row.has_recipe == other.has_recipe
@@ -257,7 +257,7 @@ fn have_same_needs(row: &Row, other: &Row) -> bool
 
 // The numbers of the last prerequisites that several entries hold, where these have the same text.
 fn known_needs(last: &Option<LastNeeds>, needs: &HeldNeeds) -> Option<NeedsNumbers>
-    ensures { (dictionary : List Text × List (List ℕ)) → IsLast dictionary last.now
+    ensures quick { (dictionary : List Text × List (List ℕ)) → IsLast dictionary last.now
         → IfSome result (AreNeeds dictionary needs.now) }
 {
     match last {
@@ -270,8 +270,9 @@ fn known_needs(last: &Option<LastNeeds>, needs: &HeldNeeds) -> Option<NeedsNumbe
 }
 
 // Remembers the numbers of prerequisites that several entries may hold.
+// Idle: does nothing.
 fn remember(last: &mut Option<LastNeeds>, needs: HeldNeeds, numbers: NeedsNumbers)
-    ensures { (dictionary : List Text × List (List ℕ)) → IsLast dictionary last.old
+    ensures quick { (dictionary : List Text × List (List ℕ)) → IsLast dictionary last.old
         → AreNeeds dictionary needs numbers → IsLast dictionary last.new }
 {
     if let Some(needs) = needs.into_shared() {

@@ -6,4 +6,4 @@ use Rattle.kati.proofs.checking.compare_text.Goals as goal
 
 pub returns-then-is_text_of-clause-checks : goal.returns-then-is_text_of-clause-checks
 returns-then-is_text_of-clause-checks c =
-    inl (refl, ap ninja_read (sym (c.is_text_of.ensures c.if-is_text_of.true)) ∙ printed_is_read (plan_view c.args.plan.now) c.requires)
+    inl (refl, ap ninja_read (sym (c.is_text_of.ensures.quick c.if-is_text_of.true)) ∙ printed_is_read (plan_view c.args.plan.now) c.requires)

@@ -5,7 +5,7 @@ use Rattle.kt_rules.proofs.GoalLemmas.{explicit_by_spots}
 use Rattle.kt_rules.proofs.book.Book.are_made_alike.Goals as goal
 
 pub returns : goal.returns
-returns c = λ alike.
+returns c = record { quick = λ alike.
     let rules = c.self.inside.rules in
     let targets : Notes = (rules.0, c.self.inside.spots.targets) in
     let suffixes : List Text = c.self.inside.suffixes in
@@ -17,5 +17,5 @@ returns c = λ alike.
     let spots = c.spots_by_number-spots.result.now in
     let others = c.spots_by_number-others.result.now in
     sym (ap (map rule_needs) (told c.args.name.now spots c.spots_by_number-spots.ensures))
-    ∙ c.need_same.ensures alike (skips c.args.name.now spots) (skips c.args.other.now others)
-    ∙ ap (map rule_needs) (told c.args.other.now others c.spots_by_number-others.ensures)
+    ∙ c.need_same.ensures.quick alike (skips c.args.name.now spots) (skips c.args.other.now others)
+    ∙ ap (map rule_needs) (told c.args.other.now others c.spots_by_number-others.ensures) }

@@ -9,16 +9,16 @@ loop-number-init c = λ place within. absurd (omega (arith, within))
 pub loop-number-preserved : goal.loop-number-preserved
 loop-number-preserved c = grind (arith, ⊎_elim, cases_lt)
 
-pub returns-clause-unreserved : goal.returns-clause-unreserved
-returns-clause-unreserved c = λ yes.
+pub returns-clause-quick_unreserved : goal.returns-clause-quick_unreserved
+returns-clause-quick_unreserved c = λ yes.
     subst (λ (nodes : List Node). list_any (λ (node : Node). is_reserved node.name) nodes ≡ false) c.self.view_is
     (none_reserved (nodes_view c.self.inside.table c.self.inside.order.items)
     (of_nodes (λ (name : Text). is_reserved name ≡ false) c.self.inside.table
     (λ number within. rw c.names-names.ensures at ((c.loop-number.invariant number (omega (arith, ap length c.names-names.ensures))).1))
     c.self.inside.order.items (λ number has. (c.self.invariant.rises.all number).0 has)))
 
-pub returns-clause-canonical : goal.returns-clause-canonical
-returns-clause-canonical c = λ yes.
+pub returns-clause-quick_canonical : goal.returns-clause-quick_canonical
+returns-clause-quick_canonical c = λ yes.
     subst (λ (nodes : List Node). All (λ (name : Text). canon_of name ≡ name) (made_names nodes)) c.self.view_is
     (made_canonical (nodes_view c.self.inside.table c.self.inside.order.items)
     (of_nodes (λ (name : Text). canon_of name ≡ name) c.self.inside.table

@@ -5,8 +5,8 @@ use Rattle.kt_graph.proofs.nodes.graph.Graph.path_trouble.Goals as goal
 pub returns-then-has_plain_names : goal.returns-then-has_plain_names
 returns-then-has_plain_names c = λ rules known goals graph.
     file_trouble rules known goals c.args.self.now graph None
-    (c.has_plain_names.ensures.unreserved c.if-has_plain_names.true)
-    (none_repeated c.args.self.now graph.rises (c.has_plain_names.ensures.canonical c.if-has_plain_names.true))
+    (c.has_plain_names.ensures.quick_unreserved c.if-has_plain_names.true)
+    (none_repeated c.args.self.now graph.rises (c.has_plain_names.ensures.quick_canonical c.if-has_plain_names.true))
 
 pub returns-then-branch : goal.returns-then-branch
 returns-then-branch c = λ rules known goals graph.
