@@ -37,10 +37,10 @@ BEGINNING = """\
 <!-- made by scripts/quick_clauses.py --write -->
 # Clauses that go one way
 
-A clause with a label that begins with `quick` goes one way on purpose, mostly for speed. The idle body of the last
-but one column would pass: the function then returns that, or does that, whatever it is given. No such body changes the
-program's outcome, because its caller then takes a slower way to the same. So only a test can show that such a function
-finds anything. Most of them are private, and no test can call them.
+A label that begins with `quick` marks a clause that goes one way on purpose, mostly for speed. The idle body would
+pass: it always returns what that column has, or does only that. The program's outcome stays the same, because the
+caller then takes a slower way. So only a test can show that such a function finds anything. Most of them are private,
+and no test can call them.
 
 | Crate | Module | Function | Labels | Idle body | Tests |
 |---|---|---|---|---|---|

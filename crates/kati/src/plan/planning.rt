@@ -162,7 +162,7 @@ impl<'m> Planner<'m> {
 }
 
 // The next group, if one remains, and whether its members are told to share their inputs.
-// Idle: they are not told to.
+// Idle: `shares` is false.
 fn next_group<'g>(
     left: &mut Groups<'g>,
     group: &mut Vec<Node<'g>>,

@@ -114,7 +114,7 @@ impl<'a> Page<'a> {
 
     // The last of the lines, from one on, of which each but the last is blank at its first byte and comes before an
     // ordinary line: reading such a line only moves the place, and the next one moves it too.
-    // Idle: the place.
+    // Idle: the given place.
     pub(crate) fn past_comments(&self, place: usize, step: BlockStep) -> usize
         requires step { IsStepAt self.now.blocks.steps place step }
         ensures step { IsStepAt self.now.blocks.steps result step }

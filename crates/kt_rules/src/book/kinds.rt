@@ -26,7 +26,7 @@ impl Kinds {
     }
 
     /// These kinds, and that of one more rule.
-    /// Idle: both.
+    /// Idle: both kinds.
     pub(crate) fn with(self, kind: Kind) -> Kinds
         ensures quick_kept { (other : AnyKind) → sees self other ≡ true → sees result other ≡ true }
         ensures quick_added { sees result kind ≡ true }
