@@ -160,20 +160,20 @@ class Spoiling(unittest.TestCase):
 
     def test_a_lemma_that_no_proof_of_code_needs(self):
         # In a block, so that its head belongs to it; and one by which a law alone is proved.
-        lemmas, block = "crates/kt_text/proofs/GroupLemmas.antt", "module _ {A : Type 0}\n    (a : A) where\n"
+        lemmas, block = "crates/kt_text/proofs/lemmas/GroupLemmas.antt", "module _ {A : Type 0}\n    (a : A) where\n"
         self.spoil(lemmas, "-- ", block + "  pub spare : a ≡ a\n  spare = refl\n\n-- ")
-        self.assertIn("    kt_text: spare in proofs/GroupLemmas.antt\n", self.check("lemmas", failed=1))
+        self.assertIn("    kt_text: spare in proofs/lemmas/GroupLemmas.antt\n", self.check("lemmas", failed=1))
         answers = self.root / "crates/kt_text/proofs/laws/spare/Answers.antt"
         answers.parent.mkdir(parents=True)
-        answers.write_text("use Rattle.kt_text.proofs.GroupLemmas.{spare}\n", encoding="utf-8")
-        self.assertIn("    kt_text: spare in proofs/GroupLemmas.antt\n", self.check("lemmas", failed=1))
+        answers.write_text("use Rattle.kt_text.proofs.lemmas.GroupLemmas.{spare}\n", encoding="utf-8")
+        self.assertIn("    kt_text: spare in proofs/lemmas/GroupLemmas.antt\n", self.check("lemmas", failed=1))
         # The laws on limits are by the code.
         answers.parent.rename(answers.parent.with_name("one_deeper"))
         self.check("lemmas", failed=0)
 
     def test_a_lemma_that_an_attribute_needs_by_another(self):
         one = "spare : ℕ\nspare = 1\n\npub nearer : ℕ\nnearer = spare\n\n-- "
-        self.spoil("crates/kt_text/proofs/GroupLemmas.antt", "-- ", one)
+        self.spoil("crates/kt_text/proofs/lemmas/GroupLemmas.antt", "-- ", one)
         said = self.check("lemmas", failed=1)
         self.assertEqual(re.findall(r"^    kt_text: (\w+) in", said, re.MULTILINE), ["spare", "nearer"])
         self.spoil("crates/kt_text/src/logical.rt", "PhysicalLemmas::nul_places", "GroupLemmas::nearer")

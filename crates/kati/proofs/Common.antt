@@ -12,7 +12,8 @@ pub use Rattle.kt_eval.specs.views.reading.Machine.{ComesBefore}
 pub use Rattle.kt_eval.specs.reading.Machine.{first_read, first_world, trace_of}
 pub use Rattle.kt_graph.proofs.lemmas.MemberLemmas.{Contains-from_map, Contains-map, Contains-none}
 pub use Rattle.kt_graph.proofs.lemmas.Membership.{all_pass, each_passes, in_filter, kept_by_filter}
-pub use Rattle.kt_graph.proofs.lemmas.faults.TroubleLemmas.{comes_first, file_trouble, found_nowhere, is_reserved_there, none_below}
+pub use Rattle.kt_graph.proofs.lemmas.faults.TroubleLemmas.{comes_first, file_trouble, is_reserved_there}
+pub use Rattle.kt_graph.proofs.lemmas.nodes.FoundLemmas.{found_nowhere, none_below}
 pub use Rattle.kt_graph.proofs.lemmas.nodes.MadeLemmas.{chosen_is, node_name}
 pub use Rattle.kt_graph.proofs.lemmas.nodes.ReachLemmas.{reached_on}
 pub use Rattle.kt_graph.proofs.lemmas.nodes.WholeLemmas.{Contains-from_filter_map, group_cases, mapped_itself}
@@ -34,13 +35,13 @@ pub use Rattle.kt_ninja.proofs.Growth.{front_after, front_of_more, takes_twice}
 pub use Rattle.kt_ninja.specs.Plan.{names_of, made_by}
 pub use Rattle.kt_ninja.specs.Writable.{HasWritableTexts, is_command_byte, is_empty, is_name, is_writable_making, no_output, not_an_output, repeated}
 pub use Rattle.kt_ninja.specs.views.Writable.{told_obstacle}
-pub use Rattle.kt_ninja_reader.proofs.PrintThenRead.{printed_is_read}
+pub use Rattle.kt_ninja_reader.proofs.lemmas.PrintThenRead.{printed_is_read}
 pub use Rattle.kt_recipe.proofs.GaveLemmas.{gave_both}
 pub use Rattle.kt_rules.specs.Entry.{needs_for}
 pub use Rattle.kt_rules.specs.Names.{is_among, with_name}
 unfoldable pub use Rattle.kt_rules.specs.Names.{after_dots, without_dots, without_repeats}
 pub use Rattle.kt_rules.specs.Suffixes.{all_needs, is_suffix_rule, suffixes_of}
-pub use Rattle.kt_rules.specs.declared.entry.Target.{Target}
+pub use Rattle.kt_rules.specs.declared.line.entry.Target.{Target}
 pub use Rattle.kt_text.specs.Functions.{name_part, with_stem, word_set}
 pub use Rattle.std.proofs.Common.{[], ap, arith, refl, rules, subst, sym}
 pub use Rattle.std.proofs.lemmas.Bool.{and_from, and_parts, eq-eqb, false≢true, leb-true, ltb-false, or_from, or_parts, or_right, true≢false}

@@ -23,7 +23,7 @@ unfoldable pub use Rattle.kt_eval.specs.macros.Macros.{assigning, find, put, wit
 pub use Rattle.kt_eval.specs.reading.Reading.{Page, RawLine, at_line, body_at, largest_file, raw_line, read_included, read_or, read_tab_in, read_without_nul, sheet_of}
 unfoldable pub use Rattle.kt_eval.specs.reading.Reading.{at_number, branch_holds, included, late_else, line_at, read_bare_tab, read_branches, read_bytes, read_define, read_end, read_file, read_first, read_held, read_include, read_items, read_kind, read_line, read_sheet, read_stray, read_tab, read_text}
 unfoldable pub use Rattle.kt_list.specs.Prefixes.{last}
-pub use Rattle.kt_syntax.proofs.Closing.{Closes, after-close, after-open, after-other, closes-close, closes-open, closes-other, count_nil, count_no, count_yes}
+pub use Rattle.kt_syntax.proofs.lemmas.Closing.{Closes, after-close, after-open, after-other, closes-close, closes-open, closes-other, count_nil, count_no, count_yes}
 pub use Rattle.kt_syntax.specs.Blocks.{Branches, Items, branch, conditional, definition, fault, late, line, no_branch, none, tree_of}
 unfoldable pub use Rattle.kt_syntax.specs.Blocks.{levels_from}
 unfoldable pub use Rattle.kt_syntax.specs.Comments.{uncommented, uncommented_of}

@@ -17,11 +17,15 @@ pub use Rattle.kt_graph.specs.declared.nodes.stored.HeldPart.{HeldPart}
 pub use Rattle.kt_graph.specs.declared.search.ends.TargetEnds.{TargetEnds}
 pub use Rattle.kt_graph.specs.declared.search.tried.TriedQuestions.{TriedQuestions}
 pub use Rattle.kt_graph.specs.faults.Paths.{above_name, is_idle, is_reserved, is_rooted, step_up, with_part}
-pub use Rattle.kt_graph.specs.inner.faults.Files.{ends_in_name, AreDistinct, HasFiles, IsByteOrder, held_for, several_in}
+pub use Rattle.kt_graph.specs.inner.faults.Files.{ends_in_name, HasFiles, held_for, several_in}
+pub use Rattle.kt_graph.specs.inner.nodes.Graph.{AreDistinct, IsByteOrder}
 unfoldable pub use Rattle.kt_graph.specs.faults.Paths.{canon_of, components_of}
 pub use Rattle.kt_graph.specs.inner.faults.Arrivals.{AreCounted, IsLeftIn, LeavesCircular, arrivals_at, is_left, next_of_all, next_of_left, with_arrival, without_arrival}
-pub use Rattle.kt_graph.specs.inner.faults.Edges.{AreEdgesOf, AreMadeBelow, AreNeededBelow, AreReversed, HasNext, HaveEdges, HoldsCircular, IsDoneWith, IsEdge, IsFirstBack, IsRepeated, LeadToVertices, LeadsBack, LeadsOn, LeadsTo, Searches, Visits, bare_rows, count_held, edge_row, edge_rows, edges_from, edges_to, holds_in, listed_number, making_edges, makings_edges, needed_numbers, next_of, numbers_after, row_by, rows_held, vertex_count, with_edge, with_edges, work_with}
-pub use Rattle.kt_graph.specs.views.faults.Files.{is_repeated, made_names}
+pub use Rattle.kt_graph.specs.inner.faults.Edges.{AreEdgesOf, AreMadeBelow, AreNeededBelow, AreReversed, HasNext, HaveEdges, HoldsCircular, IsDoneWith, IsEdge, IsFirstBack, IsRepeated, LeadToVertices, LeadsBack, LeadsOn, LeadsTo, Searches, Visits, count_held, edge_row, edge_rows, holds_in, listed_number, making_edges, makings_edges, next_of, numbers_after, row_by, vertex_count, work_with}
+pub use Rattle.kt_graph.specs.inner.nodes.Stored.{needed_numbers}
+pub use Rattle.kt_graph.specs.inner.nodes.Buckets.{bare_rows, edges_from, edges_to, rows_held, with_edge, with_edges}
+pub use Rattle.kt_graph.specs.views.faults.Files.{is_repeated}
+pub use Rattle.kt_graph.specs.views.nodes.Groups.{made_names}
 pub use Rattle.kt_graph.specs.inner.nodes.GraphBuilder.{AllSay, AreOf, AreTold, BuildsNode, HasLastNeeds, IsBegun, IsCut, IsDone, IsLeafOf, IsLikeLast, IsOver, ReachesMore, leaf_stored, sole_node}
 pub use Rattle.kt_graph.specs.inner.nodes.Inputs.{HasOwnInputs, inputs_held, numbers_without, others_held, with_input_number}
 unfoldable pub use Rattle.kt_graph.specs.inner.nodes.Inputs.{differ, rise, rise_after, rise_but_first}
@@ -47,7 +51,7 @@ pub use Rattle.kt_list.proofs.NumberLemmas.{named_at, names_read, numbers_below,
 pub use Rattle.kt_list.proofs.general.Booleans.{and_first, and_nothing, and_second, equal_when, or_first, or_second, or_swap}
 pub use Rattle.kt_list.proofs.general.Elements.{first_or_rest, from_flat_map, in_first, in_flat_map, in_rest, none_in_empty}
 pub use Rattle.kt_list.proofs.general.Places.{at_place, head_is}
-pub use Rattle.kt_rules.proofs.NoteLemmas.{no_two, place_at, same_place}
+pub use Rattle.kt_rules.proofs.lemmas.book.NoteLemmas.{no_two, place_at, same_place}
 pub use Rattle.kt_rules.specs.Book.{is_explicit, is_made, target_rules, is_terminal}
 pub use Rattle.kt_rules.specs.views.Book.{rule_needs}
 unfoldable pub use Rattle.kt_rules.specs.Book.{explicit_rules, first_goal_by, is_phony, patterns_of, recipes_of, refusal_of, rules_of}
@@ -57,8 +61,8 @@ unfoldable pub use Rattle.kt_rules.specs.Names.{after_dots, cut_pieces, cut_plac
 pub use Rattle.kt_rules.specs.Suffixes.{is_suffix_rule}
 unfoldable pub use Rattle.kt_rules.specs.Suffixes.{start_suffixes}
 pub use Rattle.kt_rules.specs.views.Targets.{names_view, needed_view, needs_view}
-pub use Rattle.kt_text.proofs.MatchLemmas.{list_any-place, no_percent_found, pattern_cut, percent_found}
-pub use Rattle.kt_text.proofs.PlaceLemmas.{first_byte_place}
+pub use Rattle.kt_text.proofs.lemmas.MatchLemmas.{list_any-place, no_percent_found, pattern_cut, percent_found}
+pub use Rattle.kt_text.proofs.lemmas.PlaceLemmas.{first_byte_place}
 unfoldable pub use Rattle.kt_text.specs.Match.{has_percent, is_between, is_percent, pattern_back, pattern_front, stem_span}
 unfoldable pub use Rattle.kt_text.specs.Words.{is_blank, is_separator, list_text, words_of}
 pub use Rattle.memchr.specs.Find.{IsFirstByte, is_byte}

@@ -65,7 +65,7 @@ impl<'a> Known<'a> {
     }
 
     // As `contains`, by looking the name up.
-    #[tactic(auto, using(kt_rules::proofs::BookLemmas::among_fold))]
+    #[tactic(auto, using(kt_rules::proofs::lemmas::book::BookLemmas::among_fold))]
     fn has(&self, name: &[u8]) -> bool
         ensures { result ≡ is_among self.now name.now }
     {

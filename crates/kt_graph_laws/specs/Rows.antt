@@ -6,7 +6,7 @@ use Rattle.kt_rules.specs.Suffixes.{all_needs}
 use Rattle.kt_graph.specs.views.search.Search.{questions_after}
 use Rattle.kt_graph.specs.search.Search.{choice_of}
 use Rattle.kt_graph.specs.nodes.Node.{inputs_of, order_only_of}
-use Rattle.kt_rules.specs.declared.entry.Kind.TheVariants.{SingleColon, TerminalPattern}
+use Rattle.kt_rules.specs.declared.line.entry.Kind.TheVariants.{SingleColon, TerminalPattern}
 use Rattle.kt_rules_laws.specs.BookRows.{rule, made, needing, pattern}
 use Rattle.kt_graph.specs.declared.nodes.node.NodeKind.TheVariants as kinds
 use Rattle.kt_graph.specs.Known.{known_names, listed_names}

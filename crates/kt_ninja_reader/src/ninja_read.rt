@@ -87,7 +87,7 @@ fn line_binding(alloc: Global, text: &[u8]) -> Result<Binding<'_>, PartFault>
 }
 
 // Adds a line to a block, and returns whether the block is closed after it.
-#[tactic(auto, using(crate::proofs::ReaderLemmas::blank_adds, crate::proofs::ReaderLemmas::comment_adds))]
+#[tactic(auto, using(crate::proofs::lemmas::ReaderLemmas::blank_adds, crate::proofs::lemmas::ReaderLemmas::comment_adds))]
 fn add_line<'t>(
     alloc: Global,
     closed: bool,
@@ -185,7 +185,7 @@ fn read_margin_line<'t>(
 }
 
 // What stands after the keyword, if the text begins with it.
-#[tactic(auto, using(crate::proofs::Stripping::stripped))]
+#[tactic(auto, using(crate::proofs::lemmas::Stripping::stripped))]
 fn past<'t>(keyword: &[u8], text: &'t [u8]) -> Option<&'t [u8]>
     ensures { MatchOption result (starts_with nat_eq text.now keyword.now ≡ false)
         (λ rest. (starts_with nat_eq text.now keyword.now ≡ true) × (rest.now ≡ drop (length keyword.now) text.now)) }
@@ -317,7 +317,7 @@ fn read_parts<'t>(alloc: Global, parts: &'t [JoinedLine<'t>]) -> Result<State<'t
 }
 
 // All lines of the file.
-#[tactic(auto, using(crate::proofs::ReaderLemmas::none_before))]
+#[tactic(auto, using(crate::proofs::lemmas::ReaderLemmas::none_before))]
 fn read_lines<'t>(alloc: Global, lines: &'t [JoinedLine<'t>]) -> Result<State<'t>, ReadFault>
     ensures { MatchResult result (λ state. read_parts nothing_read (all_parts (cut_lines lines.now))
         ≡ Ok state) (Misreads (read_parts nothing_read (all_parts (cut_lines lines.now)))) }

@@ -195,7 +195,7 @@ impl<'t> PendingStatement<'t> {
     }
 
     // The statement of the plan, by the variables that the file leaves.
-    #[tactic(auto, using(crate::proofs::StateLemmas::statement_told))]
+    #[tactic(auto, using(crate::proofs::lemmas::StateLemmas::statement_told))]
     fn into_statement(self, alloc: Global, file: &Scope) -> Result<Statement, AllocError>
         ensures { IfOk result (λ s. s ≡ statement_of_pending file.now self.entry) }
     {
@@ -255,7 +255,7 @@ impl<'t> PendingStatements<'t> {
         }
     }
 
-    #[tactic(auto, using(crate::proofs::ReaderLemmas::told_more))]
+    #[tactic(auto, using(crate::proofs::lemmas::ReaderLemmas::told_more))]
     pub(crate) fn push(
         &mut self,
         alloc: Global,

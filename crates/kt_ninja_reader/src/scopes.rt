@@ -120,7 +120,7 @@ fn value_in<'a>(scope: &'a Scope, name: &[u8]) -> &'a [u8]
 }
 
 /// What a spelling stands for.
-#[tactic(auto, using(crate::proofs::ScopeLemmas::expanded_run))]
+#[tactic(auto, using(crate::proofs::lemmas::ScopeLemmas::expanded_run))]
 pub(crate) fn expanded(
     alloc: Global,
     spelling: &Spelling,
@@ -263,7 +263,7 @@ impl<'a> CommandScopes<'a> {
 }
 
 /// The command line that a rule's command is for a statement.
-#[tactic(auto, using(crate::proofs::ScopeLemmas::expanded_run))]
+#[tactic(auto, using(crate::proofs::lemmas::ScopeLemmas::expanded_run))]
 pub(crate) fn command_line(
     alloc: Global,
     command: &Spelling,

@@ -33,7 +33,7 @@ pub use Rattle.kt_syntax.specs.Terms.{Continuations, Term, dollar, dropped, lite
 pub use Rattle.kt_syntax.specs.views.Terms.{token_of}
 unfoldable pub use Rattle.kt_syntax.specs.Terms.{after_dollar, closing, first_term, terms_after, terms_of}
 pub use Rattle.kt_syntax.specs.declared.term.Mark.TheVariants.{Braces, Byte, Parentheses}
-pub use Rattle.kt_text.proofs.ListLemmas.{put_words}
+pub use Rattle.kt_text.proofs.lemmas.ListLemmas.{put_words}
 unfoldable pub use Rattle.kt_text.specs.TextFunctions.{text_function}
 unfoldable pub use Rattle.kt_text.specs.Words.{is_blank, is_separator, list_text, words_of}
 pub use Rattle.std.proofs.Common.{None, [], ap, append_assoc, length, refl, rules, subst, sym, tests, unwrap_or}

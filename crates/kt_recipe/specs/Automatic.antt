@@ -1,7 +1,7 @@
 -- The automatic macros of a recipe (POSIX.1-2024 make, "Internal Macros"; GNU make manual, "Automatic Variables").
 use Rattle.std.specs.Prelude.{ℕ, Bool, true, false, not, List, [], ◌∷◌, map, flat_map, filter, take, slice_get, codes}
 use Rattle.kt_text.specs.Words.{Text, is_nonempty}
-use Rattle.kt_rules.specs.declared.entry.Needs.{Needs}
+use Rattle.kt_rules.specs.declared.line.entry.Needs.{Needs}
 use Rattle.kt_rules.specs.Names.{is_among, without_repeats}
 use Rattle.kt_eval.specs.files.Files.{Store}
 use Rattle.kt_graph.specs.nodes.Node.{Node, part_needed, part_order_only, part_stem}

@@ -58,7 +58,7 @@ fn whole(alloc: Global, names: &[&[u8]]) -> Result<Vec<u8>, AllocError>
     Ok(text)
 }
 
-#[tactic(auto, using(kt_text::proofs::ListLemmas::put_words_is))]
+#[tactic(auto, using(kt_text::proofs::lemmas::ListLemmas::put_words_is))]
 fn directories(alloc: Global, names: &[&[u8]]) -> Result<Vec<u8>, AllocError>
     ensures { IfOk result (λ text. text.items ≡ list_text (map directory_of (map (λ name. name.now) names.now))) }
 {
@@ -69,7 +69,7 @@ fn directories(alloc: Global, names: &[&[u8]]) -> Result<Vec<u8>, AllocError>
     Ok(text)
 }
 
-#[tactic(auto, using(kt_text::proofs::ListLemmas::put_words_is))]
+#[tactic(auto, using(kt_text::proofs::lemmas::ListLemmas::put_words_is))]
 fn files(alloc: Global, names: &[&[u8]]) -> Result<Vec<u8>, AllocError>
     ensures { IfOk result (λ text. text.items ≡ list_text (map name_part (map (λ name. name.now) names.now))) }
 {
@@ -111,7 +111,7 @@ fn file(name: &[u8]) -> &[u8]
 }
 
 // Where the part after the last slash begins.
-#[tactic(auto, using(kt_text::proofs::NameLemmas::name_places))]
+#[tactic(auto, using(kt_text::proofs::lemmas::NameLemmas::name_places))]
 fn name_place(name: &[u8]) -> usize
     ensures value { result ≡ name_place name.now }
     ensures bound { result ≤ length name.now }

@@ -5,7 +5,7 @@ use Rattle.std.specs.List.{All, join_by, range_with_len}
 use Rattle.kt_recipe.specs.Prelude.{Text, Store, Macros, Node, part_lines, automatic_in}
 use Rattle.kt_text.specs.Words.{is_nonempty}
 use Rattle.kt_eval.specs.Outcome.{Gave}
-use Rattle.kt_rules.specs.declared.entry.RecipeLine.{RecipeLine}
+use Rattle.kt_rules.specs.declared.line.entry.RecipeLine.{RecipeLine}
 use Rattle.kt_recipe.specs.Lines.{after_run, ignores_failure, pieces_of_line}
 use Rattle.kt_recipe.specs.Shell.{Setting, expansion, setting_of, shell_of, shell_text, wrapped}
 

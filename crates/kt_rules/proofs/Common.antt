@@ -25,8 +25,8 @@ pub use Rattle.kt_rules.specs.Suffixes.{all_needs, has_no_names, is_bare, is_cut
 unfoldable pub use Rattle.kt_rules.specs.Suffixes.{start_suffixes}
 pub use Rattle.kt_rules.specs.declared.book.book_names.Marks.{Marks}
 pub use Rattle.kt_rules.specs.declared.book.kinds.Kinds.{Kinds}
-pub use Rattle.kt_rules.specs.declared.cutting.Cut.TheVariants.{Colon, Separator}
-pub use Rattle.kt_rules.specs.declared.entry.RecipeLine.{RecipeLine}
+pub use Rattle.kt_rules.specs.declared.line.cutting.Cut.TheVariants.{Colon, Separator}
+pub use Rattle.kt_rules.specs.declared.line.entry.RecipeLine.{RecipeLine}
 pub use Rattle.kt_rules.specs.declared.fault.RuleFault.{RuleFault}
 pub use Rattle.kt_rules.specs.declared.fault.RuleFault.TheVariants.{Memory, Refused}
 pub use Rattle.kt_rules.specs.inner.Dictionary.{GrowsDictionary, IsListOf, IsNumberOf}
@@ -35,8 +35,8 @@ pub use Rattle.kt_rules.specs.inner.SuffixCuts.{HaveLengths, KeepLengths, earlie
 unfoldable pub use Rattle.kt_rules.specs.inner.SuffixCuts.{cut_after, end_of_length, first_cut, first_end, lengths_with}
 pub use Rattle.kt_list.proofs.general.Results.{on_err}
 pub use Rattle.kt_list.specs.views.Names.{AreNumbersOf, name_at, names_at}
-pub use Rattle.kt_text.proofs.MatchLemmas.{list_any-place}
-pub use Rattle.kt_text.proofs.PlaceLemmas.{differ_turned, drop-prefix_len, first_byte_place, occurs_found}
+pub use Rattle.kt_text.proofs.lemmas.MatchLemmas.{list_any-place}
+pub use Rattle.kt_text.proofs.lemmas.PlaceLemmas.{differ_turned, drop-prefix_len, first_byte_place, occurs_found}
 pub use Rattle.kt_text.specs.Functions.{quotes_percent, with_stem}
 unfoldable pub use Rattle.kt_text.specs.Match.{has_percent, is_between, is_percent, pattern_back, pattern_front, stem_span}
 pub use Rattle.kt_text.specs.Words.{stripped_start}

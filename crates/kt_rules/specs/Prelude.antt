@@ -3,10 +3,10 @@
 pub use Rattle.kt_list.specs.Names.{is_among}
 pub use Rattle.kt_rules.specs.Entry.{Entry, needs_for}
 pub use Rattle.kt_rules.specs.Names.{with_name}
-pub use Rattle.kt_rules.specs.declared.entry.Kind.{Kind}
-pub use Rattle.kt_rules.specs.declared.entry.Kind.TheVariants.{DoubleColon, Group, Pattern, SingleColon, TerminalPattern}
-pub use Rattle.kt_rules.specs.declared.entry.Needs.{Needs}
-pub use Rattle.kt_rules.specs.declared.entry.Target.{Target}
+pub use Rattle.kt_rules.specs.declared.line.entry.Kind.{Kind}
+pub use Rattle.kt_rules.specs.declared.line.entry.Kind.TheVariants.{DoubleColon, Group, Pattern, SingleColon, TerminalPattern}
+pub use Rattle.kt_rules.specs.declared.line.entry.Needs.{Needs}
+pub use Rattle.kt_rules.specs.declared.line.entry.Target.{Target}
 pub use Rattle.kt_rules.specs.declared.place.Place.{Place}
 pub use Rattle.kt_text.specs.Words.{Text, words_of}
 pub use Rattle.std.specs.List.{list_any, range_with_len}

@@ -9,13 +9,13 @@ use Rattle.std.specs.Option.{option_or}
 use Rattle.std.specs.Cmp.Lexicographic.{pointwise}
 use Rattle.kt_text.specs.Words.{Text}
 use Rattle.kt_text.specs.Match.{has_percent, stem_span}
-use Rattle.kt_rules.specs.declared.head.Separator.{Separator}
-use Rattle.kt_rules.specs.declared.head.Separator.TheVariants.{Single, Double, Grouped}
-use Rattle.kt_rules.specs.declared.line.HeadNames.{HeadNames}
-use Rattle.kt_rules.specs.declared.entry.Needs.{Needs}
+use Rattle.kt_rules.specs.declared.line.head.Separator.{Separator}
+use Rattle.kt_rules.specs.declared.line.head.Separator.TheVariants.{Single, Double, Grouped}
+use Rattle.kt_rules.specs.declared.line.head_names.HeadNames.{HeadNames}
+use Rattle.kt_rules.specs.declared.line.entry.Needs.{Needs}
 use Rattle.kt_rules.specs.Refusals.{Refusal, missing_separator, refused_name, bad_static_pattern, refused_target}
 use Rattle.kt_rules.specs.Refusals.{bad_group}
-use Rattle.kt_rules.specs.declared.cutting.Cut.TheVariants.{Colon}
+use Rattle.kt_rules.specs.declared.line.cutting.Cut.TheVariants.{Colon}
 use Rattle.kt_rules.specs.Names.{cut_place, written_words, without_outer_separators, name_of, without_repeats, is_among}
 use Rattle.kt_rules.specs.Names.{is_refused_name, is_without_effect, is_special, is_refused_target, wait_name}
 

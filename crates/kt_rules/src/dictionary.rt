@@ -7,7 +7,7 @@ ghost use Rattle.kt_list.specs.views.Prefixes.{HasMore};
 ghost use Rattle.kt_rules.specs.views.Targets.{text_in};
 ghost use Rattle.kt_rules.specs.inner.Dictionary.{GrowsDictionary, IsListOf};
 
-use crate::entry::Name;
+use crate::line::entry::Name;
 use kt_list::{Lists, Names, narrow};
 use std::alloc::{AllocError, Global};
 use std::marker::Model;
@@ -83,7 +83,7 @@ impl Dictionary {
     }
 
     /// Whether a name has this number, told without hashing.
-    #[tactic(auto, using(crate::proofs::NoteLemmas::place_at))]
+    #[tactic(auto, using(crate::proofs::lemmas::book::NoteLemmas::place_at))]
     pub(crate) fn has_number(&self, name: &[u8], number: usize) -> bool
         ensures quick { IsTrue result → place_of self.now.0 name.now ≡ Some number }
     {

@@ -3,7 +3,7 @@ ghost use Rattle.std.specs.Prelude.{◌≡◌, ◌++◌, ◌∷◌, [], OnErr, O
 ghost use Rattle.kt_text.specs.Words.{Text};
 ghost use Rattle.kt_rules.specs.views.Indexes.{noted_at};
 
-use crate::entry::Name;
+use crate::line::entry::Name;
 use indexmap::IndexMap;
 use kt_list::Key;
 use std::alloc::{AllocError, Global};

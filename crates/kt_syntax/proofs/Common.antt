@@ -22,8 +22,8 @@ pub use Rattle.kt_syntax.specs.declared.part.OpenConditional.{OpenConditional}
 pub use Rattle.kt_syntax.specs.declared.part.OpenDefine.{OpenDefine}
 pub use Rattle.kt_syntax.specs.declared.recipe.Joint.{Joint}
 pub use Rattle.kt_syntax.specs.declared.term.Mark.TheVariants.{Braces, Byte, Parentheses}
-pub use Rattle.kt_text.proofs.CondensedLemmas.{condensed_alone, one_piece, without_newline}
-pub use Rattle.kt_text.proofs.PlaceLemmas.{differ_turned, drop-prefix_len, first_byte_place}
+pub use Rattle.kt_text.proofs.lemmas.CondensedLemmas.{condensed_alone, one_piece, without_newline}
+pub use Rattle.kt_text.proofs.lemmas.PlaceLemmas.{differ_turned, drop-prefix_len, first_byte_place}
 pub use Rattle.kt_text.specs.Lines.{before_backslash, newline_after}
 unfoldable pub use Rattle.kt_text.specs.Lines.{condensed_group, condensed_line, condensed_of, condensed_rest, groups, is_continued, is_ended, newline_pieces}
 unfoldable pub use Rattle.kt_text.specs.Words.{is_blank}

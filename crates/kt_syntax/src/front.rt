@@ -15,7 +15,7 @@ use crate::leading::is_apart;
 use kt_text::trim_start;
 
 // The kind of a line; `None` where it takes a look at the whole line.
-#[tactic(auto, using(crate::proofs::LeadingForms::form_assigned, std::proofs::lemmas::List::take_rest))]
+#[tactic(auto, using(crate::proofs::lemmas::LeadingForms::form_assigned, std::proofs::lemmas::List::take_rest))]
 pub(crate) fn leading_form(text: &[u8], tab: bool) -> Option<Form<'_>>
     ensures quick { IfSome result (λ form. line_form_view form ≡ form_of text.now tab) }
 {
@@ -34,7 +34,7 @@ pub(crate) fn leading_form(text: &[u8], tab: bool) -> Option<Form<'_>>
 }
 
 // As `leading_form`, by the first word and what comes after it, where that begins with no operator behind its blanks.
-#[tactic(auto, using(crate::proofs::LeadingForms::form_colon))]
+#[tactic(auto, using(crate::proofs::lemmas::LeadingForms::form_colon))]
 fn unassigning_form<'a>(
     tab: bool,
     word: &'a [u8],

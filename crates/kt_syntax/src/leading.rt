@@ -9,7 +9,7 @@ use crate::form::Directive;
 use kt_text::{is_blank, trim_start};
 
 // The directive of a line that has no tab, and the text after it; `None` where that takes a look at the whole line.
-#[tactic(auto, using(crate::proofs::LeadingWords::leading_kind))]
+#[tactic(auto, using(crate::proofs::lemmas::LeadingWords::leading_kind))]
 pub(crate) fn leading_directive(text: &[u8]) -> Option<(Directive, &[u8])>
     ensures quick { IfSome result (λ found. directive found.0 found.1.now ≡ form_of text.now false) }
 {
@@ -23,7 +23,7 @@ pub(crate) fn leading_directive(text: &[u8]) -> Option<(Directive, &[u8])>
 
 // The word of blocks that a text begins with, if a blank or nothing comes after it; `None` where that takes a look at
 // the whole text, too.
-#[tactic(auto, using(crate::proofs::LeadingWords::leading_first))]
+#[tactic(auto, using(crate::proofs::lemmas::LeadingWords::leading_first))]
 pub(crate) fn leading_block_word(text: &[u8]) -> Option<Directive>
     ensures quick { IfSome result (λ word. block_word (first_word text.now) ≡ Some word) }
 {

@@ -33,7 +33,7 @@ impl<'a> Model for LineText<'a> {
 
 impl<'a> LineText<'a> {
     /// A line with its text.
-    #[tactic(auto, using(kt_text::proofs::CondensedLemmas::without_newline))]
+    #[tactic(auto, using(kt_text::proofs::lemmas::CondensedLemmas::without_newline))]
     pub fn new(alloc: Global, line: &'a [u8]) -> Result<LineText<'a>, AllocError>
         ensures { IfOk result (λ l. l ≡ line.now) }
     {

@@ -43,7 +43,7 @@ fn marks_of(alloc: Global, lines: &[Line]) -> Result<Vec<LineMark>, AllocError>
 }
 
 /// As `blocks`, by the marks of these lines, as `line_marks` gives them.
-#[tactic(auto, using(crate::proofs::Sound::tree_is_of, crate::proofs::WholeTree::whole_tree_is_left))]
+#[tactic(auto, using(crate::proofs::lemmas::Sound::tree_is_of, crate::proofs::lemmas::WholeTree::whole_tree_is_left))]
 pub fn marked_blocks(alloc: Global, text: &[u8], lines: &[LineMark]) -> Result<Blocks, AllocError>
     requires { AreInOrder (length text.now) lines.now }
     ensures flat { IfOk result (λ blocks. blocks ≡ blocks_of (heads_of text.now lines.now)) }
@@ -97,7 +97,7 @@ fn next_part(
 }
 
 // The steps of lines with these parts, found from the last line to the first.
-#[tactic(auto, using(crate::proofs::StepListLemmas::ordinary_before))]
+#[tactic(auto, using(crate::proofs::lemmas::StepListLemmas::ordinary_before))]
 fn steps(alloc: Global, mut parts: Vec<BlockPart>) -> Result<StepList, AllocError>
     ensures { IfOk result (λ steps. steps ≡ steps_from 0 parts.items) }
 {

@@ -14,7 +14,7 @@ use kt_text::is_blank;
 use memchr::memchr;
 
 // The first place from a place on where no blank stands, or the end; `None` where that takes a look at symbols.
-#[tactic(auto, using(crate::proofs::OwnRuns::blanks_passed))]
+#[tactic(auto, using(crate::proofs::lemmas::OwnRuns::blanks_passed))]
 pub(crate) fn past_own_blanks(text: &[u8], from: usize, end: usize) -> Option<usize>
     requires order { from ≤ end }
     requires within { end ≤ length text.now }
@@ -33,7 +33,7 @@ pub(crate) fn past_own_blanks(text: &[u8], from: usize, end: usize) -> Option<us
 }
 
 // The first place from a place on where a blank stands, or the end; `None` where that takes a look at symbols.
-#[tactic(auto, using(crate::proofs::OwnRuns::word_passed))]
+#[tactic(auto, using(crate::proofs::lemmas::OwnRuns::word_passed))]
 pub(crate) fn past_own_word(text: &[u8], from: usize, end: usize) -> Option<usize>
     requires order { from ≤ end }
     requires within { end ≤ length text.now }
@@ -52,7 +52,7 @@ pub(crate) fn past_own_word(text: &[u8], from: usize, end: usize) -> Option<usiz
 }
 
 // A place in the name of an assignment up to which nothing can end it.
-#[tactic(auto, using(crate::proofs::OwnRuns::name_passed, crate::proofs::OwnRuns::name_passed))]
+#[tactic(auto, using(crate::proofs::lemmas::OwnRuns::name_passed, crate::proofs::lemmas::OwnRuns::name_passed))]
 pub(crate) fn past_own_name(text: &[u8], begin: usize, end: usize) -> usize
     requires order { begin ≤ end }
     requires within { end ≤ length text.now }
@@ -83,7 +83,7 @@ pub(crate) fn own_place(text: &[u8], byte: u8, end: usize) -> Option<usize>
 }
 
 // Where the comment of a line begins, or the line's end; `None` where that takes a look at symbols.
-#[tactic(auto, using(crate::proofs::OwnPlaces::sign_found, crate::proofs::OwnPlaces::sign_kept))]
+#[tactic(auto, using(crate::proofs::lemmas::OwnPlaces::sign_found, crate::proofs::lemmas::OwnPlaces::sign_kept))]
 pub(crate) fn own_sign_place(text: &[u8]) -> Option<usize>
     ensures quick_value { IfSome result (λ place. place ≡ comment_place text.now) }
     ensures quick_kept { IfSome result (λ place. take place text.now ≡ uncommented_of text.now) }
@@ -97,7 +97,7 @@ pub(crate) fn own_sign_place(text: &[u8]) -> Option<usize>
 }
 
 // The first place where a byte stands, or the text's end.
-#[tactic(auto, using(kt_text::proofs::PlaceLemmas::first_byte_place))]
+#[tactic(auto, using(kt_text::proofs::lemmas::PlaceLemmas::first_byte_place))]
 fn first_place(byte: u8, text: &[u8]) -> usize
     ensures value { result ≡ position_or_len (λ other. other == byte) text.now }
     ensures bound { result ≤ length text.now }

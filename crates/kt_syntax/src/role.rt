@@ -89,7 +89,7 @@ fn line_role(alloc: Global, line: &[u8]) -> Result<Role, AllocError>
 }
 
 // The role of a text that begins with no tab. Behind its blanks it begins as the whole line has to.
-#[tactic(auto, using(crate::proofs::RoleLemmas::text_role))]
+#[tactic(auto, using(crate::proofs::lemmas::RoleLemmas::text_role))]
 fn role_of(text: &[u8]) -> Role
     ensures { result ≡ role_of (form_of text.now false) }
 {
@@ -143,7 +143,7 @@ fn role_by_word(word: Directive, rest: &[u8]) -> Role
 }
 
 // Whether the text after an `else` is that of a condition, by its first word alone.
-#[tactic(auto, using(crate::proofs::LeadingWords::nothing_starts), unfolding(crate::specs::Roles::starts_condition))]
+#[tactic(auto, using(crate::proofs::lemmas::LeadingWords::nothing_starts), unfolding(crate::specs::Roles::starts_condition))]
 fn starts_condition(rest: &[u8]) -> bool
     ensures { result ≡ starts_condition rest.now }
 {

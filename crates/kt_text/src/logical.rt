@@ -48,7 +48,7 @@ pub fn line_marks(alloc: Global, text: &[u8]) -> Result<Vec<LineMark>, LineFault
 }
 
 /// The number of the physical line with the first NUL, from 1, if there is one.
-#[tactic(auto, using(crate::proofs::PhysicalLemmas::nul_places), unfolding(crate::specs::Lines::nul_line))]
+#[tactic(auto, using(crate::proofs::lemmas::PhysicalLemmas::nul_places), unfolding(crate::specs::Lines::nul_line))]
 pub fn nul_line(text: &[u8]) -> Option<u64>
     ensures { result ≡ nul_line text.now }
 {

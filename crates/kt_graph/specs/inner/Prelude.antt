@@ -11,9 +11,9 @@ pub use Rattle.kt_list.specs.views.Prefixes.{HasMore}
 pub use Rattle.kt_rules.specs.Book.{has_recipe, is_double, patterns_of}
 pub use Rattle.kt_rules.specs.Entry.{needs_for}
 pub use Rattle.kt_rules.specs.Suffixes.{all_needs, suffixes_of}
-pub use Rattle.kt_rules.specs.declared.entry.Needs.{Needs}
-pub use Rattle.kt_rules.specs.declared.entry.RecipeLine.{RecipeLine}
-pub use Rattle.kt_rules.specs.declared.entry.Target.{Target}
+pub use Rattle.kt_rules.specs.declared.line.entry.Needs.{Needs}
+pub use Rattle.kt_rules.specs.declared.line.entry.RecipeLine.{RecipeLine}
+pub use Rattle.kt_rules.specs.declared.line.entry.Target.{Target}
 pub use Rattle.kt_rules.specs.views.Book.{AreMadeAlike}
 pub use Rattle.kt_rules.specs.views.Targets.{rule_view}
 pub use Rattle.std.specs.List.{AllZip, IsDistinct, after_last, before_last, count_by, list_all, range_with_len, slice_range}

@@ -5,9 +5,9 @@ use Rattle.std.specs.Prelude.{flat_map, find, take, Option, Some, None, option_m
 use Rattle.std.specs.List.{list_any, before_last, after_last, last_or, ends_with}
 use Rattle.std.specs.Option.{option_map_or, option_and_then}
 use Rattle.kt_text.specs.Words.{Text}
-use Rattle.kt_rules.specs.declared.entry.Needs.{Needs}
-use Rattle.kt_rules.specs.declared.entry.RecipeLine.{RecipeLine}
-use Rattle.kt_rules.specs.declared.entry.Target.{Target}
+use Rattle.kt_rules.specs.declared.line.entry.Needs.{Needs}
+use Rattle.kt_rules.specs.declared.line.entry.RecipeLine.{RecipeLine}
+use Rattle.kt_rules.specs.declared.line.entry.Target.{Target}
 use Rattle.kt_rules.specs.Names.{is_among, without_repeats}
 use Rattle.kt_rules.specs.Entry.{Entry, needs_for}
 use Rattle.kt_rules.specs.Suffixes.{suffixes_of}

@@ -4,11 +4,13 @@
 ghost use Rattle.std.specs.Prelude.{◌≡◌, ◌++◌, [], IfOk, OnOk, true};
 ghost use Rattle.kt_graph.specs.inner.faults.Edges.{AddsNode, AreEdgesOf, AreMadeBelow, AreNeededBelow, AreReversed};
 ghost use Rattle.kt_graph.specs.inner.faults.Edges.{HaveEdges, IsRepeated, LeadToVertices, making_edges, vertex_count};
-ghost use Rattle.kt_graph.specs.inner.faults.Edges.{edge_row, listed_number, needed_numbers, next_of, numbers_after};
-ghost use Rattle.kt_graph.specs.inner.faults.Edges.{rows_held, makings_edges, with_edges};
+ghost use Rattle.kt_graph.specs.inner.faults.Edges.{edge_row, listed_number, next_of, numbers_after};
+ghost use Rattle.kt_graph.specs.inner.nodes.Stored.{needed_numbers};
+ghost use Rattle.kt_graph.specs.inner.faults.Edges.{makings_edges};
+ghost use Rattle.kt_graph.specs.inner.nodes.Buckets.{rows_held, with_edges};
 ghost use Rattle.kt_graph.specs.inner.nodes.Stored.{stored_at};
 
-use crate::faults::rows::{add_all, add_to, bare, row_at};
+use crate::nodes::buckets::{add_all, add_to, bare, row_at};
 use crate::nodes::stored::StoredNodes;
 use kt_list::{narrow, narrow_sum};
 use std::alloc::{AllocError, Global};

@@ -6,7 +6,8 @@ ghost use Rattle.std.specs.Prelude.{not, option_map, unwrap_or, IfOk, OnOk, ifâ—
 ghost use Rattle.std.specs.List.{list_any};
 ghost use Rattle.kt_text.specs.Words.{Text};
 ghost use Rattle.kt_graph.specs.inner.faults.Files.{HasFiles, held_for};
-ghost use Rattle.kt_graph.specs.views.faults.Files.{is_repeated, made_names};
+ghost use Rattle.kt_graph.specs.views.faults.Files.{is_repeated};
+ghost use Rattle.kt_graph.specs.views.nodes.Groups.{made_names};
 ghost use Rattle.kt_graph.specs.nodes.Node.{is_leaf};
 ghost use Rattle.kt_graph.specs.faults.Paths.{canon_of, is_reserved};
 

@@ -8,7 +8,7 @@ ghost use Rattle.std.specs.Prelude.{false, IfOk, IsTrue, OnOk};
 ghost use Rattle.kt_text.specs.Words.{Text};
 ghost use Rattle.kt_rules.specs.Book.{explicit_rules, is_phony};
 ghost use Rattle.kt_rules.specs.Entry.{Entry, needs_for};
-ghost use Rattle.kt_rules.specs.declared.entry.Target.{Target as HeldTarget};
+ghost use Rattle.kt_rules.specs.declared.line.entry.Target.{Target as HeldTarget};
 ghost use Rattle.kt_rules.specs.Names.{with_name};
 ghost use Rattle.kt_rules.specs.views.Targets.{rule_view};
 ghost use Rattle.kt_rules.specs.Suffixes.{suffixes_of};

@@ -1,7 +1,7 @@
 //! Groups the nodes of each making.
 ghost use Rattle.std.specs.Prelude.{◌≡◌, ◌∷◌, ◌++◌, ◌&&◌, [], false, true, if◌then◌else◌, not, IfOk, OnOk};
 ghost use Rattle.std.specs.List.{prefix_len};
-ghost use Rattle.kt_graph.specs.inner.faults.Edges.{rows_held};
+ghost use Rattle.kt_graph.specs.inner.nodes.Buckets.{rows_held};
 ghost use Rattle.kt_graph.specs.inner.nodes.Grouping.{AreAllAlike, HasMembers, is_first, is_made_at, leads_at};
 ghost use Rattle.kt_graph.specs.inner.nodes.Grouping.{leads_by, making_at, members_of, with_member};
 ghost use Rattle.kt_graph.specs.views.nodes.Groups.{FirstSharesInputs};
@@ -9,7 +9,7 @@ ghost use Rattle.kt_graph.specs.nodes.Groups.{groups_of};
 ghost use Rattle.kt_graph.specs.inner.nodes.NodeTable.{nodes_view};
 ghost use Rattle.kt_graph.specs.inner.nodes.Graph.{IsWhole};
 
-use crate::faults::rows::{add, bare, row_at};
+use crate::nodes::buckets::{add, bare, row_at};
 use crate::nodes::node::{Node, NodeKind};
 use crate::nodes::node_table::NodeTable;
 use crate::nodes::stored::StoredNodes;
@@ -35,7 +35,7 @@ impl<'g> Model for Groups<'g> {
 
     ghost Value = { List (List Node) };
 
-    ghost use Rattle.kt_graph.specs.inner.faults.Edges.{rows_held};
+    ghost use Rattle.kt_graph.specs.inner.nodes.Buckets.{rows_held};
     ghost use Rattle.kt_graph.specs.inner.nodes.Grouping.{groups_left};
 
     ghost view = { λ groups. groups_left groups.table.now (rows_held groups.members.items) groups.numbers.now };

@@ -307,7 +307,7 @@ fn note(tables: &Tables<'_>, others: &mut Names, name: &[u8]) -> Result<usize, A
     }
 }
 
-#[tactic(auto, using(kt_rules::proofs::NoteLemmas::place_at))]
+#[tactic(auto, using(kt_rules::proofs::lemmas::book::NoteLemmas::place_at))]
 fn note_after(tables: &Tables<'_>, others: &mut Names, name: &[u8]) -> Result<usize, AllocError>
     ensures noted { IfOk result (λ number. option_map (λ place. length tables.now + place)
         (place_of others.new name.now) ≡ Some number) }

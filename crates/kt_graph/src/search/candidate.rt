@@ -88,7 +88,7 @@ pub(crate) fn has_slash(text: &[u8]) -> bool
 }
 
 // The number of bytes of a name up to its last slash and with it.
-#[tactic(auto, using(kt_text::proofs::NameLemmas::name_places))]
+#[tactic(auto, using(kt_text::proofs::lemmas::NameLemmas::name_places))]
 fn directory_len(name: &[u8]) -> usize
     ensures value { result ≡ name_place name.now }
     ensures bound { result ≤ length name.now }

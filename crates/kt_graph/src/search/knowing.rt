@@ -10,8 +10,9 @@ ghost use Rattle.kt_graph.specs.inner.search.Ends.{IsFixedEnd};
 use crate::known::Known;
 use crate::search::candidate::has_slash;
 use crate::search::ends::end_of;
-use crate::search::stemming::{Stemming, holds_percent};
+use crate::search::stemming::Stemming;
 use kt_rules::{Name, Needs};
+use kt_text::has_percent;
 use std::alloc::{AllocError, Global};
 
 /// Whether all of them are known. Stops at the first that isn't.
@@ -63,7 +64,7 @@ fn knows(
     if !may_be_known(known, name) {
         return Ok(false);
     }
-    if !holds_percent(name) {
+    if !has_percent(name) {
         return Ok(known.contains(name));
     }
     let needed = stemming.name(alloc, name)?;

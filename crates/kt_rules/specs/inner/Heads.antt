@@ -1,6 +1,6 @@
 -- Heads and refusals of the code as those of the definitions (kati's own).
 use Rattle.std.specs.Prelude.{Option, option_map, Result, Ok, Err}
-use Rattle.kt_rules.specs.declared.head.Head.{Head as HeadTold}
+use Rattle.kt_rules.specs.declared.line.head.Head.{Head as HeadTold}
 use Rattle.kt_rules.specs.declared.refusal.Refusal.{Refusal as RefusalTold}
 use Rattle.kt_rules.specs.Refusals.{Refusal}
 use Rattle.kt_rules.specs.inner.Refusals.{refusal_view}

@@ -10,7 +10,7 @@ use Rattle.kt_rules.specs.declared.book.row.NeedsNumbers.{NeedsNumbers}
 use Rattle.kt_rules.specs.declared.book.row.Row.{Row}
 use Rattle.kt_rules.specs.declared.book.row.RuleNumbers.{RuleNumbers}
 use Rattle.kt_rules.specs.declared.book.rules.LastNeeds.{LastNeeds}
-use Rattle.kt_rules.specs.declared.entry.RecipeLine.{RecipeLine}
+use Rattle.kt_rules.specs.declared.line.entry.RecipeLine.{RecipeLine}
 use Rattle.kt_rules.specs.inner.Slots.{IsKept}
 use Rattle.kt_list.specs.views.Names.{name_at, names_at}
 use Rattle.kt_rules.specs.views.Targets.{line_needs, text_in}

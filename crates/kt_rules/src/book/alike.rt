@@ -10,7 +10,7 @@ use super::spot::Spot;
 use super::target_rule::{TargetRule, is_bare, rule_at};
 
 /// Whether the explicit rules at spots need the same as those at others, told by the places of the rules.
-#[tactic(auto, using(crate::proofs::AlikeLemmas::alike_none))]
+#[tactic(auto, using(crate::proofs::lemmas::book::AlikeLemmas::alike_none))]
 pub(crate) fn need_same(rules: &Rules, spots: &[Spot], others: &[Spot]) -> bool
     ensures quick { IsTrue result → NeedSame rules.now.1 spots.now others.now }
 {

@@ -60,7 +60,7 @@ impl<'a> Model for BookNames<'a> {
 }
 
 impl<'a> BookNames<'a> {
-    #[tactic(auto, using(crate::proofs::MarkLemmas::marked_start))]
+    #[tactic(auto, using(crate::proofs::lemmas::book::MarkLemmas::marked_start))]
     pub(crate) fn of(
         alloc: Global,
         rules: &'a Rules,
@@ -248,7 +248,7 @@ impl Marks {
         Ok(())
     }
 
-    #[tactic(auto, using(std::proofs::lemmas::Result::on_ok_weaker, crate::proofs::MarkLemmas::other_marked))]
+    #[tactic(auto, using(std::proofs::lemmas::Result::on_ok_weaker, crate::proofs::lemmas::book::MarkLemmas::other_marked))]
     fn mark_name(&mut self, names: &Names, name: &[u8]) -> Result<(), AllocError>
         requires { length self.old.numbers.items ≡ length names.now }
         ensures marked { OnOk result ((other : Text) → is_marked names.now self.new other

@@ -5,7 +5,7 @@ ghost use Rattle.kt_rules.specs.views.Targets.{entry_view, line_needs, listed_ne
 ghost use Rattle.kt_rules.specs.views.Targets.{targets_view};
 ghost use Rattle.kt_rules.specs.inner.Held.{numbered_target};
 
-use crate::entry::{Kind, RecipeLine};
+use crate::line::entry::{Kind, RecipeLine};
 use crate::listed::{AnyNames, ListedNeeds, NumberedNames};
 use crate::needs::{NeedsView, shared_needs};
 use crate::place::Place;

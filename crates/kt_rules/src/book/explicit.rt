@@ -26,7 +26,7 @@ pub struct Explicit<'a> {
 impl<'a> Model for Explicit<'a> {
     ghost use Rattle.std.specs.Prelude.{List};
     ghost use Rattle.kt_rules.specs.Entry.{Entry};
-    ghost use Rattle.kt_rules.specs.declared.entry.Target.{Target};
+    ghost use Rattle.kt_rules.specs.declared.line.entry.Target.{Target};
 
     ghost Value = { List (Entry × Target) };
 

@@ -15,7 +15,7 @@ use super::rules::Rules;
 use super::suffixes::Suffixes;
 use super::target_rule::{TargetRule, is_bare, is_made, is_pattern, may_be_bare};
 use crate::copying::{copied_needs, copied_targets};
-use crate::entry::{Kind, Name, Needs, Target};
+use crate::line::entry::{Kind, Name, Needs, Target};
 use kt_list::Sequence;
 use std::alloc::{AllocError, Global};
 
@@ -166,7 +166,7 @@ fn with_percent(alloc: Global, suffix: &[u8]) -> Result<Vec<u8>, AllocError>
 }
 
 /// The pattern rules that have a recipe and that no later one repeats.
-#[tactic(auto, using(crate::proofs::PatternLemmas::sorted_more))]
+#[tactic(auto, using(crate::proofs::lemmas::book::PatternLemmas::sorted_more))]
 pub(crate) fn unrepeated<'a>(
     alloc: Global,
     patterns: Vec<Pattern<'a>>,

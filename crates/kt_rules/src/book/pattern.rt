@@ -3,7 +3,7 @@ ghost use Rattle.std.specs.Prelude.{◌≡◌, option_map};
 ghost use Rattle.kt_rules.specs.Book.{is_terminal};
 
 use super::book_rule::BookRule;
-use crate::entry::{Kind, Needs, RecipeLine, Target};
+use crate::line::entry::{Kind, Needs, RecipeLine, Target};
 use crate::place::Place;
 use std::marker::Model;
 

@@ -20,9 +20,9 @@ use super::book_rule::BookRule;
 use super::kinds::Kinds;
 use super::row::{NeedsNumbers, Row, RuleNumbers};
 use crate::dictionary::Dictionary;
-use crate::entry::{Entry, Name, Needs, RecipeLine};
-use crate::held_needs::{HeldNeeds, PlainNeeds};
-use crate::static_pattern::StaticPattern;
+use crate::line::entry::{Entry, Name, Needs, RecipeLine};
+use crate::line::held_needs::{HeldNeeds, PlainNeeds};
+use crate::line::static_pattern::StaticPattern;
 use kt_list::{Names, Rows};
 use std::alloc::{AllocError, Global};
 use std::marker::Model;
@@ -76,7 +76,7 @@ impl Rules {
     }
 
     /// The number of rules.
-    #[tactic(auto, using(crate::proofs::HeldLemmas::rules_many))]
+    #[tactic(auto, using(crate::proofs::lemmas::book::HeldLemmas::rules_many))]
     pub(crate) fn len(&self) -> usize
         ensures { result ≡ length self.now.1 }
     {
@@ -198,7 +198,7 @@ impl Rules {
     }
 
     /// Takes all rules out again but the first ones. Their names stay.
-    #[tactic(auto, using(crate::proofs::HeldLemmas::rules_first))]
+    #[tactic(auto, using(crate::proofs::lemmas::book::HeldLemmas::rules_first))]
     pub(crate) fn truncate(&mut self, len: usize)
         ensures names { self.new.0 ≡ self.old.0 }
         ensures rules { self.new.1 ≡ take len self.old.1 }
@@ -331,7 +331,7 @@ fn number_needs(
     }
 }
 
-#[tactic(auto, using(crate::proofs::DictionaryLemmas::list_stays))]
+#[tactic(auto, using(crate::proofs::lemmas::DictionaryLemmas::list_stays))]
 fn number_lists(dictionary: &mut Dictionary, needs: &Needs) -> Result<NeedsNumbers, AllocError>
     ensures numbered { IfOk result (AreNeeds dictionary.new needs.now) }
     ensures grown { GrowsDictionary dictionary.old dictionary.new }

@@ -14,9 +14,9 @@ use super::rules::Rules;
 use super::spot::Spot;
 use super::suffix::is_suffix_name;
 use super::suffixes::Suffixes;
-use crate::entry::{Entry, Kind};
+use crate::line::entry::{Entry, Kind};
+use crate::line::refused::is_special;
 use crate::needs::NeedsView;
-use crate::refused::is_special;
 use crate::target::TargetView;
 
 /// A rule seen from one of its targets.

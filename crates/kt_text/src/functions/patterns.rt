@@ -21,7 +21,7 @@ pub(crate) struct WordPatterns<'a> {
 }
 
 impl<'a> WordPatterns<'a> {
-    #[tactic(auto, using(crate::proofs::PatternLemmas::wildcard_more, crate::proofs::PatternLemmas::literal_more))]
+    #[tactic(auto, using(crate::proofs::lemmas::PatternLemmas::wildcard_more, crate::proofs::lemmas::PatternLemmas::literal_more))]
     pub(crate) fn new(alloc: Global, text: &'a [u8]) -> Result<WordPatterns<'a>, AllocError>
         ensures { IfOk result (λ patterns. (word : Bor Text)
             → matches_held patterns.literals.keys patterns.wildcards.items word.now

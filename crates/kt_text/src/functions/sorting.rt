@@ -11,7 +11,7 @@ use crate::sort_key::SortKey;
 use std::alloc::{AllocError, Global};
 
 /// `$(sort LIST)`.
-#[tactic(auto, using(crate::proofs::ListLemmas::put_words_is), unfolding(crate::specs::Functions::sort_of))]
+#[tactic(auto, using(crate::proofs::lemmas::ListLemmas::put_words_is), unfolding(crate::specs::Functions::sort_of))]
 pub fn sort(alloc: Global, text: &[u8]) -> Result<Vec<u8>, TextFault>
     ensures { Answers result (Some (sort_of text.now)) }
 {

@@ -37,7 +37,7 @@ pub fn findstring(alloc: Global, find: &[u8], text: &[u8]) -> Result<Vec<u8>, Te
 /// `$(patsubst PATTERN,REPLACEMENT,TEXT)`.
 ///
 /// `\%` in the pattern or the replacement is no argument that kati takes.
-#[tactic(auto, using(crate::proofs::ListLemmas::put_words_is), unfolding(crate::specs::Functions::patsubst_of))]
+#[tactic(auto, using(crate::proofs::lemmas::ListLemmas::put_words_is), unfolding(crate::specs::Functions::patsubst_of))]
 pub fn patsubst(
     alloc: Global,
     pattern: &[u8],
@@ -89,7 +89,7 @@ fn add_with_stem(list: &mut Vec<u8>, replacement: &[u8], stem: &[u8]) -> Result<
 /// `$(filter PATTERNS,TEXT)`.
 ///
 /// `\%` in the patterns is no argument that kati takes.
-#[tactic(auto, using(crate::proofs::ListLemmas::put_words_is), unfolding(crate::specs::Functions::filter_of))]
+#[tactic(auto, using(crate::proofs::lemmas::ListLemmas::put_words_is), unfolding(crate::specs::Functions::filter_of))]
 pub fn filter(alloc: Global, patterns: &[u8], text: &[u8]) -> Result<Vec<u8>, TextFault>
     ensures { Answers result (filter_of patterns.now text.now) }
 {
@@ -109,7 +109,7 @@ pub fn filter(alloc: Global, patterns: &[u8], text: &[u8]) -> Result<Vec<u8>, Te
 /// `$(filter-out PATTERNS,TEXT)`.
 ///
 /// `\%` in the patterns is no argument that kati takes.
-#[tactic(auto, using(crate::proofs::ListLemmas::put_words_is), unfolding(crate::specs::Functions::filter_out_of))]
+#[tactic(auto, using(crate::proofs::lemmas::ListLemmas::put_words_is), unfolding(crate::specs::Functions::filter_out_of))]
 pub fn filter_out(alloc: Global, patterns: &[u8], text: &[u8]) -> Result<Vec<u8>, TextFault>
     ensures { Answers result (filter_out_of patterns.now text.now) }
 {

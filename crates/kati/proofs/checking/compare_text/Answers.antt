@@ -1,6 +1,6 @@
 use Rattle.std.proofs.Common.{◌∙◌, ap, inl, refl, sym}
 use Rattle.kt_ninja_reader.specs.NinjaRead.{ninja_read}
-use Rattle.kt_ninja_reader.proofs.PrintThenRead.{printed_is_read}
+use Rattle.kt_ninja_reader.proofs.lemmas.PrintThenRead.{printed_is_read}
 use Rattle.kati.specs.inner.plan.Shown.{plan_view}
 use Rattle.kati.proofs.checking.compare_text.Goals as goal
 

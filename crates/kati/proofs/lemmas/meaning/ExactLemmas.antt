@@ -5,7 +5,7 @@ use Rattle.kati.specs.Exact.{IsAlwaysBuilt, IsMadeOnce, IsOfGroup, StandInOrder,
 use Rattle.kati.specs.views.Plans.{PlansAreGraphs}
 use Rattle.kati.proofs.lemmas.plan.PlanLemmas.{law, name_in, name_reached, order, outs_in, outs_told, statements_in}
 use Rattle.kati.proofs.lemmas.meaning.ReadBackLemmas.{has_plan, plan_given, read_back, went_on}
-use Rattle.kt_graph.proofs.lemmas.faults.TroubleLemmas.{of_node}
+use Rattle.kt_graph.proofs.lemmas.nodes.FoundLemmas.{of_node}
 
 -- ---- names that differ
 

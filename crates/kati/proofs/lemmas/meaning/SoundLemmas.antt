@@ -8,7 +8,7 @@ use Rattle.kati.specs.inner.Views.{GoalsEnd}
 use Rattle.kati.proofs.lemmas.meaning.ExactLemmas.{are_graphs, goals_told, of_group}
 use Rattle.kati.proofs.lemmas.MeaningLemmas.{meant}
 use Rattle.kati.proofs.lemmas.plan.PlanLemmas.{always_reserved, law, name_in, outs_in}
-use Rattle.kt_graph.proofs.lemmas.faults.TroubleLemmas.{of_node}
+use Rattle.kt_graph.proofs.lemmas.nodes.FoundLemmas.{of_node}
 use Rattle.kt_graph.proofs.lemmas.nodes.GroupLaw.{in_graph}
 
 -- ---- the inputs of a group's statement

@@ -8,7 +8,7 @@ use Rattle.kt_ninja.specs.Plan as plans
 use Rattle.kt_ninja.specs.views.View.{statement_names}
 use Rattle.kati.specs.inner.Stops.{IsFaultOf}
 use Rattle.kati.specs.inner.Views.{is_text_trouble}
-use Rattle.kt_graph.proofs.lemmas.faults.TroubleLemmas.{of_node}
+use Rattle.kt_graph.proofs.lemmas.nodes.FoundLemmas.{of_node}
 
 abbrev pub order : Text → Text → Ordering
 order = slice_cmp nat_cmp

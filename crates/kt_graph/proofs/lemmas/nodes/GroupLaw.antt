@@ -8,7 +8,7 @@ use Rattle.kt_graph.proofs.lemmas.nodes.GroupLemmas.{one_itself, one_same}
 use Rattle.kt_graph.proofs.lemmas.nodes.MadeLemmas.{found_in}
 use Rattle.kt_graph.proofs.lemmas.MemberLemmas.{Contains-from_map, Contains-map}
 use Rattle.kt_graph.proofs.lemmas.Membership.{in_filter, kept_by_filter}
-use Rattle.kt_graph.proofs.lemmas.faults.TroubleLemmas.{find_agree, found_nowhere, kept_rises, rises_made, of_node}
+use Rattle.kt_graph.proofs.lemmas.nodes.FoundLemmas.{find_agree, found_nowhere, kept_rises, rises_made, of_node}
 use Rattle.kt_graph.proofs.lemmas.nodes.WholeLemmas.{group_cases}
 
 abbrev order : Text → Text → Ordering

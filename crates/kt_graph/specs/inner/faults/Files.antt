@@ -1,13 +1,12 @@
--- The files of made names, as the code counts and spells them, and the order of names (kati's own).
-use Rattle.std.specs.Prelude.{◌≡◌, ◌↔◌, ℕ, ◌<◌, Bool, not, ◌||◌, ◌==◌, nat_eq, nat_lt, length, bytes_eq, if◌then◌else◌}
+-- The files of made names, as the code counts and spells them (kati's own).
+use Rattle.std.specs.Prelude.{◌≡◌, Bool, not, ◌||◌, ◌==◌, nat_eq, nat_lt, bytes_eq, if◌then◌else◌}
 use Rattle.std.specs.Prelude.{false, [], ◌∷◌}
 use Rattle.kt_graph.specs.views.Prelude.{List}
-use Rattle.kt_graph.specs.Prelude.{None, Contains, IsStrictlySortedBy, nat_cmp, slice_cmp, slice_split, Text}
+use Rattle.kt_graph.specs.Prelude.{None, slice_split, Text}
 use Rattle.kt_graph.specs.inner.Prelude.{Option, Some, list_all}
 use Rattle.std.specs.Map.{lookup}
 use Rattle.kt_graph.specs.declared.faults.files.FileSpellings.{FileSpellings}
 use Rattle.kt_graph.specs.faults.Paths.{above_name, is_idle}
-use Rattle.kt_list.specs.views.Names.{name_at, names_at}
 use Rattle.kt_graph.specs.views.faults.Files.{spelling_count}
 
 -- whether several of these names are names of a file, if any is
@@ -21,16 +20,6 @@ held_for entries file = lookup (λ key. bytes_eq file key) entries
 -- the code holds this for each file
 abbrev pub HasFiles : FileSpellings → List Text → Type 0
 HasFiles files names = (file : Text) → held_for files.several.entries file ≡ several_in names file
-
--- no two names are equal
-abbrev pub AreDistinct : List Text → Type 0
-AreDistinct names = (one other : ℕ) → one < length names → other < length names
-    → name_at names one ≡ name_at names other → one ≡ other
-
--- the numbers of all names, in byte order of the names
-pub record IsByteOrder (names : List Text) (order : List ℕ) : Type 0 where
-  pub rises : IsStrictlySortedBy (slice_cmp nat_cmp) (names_at names order)
-  pub all : (number : ℕ) → Contains order number ↔ (number < length names)
 
 -- ---- names with plain components only: each is the canonical spelling of its file
 

@@ -9,7 +9,7 @@ use Rattle.kt_graph.specs.declared.nodes.part.PartRecipe.{PartRecipe}
 use Rattle.kt_graph.specs.declared.nodes.stored.NodeHead.{NodeHead}
 use Rattle.kt_graph.specs.declared.nodes.stored.HeldPart.{HeldPart}
 use Rattle.kt_graph.specs.declared.nodes.stored.SeenPart.{SeenPart}
-use Rattle.kt_graph.specs.declared.nodes.stored.Span.{Span}
+use Rattle.kt_graph.specs.declared.nodes.span.Span.{Span}
 use Rattle.kt_graph.specs.inner.nodes.Inputs.{numbers_without, with_input_number}
 use Rattle.kt_graph.specs.inner.nodes.Stems.{Stem}
 
@@ -194,3 +194,7 @@ pub record IsHeadOf (parts : List HeldPart) (rows : List (List ℕ)) (expected :
   where
     pub within : IsHeadWithin (length parts) (length rows) head
     pub is : node_stored parts rows head ≡ expected
+
+-- the numbers of all inputs of a node
+abbrev pub needed_numbers : StoredNode → List ℕ
+needed_numbers node = node.inputs ++ node.order_only

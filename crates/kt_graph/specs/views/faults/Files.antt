@@ -1,8 +1,7 @@
 -- How often a file is named by the names that are made (kati's own).
 use Rattle.std.specs.Prelude.{ℕ, Bool, nat_lt, length, filter, bytes_eq}
-use Rattle.kt_graph.specs.views.Prelude.{List, map}
-use Rattle.kt_graph.specs.Prelude.{Text, Node}
-use Rattle.kt_graph.specs.nodes.Groups.{made_nodes}
+use Rattle.kt_graph.specs.views.Prelude.{List}
+use Rattle.kt_graph.specs.Prelude.{Text}
 use Rattle.kt_graph.specs.faults.Paths.{canon_of}
 
 -- the number of names that are names of a file
@@ -12,7 +11,3 @@ spelling_count names file = length (filter (λ name. bytes_eq (canon_of name) fi
 -- the file of a name has another of these names, too
 abbrev pub is_repeated : List Text → Text → Bool
 is_repeated names name = nat_lt 1 (spelling_count names (canon_of name))
-
--- the names of the nodes that are made
-abbrev pub made_names : List Node → List Text
-made_names nodes = map (λ node. node.name) (made_nodes nodes)

@@ -46,3 +46,7 @@ pub record AreGroups (rules : List Entry) (known goals : List Text) (nodes : Lis
   -- the members are in byte order, and so are the groups by their first members
   pub members : All (λ group. IsStrictlySortedBy (slice_cmp nat_cmp) (map (λ node. node.name) group)) groups
   pub leaders : IsStrictlySortedBy (slice_cmp nat_cmp) (map leader_name groups)
+
+-- the names of the nodes that are made
+abbrev pub made_names : List Node → List Text
+made_names nodes = map (λ node. node.name) (made_nodes nodes)

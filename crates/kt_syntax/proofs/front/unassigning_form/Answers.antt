@@ -1,5 +1,5 @@
 use Rattle.std.proofs.Common.{◌∙◌, sym}
-use Rattle.kt_syntax.proofs.LeadingForms.{form_worded}
+use Rattle.kt_syntax.proofs.lemmas.LeadingForms.{form_worded}
 use Rattle.kt_syntax.proofs.front.unassigning_form.Goals as goal
 
 pub returns : goal.returns

@@ -1,4 +1,4 @@
-use Rattle.kt_syntax.proofs.OwnPlaces.{byte_found}
+use Rattle.kt_syntax.proofs.lemmas.OwnPlaces.{byte_found}
 use Rattle.kt_syntax.proofs.own.own_place.Goals as goal
 
 pub returns-clause-quick_value : goal.returns-clause-quick_value

@@ -1,7 +1,7 @@
 use Rattle.std.proofs.Common.{arith, sym}
 use Rattle.std.proofs.lemmas.Bool.{not-true}
 use Rattle.kt_syntax.specs.Roles.{line_text}
-use Rattle.kt_syntax.proofs.RoleLemmas.{first_role, tab_role}
+use Rattle.kt_syntax.proofs.lemmas.RoleLemmas.{first_role, tab_role}
 use Rattle.kt_syntax.proofs.role.opens_nothing.Goals as goal
 
 pub returns-then-line-clause-quick_role : goal.returns-then-line-clause-quick_role

@@ -1,7 +1,7 @@
 use Rattle.std.proofs.Common.{◌≡◌, ◌∙◌, ◌&&◌, List, ap, is_some, map, refl, sym}
 use Rattle.kt_rules.proofs.Common.{list_any, Text, Spot, explicit_rules, rule_needs, explicit_left, spots_at, suffix_patterns, is_bare_at}
 use Rattle.kt_rules.specs.inner.Lists.{Notes}
-use Rattle.kt_rules.proofs.GoalLemmas.{explicit_by_spots}
+use Rattle.kt_rules.proofs.lemmas.book.GoalLemmas.{explicit_by_spots}
 use Rattle.kt_rules.proofs.book.Book.are_made_alike.Goals as goal
 
 pub returns : goal.returns

@@ -1,5 +1,5 @@
 use Rattle.kt_rules.specs.views.Targets.{rule_view}
-use Rattle.kt_rules.proofs.AlikeLemmas.{alike_by_entry}
+use Rattle.kt_rules.proofs.lemmas.book.AlikeLemmas.{alike_by_entry}
 use Rattle.kt_rules.proofs.book.alike.are_alike.Goals as goal
 
 pub returns-then-is_common : goal.returns-then-is_common

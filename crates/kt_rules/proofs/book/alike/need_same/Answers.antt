@@ -1,5 +1,5 @@
 use Rattle.std.proofs.Common.{rules}
-use Rattle.kt_rules.proofs.AlikeLemmas.{alike_more}
+use Rattle.kt_rules.proofs.lemmas.book.AlikeLemmas.{alike_more}
 use Rattle.kt_rules.proofs.book.alike.need_same.Goals as goal
 
 pub loop-spot-preserved : goal.loop-spot-preserved

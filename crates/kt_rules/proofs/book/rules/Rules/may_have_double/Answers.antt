@@ -1,4 +1,4 @@
-use Rattle.kt_rules.proofs.HeldLemmas.{none_double}
+use Rattle.kt_rules.proofs.lemmas.book.HeldLemmas.{none_double}
 use Rattle.kt_rules.proofs.book.rules.Rules.may_have_double.Goals as goal
 
 pub returns : goal.returns

@@ -1,4 +1,4 @@
-use Rattle.kt_rules.proofs.HeldLemmas.{none_group}
+use Rattle.kt_rules.proofs.lemmas.book.HeldLemmas.{none_group}
 use Rattle.kt_rules.proofs.book.rules.Rules.may_have_group.Goals as goal
 
 pub returns : goal.returns

@@ -1,6 +1,6 @@
 use Rattle.std.proofs.Common.{◌∙◌, ◌++◌, ◌∷◌, [], List, option_map, refl, unwrap_or, subst, sym, ap}
 use Rattle.kt_rules.proofs.Common.{is_some-map, Text, on_err, RecipeLine, Entry, AreHeld, AreRuleNumbers, rules_held}
-use Rattle.kt_rules.proofs.HeldLemmas.{grown_held, grown_rules, pushed_held, pushed_rule}
+use Rattle.kt_rules.proofs.lemmas.book.HeldLemmas.{grown_held, grown_rules, pushed_held, pushed_rule}
 use Rattle.kt_rules.specs.declared.book.row.Row.{Row}
 use Rattle.kt_rules.proofs.book.rules.Rules.push.Goals as goal
 

@@ -1,8 +1,8 @@
 use Rattle.std.proofs.Common.{slice_get}
 use Rattle.kt_rules.proofs.Common.{Option, Some, [], get_or, rules, subst, Entry, rule_held}
 use Rattle.kt_rules.specs.inner.Alike.{SaySame}
-use Rattle.kt_rules.proofs.AlikeLemmas.{same_listed}
-use Rattle.kt_rules.proofs.HeldLemmas.{rule_told}
+use Rattle.kt_rules.proofs.lemmas.book.AlikeLemmas.{same_listed}
+use Rattle.kt_rules.proofs.lemmas.book.HeldLemmas.{rule_told}
 use Rattle.kt_rules.proofs.book.rules.Rules.say_same.Goals as goal
 
 pub returns-in-Some-held_at : goal.returns-in-Some-held_at
