@@ -17,6 +17,8 @@ The checks:
              and of tests depend on crates of laws
   lemmas     no crate of the product has a lemma that no proof of its code needs, except for the laws on limits: what
              only a law needs is in a crate of laws
+  closed     specs/ of the product's crates has only the definitions that the promise depends on, and imports nothing
+             from specs/views/ or specs/inner/; only its own crate uses specs/inner/
   lines      lines of documents have at most 120 columns, except in tables and output
   sizes      documents have at most the words of scripts/document_sizes.py, outside code blocks
   examples   each block ```console of README.md, example/README.md and docs/USING.md prints what the document has. bash
@@ -27,6 +29,7 @@ The checks:
   gate       README's test command runs .ci/run
   picture    docs/times.svg is drawn from the table in docs/BENCHMARKS.md
   tricks     docs/TRICKS.md is what the heads of the modules say
+  quick      docs/QUICK.md lists the clauses that go one way, and their labels say so
   diagrams   the diagrams of docs/DESIGN.md are current
   trusted    docs/TRUSTED.md lists the definitions that the promise depends on, and each of them has a comment
 
@@ -61,7 +64,9 @@ import document_sizes
 import lemmas_used
 import names_stated
 import options_stated
+import quick_clauses
 import shapes_stated
+import specs_closed
 import tested_calls
 import tricks_stated
 import trusted_stated
@@ -304,6 +309,11 @@ def check_lemmas(place, report):
     report.check(not found, "lemmas that no proof of code needs:", *found)
 
 
+def check_closed(place, report):
+    found = list(specs_closed.troubles(place.root))
+    report.check(not found, "definitions in the wrong folder:", *found)
+
+
 def check_lines(place, report):
     for path in place.documents():
         fenced, long = False, []
@@ -408,6 +418,11 @@ def check_tricks(place, report):
     report.check(not differ, "docs/TRICKS.md and the heads of the modules differ:", *differ)
 
 
+def check_quick(place, report):
+    wrong = list(quick_clauses.differing(place.root))
+    report.check(not wrong, "clauses that go one way:", *wrong)
+
+
 def check_diagrams(place, report):
     wrong = list(diagrams.troubles(place.root))
     report.check(not wrong, "diagrams:", *wrong)
@@ -420,9 +435,10 @@ def check_trusted(place, report):
 
 CHECKS = {"options": check_options, "faults": check_faults, "cases": check_cases, "calls": check_calls,
           "files": check_files, "specs": check_specs, "walk": check_walk, "shapes": check_shapes, "names": check_names,
-          "crates": check_crates, "lemmas": check_lemmas, "lines": check_lines, "sizes": check_sizes,
+          "crates": check_crates, "lemmas": check_lemmas, "closed": check_closed, "lines": check_lines,
+          "sizes": check_sizes,
           "examples": check_examples, "scripts": check_scripts, "gate": check_gate, "picture": check_picture,
-          "tricks": check_tricks, "diagrams": check_diagrams, "trusted": check_trusted}
+          "tricks": check_tricks, "quick": check_quick, "diagrams": check_diagrams, "trusted": check_trusted}
 
 
 class Parser(argparse.ArgumentParser):

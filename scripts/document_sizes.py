@@ -29,9 +29,9 @@ LIMITS = {
     "docs/PROOFS.md": Limit(4500),
     "docs/PROVING.md": Limit(3800),
 }
-# These have no limit: scripts write the first three, and the tools of the next two are being replaced.
-UNLIMITED = ("docs/TESTS.md", "docs/TRICKS.md", "docs/TRUSTED.md", "docs/PORTING.md", "docs/USING.md",
-             "example/README.md")
+# These have no limit: scripts write the first four, and the tools of the next two are being replaced.
+UNLIMITED = ("docs/QUICK.md", "docs/TESTS.md", "docs/TRICKS.md", "docs/TRUSTED.md", "docs/PORTING.md",
+             "docs/USING.md", "example/README.md")
 
 
 def prose(text):

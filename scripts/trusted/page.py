@@ -15,7 +15,8 @@ HEAD = """# The trusted definitions
 The contracts below say what kati promises. They use definitions, and these use others. No proof shows that a definition
 says what a manual says: a reader has to compare the two. Here is each definition that the promise rests on: {count} of
 {all}, which are {lines} of {all_lines} lines. [DESIGN.md](DESIGN.md) names the ten to read first, and
-[PROOFS.md](PROOFS.md) lists what is trusted beside the definitions.
+[PROOFS.md](PROOFS.md) lists what is trusted beside the definitions. The other definitions are in `specs/views/`, in
+`specs/inner/` and in crates of laws.
 
 - A crate comes after the crates that it uses, and a module after the modules that it uses.
 - Each name has the number of its line, and the first sentence of its comment.

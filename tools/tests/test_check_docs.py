@@ -50,7 +50,8 @@ class Spoiling(unittest.TestCase):
 
     def test_as_it_is(self):
         self.check("options", "cases", "calls", "files", "specs", "walk", "shapes", "names", "crates", "lemmas",
-                   "lines", "sizes", "gate", "picture", "tricks", "diagrams", "trusted", failed=0)
+                   "closed", "lines", "sizes", "gate", "picture", "tricks", "quick", "diagrams", "trusted",
+                   failed=0)
 
     def test_an_option_that_only_the_code_has(self):
         self.spoil("crates/kati_args/src/command.rt", '.long("depth")', '.long("deep")')
@@ -142,7 +143,7 @@ class Spoiling(unittest.TestCase):
 
     def test_names_with_two_meanings(self):
         for name, old, new, said in (
-                ("crates/kt_syntax/specs/Terms.antt", "pub byte_count :", "pub place_of :", "place_of: kt_list"),
+                ("crates/kt_syntax/specs/views/Terms.antt", "pub byte_count :", "pub place_of :", "place_of: kt_list"),
                 ("crates/kati_args/src/args.rt", "struct MacroWord", "struct LineText", "LineText: kati_args src/args"),
                 ("crates/kt_eval/specs/expanding/Calls.antt", "pub data Request :", "pub data Joint :",
                  "Joint: kt_eval specs/expanding/Calls.antt, kt_syntax src/recipe.rt")):
@@ -159,24 +160,63 @@ class Spoiling(unittest.TestCase):
 
     def test_a_lemma_that_no_proof_of_code_needs(self):
         # In a block, so that its head belongs to it; and one by which a law alone is proved.
-        lemmas, block = "crates/kt_text/proofs/GroupLemmas.antt", "module _ {A : Type 0}\n    (a : A) where\n"
+        lemmas, block = "crates/kt_text/proofs/lemmas/GroupLemmas.antt", "module _ {A : Type 0}\n    (a : A) where\n"
         self.spoil(lemmas, "-- ", block + "  pub spare : a ≡ a\n  spare = refl\n\n-- ")
-        self.assertIn("    kt_text: spare in proofs/GroupLemmas.antt\n", self.check("lemmas", failed=1))
+        self.assertIn("    kt_text: spare in proofs/lemmas/GroupLemmas.antt\n", self.check("lemmas", failed=1))
         answers = self.root / "crates/kt_text/proofs/laws/spare/Answers.antt"
         answers.parent.mkdir(parents=True)
-        answers.write_text("use Rattle.kt_text.proofs.GroupLemmas.{spare}\n", encoding="utf-8")
-        self.assertIn("    kt_text: spare in proofs/GroupLemmas.antt\n", self.check("lemmas", failed=1))
+        answers.write_text("use Rattle.kt_text.proofs.lemmas.GroupLemmas.{spare}\n", encoding="utf-8")
+        self.assertIn("    kt_text: spare in proofs/lemmas/GroupLemmas.antt\n", self.check("lemmas", failed=1))
         # The laws on limits are by the code.
         answers.parent.rename(answers.parent.with_name("one_deeper"))
         self.check("lemmas", failed=0)
 
     def test_a_lemma_that_an_attribute_needs_by_another(self):
         one = "spare : ℕ\nspare = 1\n\npub nearer : ℕ\nnearer = spare\n\n-- "
-        self.spoil("crates/kt_text/proofs/GroupLemmas.antt", "-- ", one)
+        self.spoil("crates/kt_text/proofs/lemmas/GroupLemmas.antt", "-- ", one)
         said = self.check("lemmas", failed=1)
         self.assertEqual(re.findall(r"^    kt_text: (\w+) in", said, re.MULTILINE), ["spare", "nearer"])
         self.spoil("crates/kt_text/src/logical.rt", "PhysicalLemmas::nul_places", "GroupLemmas::nearer")
         self.assertEqual(self.check("lemmas", failed=1).count("GroupLemmas"), 0)
+
+    def test_a_trusted_module_that_imports_a_view(self):
+        self.spoil("crates/kt_text/specs/Prelude.antt", "pub use ",
+                   "pub use Rattle.kt_text.specs.views.Words.{put_word}\npub use ")
+        self.assertIn("    kt_text specs/Prelude imports kt_text specs/views/Words\n", self.check("closed", failed=1))
+
+    def test_a_view_that_imports_what_is_private(self):
+        self.spoil("crates/kt_text/specs/views/Words.antt", "use ",
+                   "use Rattle.kt_text.specs.inner.Sure as sure\nuse ")
+        self.assertIn("    kt_text specs/views/Words imports kt_text specs/inner/Sure\n",
+                      self.check("closed", failed=1))
+
+    def test_a_definition_that_the_promise_does_not_need(self):
+        self.spoil("crates/kati/specs/Exits.antt", "usage_code = 64\n",
+                   "usage_code = 64\n\n-- the largest\nabbrev pub largest : ℕ\nlargest = 9\n")
+        said = self.check("closed", failed=1)
+        self.assertIn("    largest in kati specs/Exits: the promise does not rest on it\n", said)
+        self.spoil("crates/kati/specs/Exits.antt", "code_of statuses.Done = 0", "code_of statuses.Done = largest")
+        self.check("closed", failed=0)
+
+    def test_a_definition_of_a_view_that_the_promise_needs(self):
+        self.spoil("crates/kati_program/src/main.rt", "ghost use ",
+                   "ghost use Rattle.kt_text.specs.views.Words.{put_word};\nghost use ")
+        self.check("closed", failed=0)
+        self.spoil("crates/kati_program/src/main.rt", "ensures { ", "ensures { put_word ")
+        self.assertIn("    put_word in kt_text specs/views/Words: the promise rests on it\n",
+                      self.check("closed", failed=1))
+
+    def test_a_crate_that_uses_what_is_private_to_another(self):
+        self.spoil("crates/kt_syntax/src/own.rt", "ghost use ",
+                   "ghost use Rattle.kt_text.specs.inner.Sure.{IsSure};\nghost use ")
+        self.spoil("crates/kt_text_laws/src/lib.rt", "//! ",
+                   "// by kt_text::specs::inner::Marks::HasMarks\n//! ")
+        self.spoil("crates/kt_text/src/mark.rt", "ghost use ",
+                   "ghost use Rattle.kt_text.specs.inner.Sure.{IsSure};\nghost use ")
+        said = self.check("closed", failed=1)
+        self.assertEqual(re.findall(r"^    (\S+) uses (.*)$", said, re.MULTILINE),
+                         [("kt_syntax/src/own.rt", "kt_text specs/inner/Sure"),
+                          ("kt_text_laws/src/lib.rt", "kt_text specs/inner/Marks/HasMarks")])
 
     def test_a_crate_that_the_table_lacks(self):
         self.spoil("docs/DESIGN.md", "| kati_host | the host's", "| kati_hosts | the host's")
@@ -243,6 +283,16 @@ class Spoiling(unittest.TestCase):
         self.spoil("docs/TRICKS.md", "a name is hashed in one write |", "a name is hashed |")
         self.check("tricks", failed=1)
         self.is_written_by("tricks_stated.py", "docs/TRICKS.md")
+
+    def test_a_clause_that_does_not_say_that_it_goes_one_way(self):
+        self.spoil("crates/kt_syntax/src/leading.rt", "ensures quick {", "ensures {")
+        self.assertIn("    crates/kt_syntax/src/leading.rt: leading_directive has a clause that goes one way",
+                      self.check("quick", failed=1))
+
+    def test_clauses_that_are_written_anew(self):
+        self.spoil("docs/QUICK.md", "| `quick` | `None` |", "| `quick` | `false` |")
+        self.check("quick", failed=1)
+        self.is_written_by("quick_clauses.py", "docs/QUICK.md")
 
     def test_diagrams_that_are_not_current(self):
         for name, old, new, said in (

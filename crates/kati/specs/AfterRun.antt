@@ -1,11 +1,10 @@
 -- The state of the devices after a run, and after the program (kati's own).
 use Rattle.std.specs.Prelude.{◌≡◌, ◌⊎◌, ℕ, List, [], Option, Some, None, Result, Ok, Err, IfOk, IsOk}
 use Rattle.kati.specs.Prelude.{string_bytes, Rises, Text, Plan, plan_text, IsWritable, GrowsByFront, SinkSeen, Takes}
-use Rattle.kati.specs.Prelude.{Fault, AgreeWith, FilesSeen, Store, Args, ArgFault, RunFault, Status, Devices}
+use Rattle.kati.specs.Prelude.{Fault, AgreeWith, Store, Args, ArgFault, RunFault, Status, Devices}
 use Rattle.kt_list.specs.Prefixes.{IsPrefix, last}
 use Rattle.kati_args.specs.Args.{AnswersWords}
 use Rattle.kati.specs.declared.faults.RunFault.TheVariants as faults
-use Rattle.kati.specs.declared.outcome.Outcome.{Outcome}
 use Rattle.kati.specs.declared.status.Status.TheVariants as statuses
 use Rattle.kati.specs.Checking.{AskedAtCheck, HasStatus, IsReadAs, names_with_check}
 use Rattle.kati.specs.Exact.{IsGraphOf}
@@ -120,19 +119,6 @@ BlamesDevice (Err (faults.Read name)) old new = Rises old.files.failed new.files
 BlamesDevice (Err faults.Memory) old new = new.files.failed ≡ old.files.failed
 BlamesDevice (Err faults.WriteOut) old new = Rises old.out.failed new.out.failed × (new.files.failed ≡ old.files.failed)
 BlamesDevice (Err faults.WriteErr) old new = Rises old.err.failed new.err.failed × (new.files.failed ≡ old.files.failed)
-
--- what caused a fault of a step that only reads: the failures of the files rose, or memory ran out and no file failed
-abbrev pub ReadBlames : {A : Type 0} → Result A RunFault → FilesSeen → FilesSeen → Type 0
-ReadBlames (Ok x) old new = new.failed ≡ old.failed
-ReadBlames (Err (faults.Read name)) old new = Rises old.failed new.failed × (last new.names ≡ Some (string_bytes name))
-ReadBlames (Err faults.Memory) old new = new.failed ≡ old.failed
-ReadBlames (Err faults.WriteOut) old new = ⊥
-ReadBlames (Err faults.WriteErr) old new = ⊥
-
--- a translation has the run's meaning, and has asked for its names
-abbrev pub Translates : Args → Store → Outcome → List Text → List Text → Type 0
-Translates args store outcome asked asked' =
-    Means args store asked (record { messages = outcome.messages; result = outcome.result; asked = asked' })
 
 -- a run with these arguments, and the exit status; after it, only the reason why it didn't come to its end is written;
 -- what the run left is told of each store that agrees with all that was answered

@@ -32,7 +32,3 @@ AskedAtCheck (faults.Read copy) name asked asked' = asked' ≡ asked ++ name ∷
 AskedAtCheck faults.Memory name asked asked' = (asked' ≡ asked) ⊎ (asked' ≡ asked ++ name ∷ [])
 AskedAtCheck faults.WriteOut name asked asked' = ⊥
 AskedAtCheck faults.WriteErr name asked asked' = ⊥
-
--- the status from comparing two plans
-abbrev pub IsSame : Plan → Plan → Status → Type 0
-IsSame read plan status = ((status ≡ statuses.Done) × (read ≡ plan)) ⊎ ((status ≡ statuses.Differs) × ¬ (read ≡ plan))

@@ -1,12 +1,12 @@
 -- What the statements of a plan are: the graph of what the goals need, and nothing else (kati's own; Ninja manual,
 -- "Build statements").
-use Rattle.std.specs.Prelude.{◌≡◌, ◌≢◌, ◌⊎◌, ℕ, true, List, [], map, Option, Ok}
+use Rattle.std.specs.Prelude.{◌≡◌, ◌≢◌, ◌⊎◌, ℕ, true, List, [], map, Option}
 use Rattle.kati.specs.Prelude.{AllPairs, Contains, list_any, Text, Store, Makefile, Trace, traced, Gave, Macros}
 use Rattle.kati.specs.Prelude.{IsSoundGraph, groups_of, Node, IsMade, outputs, Plan, Statement, Args}
 use Rattle.std.specs.List.Sorted.{IsStrictlySortedBy}
 use Rattle.std.specs.Ordering.{nat_cmp}
 use Rattle.std.specs.Cmp.Lexicographic.{slice_cmp}
-use Rattle.kati.specs.Meaning.{Meaning, Means, WantedGoals, prepared}
+use Rattle.kati.specs.Meaning.{WantedGoals, prepared}
 use Rattle.kati.specs.plan.Planning.{always_build, always_built, command_for, first_output, has_implicit, statement_of}
 use Rattle.kati.specs.plan.Planning.{with_always_built}
 
@@ -66,8 +66,3 @@ pub record IsGraphOf (args : Args) (store : Store) (asked : List Text) (plan : P
   pub trace : Trace
   pub is_prepared : prepared args store (traced [] asked) ≡ Gave trace want
   pub tells : TellsGraph want.read args.limit want.known want.goals plan
-
--- each plan that a run means is exactly that graph
-abbrev pub PlansAreGraphs : Type 0
-PlansAreGraphs = (args : Args) (store : Store) (asked : List Text) (m : Meaning) (plan : Plan)
-    → Means args store asked m → m.result ≡ Ok plan → IsGraphOf args store asked plan

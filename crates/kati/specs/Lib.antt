@@ -10,9 +10,8 @@ pub mod Devices
 pub mod Exits
 pub mod ErrorOutput
 pub mod AfterRun
-pub mod Limits
 pub mod Exact
 pub mod Sound
-pub mod Once
 pub mod Names
+pub mod views
 pub mod inner

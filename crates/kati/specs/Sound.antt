@@ -1,8 +1,7 @@
 -- What no plan has: a name that depends on itself, two outputs that are one file, a name that is reserved for kati
 -- (kati's own; Ninja manual, "Build statements").
-use Rattle.std.specs.Prelude.{◌≡◌, ◌⊎◌, false, List, ◌++◌, Ok}
-use Rattle.kati.specs.Prelude.{Contains, Text, Store, canon_of, is_reserved, Reaches, outputs, Plan, Statement, Args}
-use Rattle.kati.specs.Meaning.{Meaning, Means}
+use Rattle.std.specs.Prelude.{◌≡◌, ◌⊎◌, false, List, ◌++◌}
+use Rattle.kati.specs.Prelude.{Contains, Text, canon_of, is_reserved, Reaches, outputs, Plan, Statement}
 use Rattle.kati.specs.plan.Planning.{always_build, always_built}
 
 -- a statement that makes the name has the input
@@ -34,7 +33,3 @@ pub record IsSoundPlan (plan : Plan) : Type 0 where
   -- `always_build` is the output of its own statement and among implicit inputs, and nowhere else
   pub unreserved : (statement : Statement) → Contains plan.statements statement
       → IsUnreserved statement ⊎ (statement ≡ always_built)
-
-abbrev pub PlansAreSound : Type 0
-PlansAreSound = (args : Args) (store : Store) (asked : List Text) (m : Meaning) (plan : Plan)
-    → Means args store asked m → m.result ≡ Ok plan → IsSoundPlan plan

@@ -1,10 +1,12 @@
 //! Whether a Ninja file is the plan.
 ghost use Rattle.std.specs.Prelude.{◌≡◌, ◌≤◌, ◌∷◌, ◌++◌, [], IfOk, IfErr, OnOk, option_map, Some, true};
-ghost use Rattle.kt_eval.specs.files.Files.{AgreeWith, AnswersGrow, Store, look};
+ghost use Rattle.kt_eval.specs.files.Files.{AgreeWith, Store, look};
+ghost use Rattle.kt_eval.specs.views.files.Files.{AnswersGrow};
 ghost use Rattle.kt_ninja.specs.Text.{plan_text};
 ghost use Rattle.kt_ninja.specs.Writable.{IsWritable};
-ghost use Rattle.kati.specs.Checking.{AskedAtCheck, IsChecked, IsSame};
-ghost use Rattle.kati.specs.AfterRun.{ReadBlames};
+ghost use Rattle.kati.specs.Checking.{AskedAtCheck, IsChecked};
+ghost use Rattle.kati.specs.inner.Checking.{IsSame};
+ghost use Rattle.kati.specs.views.AfterRun.{ReadBlames};
 ghost use Rattle.kati.specs.inner.plan.Shown.{plan_view};
 ghost use Rattle.kati.specs.declared.faults.RunFault.TheVariants.{Memory};
 
@@ -75,7 +77,7 @@ fn compare_text(alloc: Global, plan: &GraphPlan, text: &[u8]) -> Result<Status, 
 // Whether this is the text that is written for the plan.
 fn is_text_of(plan: &GraphPlan, text: &[u8]) -> bool
     requires { IsWritable (plan_view plan.now) }
-    ensures { result ≡ true → plan_text (plan_view plan.now) ≡ text.now }
+    ensures quick { result ≡ true → plan_text (plan_view plan.now) ≡ text.now }
 {
     let mut expecting = Expecting::new(text);
     write_view(plan, &mut expecting).is_ok() && expecting.has_taken(text)

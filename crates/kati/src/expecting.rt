@@ -29,7 +29,7 @@ impl<'a> Expecting<'a> {
     /// Whether what it has taken is this text. No contract of a sink says that it still expects the text that it was
     /// made with, so the texts are compared.
     pub(crate) fn has_taken(&self, text: &[u8]) -> bool
-        ensures { result ≡ true → take self.now.taken self.now.text.now ≡ text.now }
+        ensures quick { result ≡ true → take self.now.taken self.now.text.now ≡ text.now }
     {
         self.taken <= self.text.len() && &self.text[..self.taken] == text
     }
@@ -37,7 +37,7 @@ impl<'a> Expecting<'a> {
 
 // How much of a text is taken after this piece, if the piece is what stands next.
 fn after(text: &[u8], taken: usize, piece: &[u8]) -> Option<usize>
-    ensures { IfSome result (λ more. (more ≡ taken + length piece.now) × (more ≤ length text.now)
+    ensures quick { IfSome result (λ more. (more ≡ taken + length piece.now) × (more ≤ length text.now)
         × (take more text.now ≡ take taken text.now ++ piece.now)) }
 {
     if taken <= text.len() && text[taken..].starts_with(piece) {

@@ -1,8 +1,8 @@
 //! The goals.
 ghost use Rattle.std.specs.Prelude.{[], List};
 ghost use Rattle.kt_text.specs.Words.{Text};
-ghost use Rattle.kt_eval.specs.Outcome.{AsksNothing, Gives};
-ghost use Rattle.kt_eval.specs.expanding.Pure.{Says};
+ghost use Rattle.kt_eval.specs.views.Outcome.{AsksNothing, Gives};
+ghost use Rattle.kt_eval.specs.views.expanding.Pure.{Says};
 ghost use Rattle.kt_graph.specs.Goals.{default_goals};
 ghost use Rattle.kati.specs.Goals.{chosen_goals, default_goal_text, goals_or_none};
 ghost use Rattle.kati.specs.inner.Views.{read_view};

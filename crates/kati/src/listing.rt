@@ -1,10 +1,11 @@
 //! The list of files that exist.
 ghost use Rattle.std.specs.Prelude.{◌≡◌, ◌≤◌, [], option_map, IfOk, Some};
-ghost use Rattle.kt_eval.specs.files.Files.{AgreeWith, AnswersGrow, Store};
+ghost use Rattle.kt_eval.specs.files.Files.{AgreeWith, Store};
+ghost use Rattle.kt_eval.specs.views.files.Files.{AnswersGrow};
 ghost use Rattle.kt_list.specs.Prefixes.{IsPrefix};
 ghost use Rattle.kt_eval.specs.reading.Machine.{Trace, traced};
-ghost use Rattle.kt_eval.specs.Outcome.{AsksNothing, Gives, left_of};
-ghost use Rattle.kt_eval.specs.Step.{Blames};
+ghost use Rattle.kt_eval.specs.views.Outcome.{AsksNothing, Gives, Blames};
+ghost use Rattle.kt_eval.specs.Outcome.{left_of};
 ghost use Rattle.kati.specs.Listing.{list_in, listed, nul_fault};
 ghost use Rattle.kati.specs.inner.Stops.{IsFaultOf};
 

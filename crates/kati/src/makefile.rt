@@ -1,12 +1,14 @@
 //! The makefile, with the macros of the command line.
 ghost use Rattle.std.specs.Prelude.{◌≡◌, ◌≤◌, ℕ, List, [], IfOk, None, OnOk};
-ghost use Rattle.kt_eval.specs.files.Files.{AgreeWith, AnswersGrow, Store};
+ghost use Rattle.kt_eval.specs.files.Files.{AgreeWith, Store};
+ghost use Rattle.kt_eval.specs.views.files.Files.{AnswersGrow};
 ghost use Rattle.kt_text.specs.Words.{Text};
-ghost use Rattle.kt_eval.specs.reading.Machine.{ComesBefore, Makefile as MakefileSeen, Trace, new_machine, read_by, read_of, reading_by};
-ghost use Rattle.kt_eval.specs.reading.Machine.{traced, traced_by};
+ghost use Rattle.kt_eval.specs.views.reading.Machine.{ComesBefore, new_machine, read_by, reading_by, traced_by};
+ghost use Rattle.kt_eval.specs.reading.Machine.{Makefile as MakefileSeen, Trace, read_of};
+ghost use Rattle.kt_eval.specs.reading.Machine.{traced};
 ghost use Rattle.kt_list.specs.Prefixes.{IsPrefix};
-ghost use Rattle.kt_eval.specs.Outcome.{Gives, IfCut, StepEnd, left_of};
-ghost use Rattle.kt_eval.specs.Step.{Blames, BlamesBy};
+ghost use Rattle.kt_eval.specs.views.Outcome.{Gives, IfCut, Blames, BlamesBy};
+ghost use Rattle.kt_eval.specs.Outcome.{StepEnd, left_of};
 ghost use Rattle.kati.specs.Makefile.{command_line_table, makefile_names, makefile_read, with_macro};
 ghost use Rattle.kati.specs.inner.Views.{read_view};
 

@@ -1,7 +1,8 @@
 //! A run of the program.
 ghost use Rattle.std.specs.Prelude.{◌≡◌, ◌≤◌, MatchResult};
 ghost use Rattle.kt_list.specs.Counters.{Rises};
-ghost use Rattle.kt_eval.specs.files.Files.{AgreeWith, AnswersGrow, Store};
+ghost use Rattle.kt_eval.specs.files.Files.{AgreeWith, Store};
+ghost use Rattle.kt_eval.specs.views.files.Files.{AnswersGrow};
 ghost use Rattle.kt_ninja.specs.Writable.{IsWritable};
 ghost use Rattle.kati.specs.Devices.{devices};
 ghost use Rattle.kati.specs.AfterRun.{BlamesDevice, Leaves, LeavesOut};

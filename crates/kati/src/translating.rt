@@ -2,16 +2,16 @@
 //! Fast: rules, known names and graph are never given back, since a run translates once and ends. Spares the drop of a
 //! million pieces at 100,000 rules.
 ghost use Rattle.std.specs.Prelude.{◌≡◌, ◌≤◌, List, [], IfErr, IfOk};
-ghost use Rattle.kt_eval.specs.files.Files.{AgreeWith, AnswersGrow, Store};
+ghost use Rattle.kt_eval.specs.files.Files.{AgreeWith, Store};
+ghost use Rattle.kt_eval.specs.views.files.Files.{AnswersGrow};
 ghost use Rattle.kt_text.specs.Words.{Text};
 ghost use Rattle.kt_graph.specs.Known.{known_names};
 ghost use Rattle.kt_graph.specs.faults.Faults.{IsSoundGraph};
 ghost use Rattle.kt_ninja.specs.Writable.{IsWritable};
 ghost use Rattle.kt_list.specs.Prefixes.{IsPrefix};
 ghost use Rattle.kt_eval.specs.reading.Machine.{traced};
-ghost use Rattle.kt_eval.specs.Outcome.{AsksNothing, Ends, Gives};
-ghost use Rattle.kt_eval.specs.Step.{Blames};
-ghost use Rattle.kati.specs.AfterRun.{ReadBlames, Translates};
+ghost use Rattle.kt_eval.specs.views.Outcome.{AsksNothing, Ends, Gives, Blames};
+ghost use Rattle.kati.specs.views.AfterRun.{ReadBlames, Translates};
 ghost use Rattle.kati.specs.Meaning.{names_asked, prepared, wanted_by};
 ghost use Rattle.kati.specs.Sound.{IsSoundPlan};
 ghost use Rattle.kati.specs.inner.plan.Shown.{plan_view};

@@ -4,7 +4,9 @@ use Rattle.kati_args.proofs.Common.{cases_Bool, Text, HasKind, IsAmong, Row, fau
 use Rattle.kati_args.specs.declared.args.Args.{Args}
 use Rattle.kati_args.specs.declared.fault.ArgFault.{ArgFault}
 use Rattle.kati_args.specs.declared.fault.ArgFault.TheVariants.{BadMacro, Help, Memory, Usage}
-use Rattle.kati_args.specs.Args.{AnswersWords, AnswersFound, IsTaken, ReportsError, answer_to, args_in, goals_in, is_bad_macro, kati_app, macros_in, number_in, unless_bad, words_in}
+use Rattle.kati_args.specs.Args.{AnswersWords, AnswersFound, IsTaken, answer_to, args_in, goals_in, is_bad_macro}
+use Rattle.kati_args.specs.Args.{kati_app, macros_in, number_in, unless_bad, words_in}
+use Rattle.kati_args.specs.inner.Faults.{ReportsError}
 
 pub args_are : (rows : List Row) (made : Args) → made.makefile ≡ first_of (codes "makefile") rows → made.files ≡ first_of (codes "files") rows
     → made.check ≡ first_of (codes "check") rows → made.limit ≡ unwrap_or (option_map number_in (first_of (codes "depth") rows)) 100

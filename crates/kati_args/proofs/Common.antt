@@ -15,4 +15,5 @@ pub use Rattle.std.proofs.lemmas.Result.{IfErr-weaker, IfOk-weaker}
 pub use Rattle.std.specs.Borrow.{Bor}
 pub use Rattle.std.specs.List.{All, after_first, list_all, position_or_len, slice_index_or}
 pub use Rattle.std.specs.Str.{bytes_eq, chars}
-pub use Rattle.kati_args.specs.Prelude.{Text, fault_of, is_equals, matches_of, takes, with_rule}
+pub use Rattle.kati_args.specs.Prelude.{Text, is_equals, takes, with_rule}
+pub use Rattle.clap.specs.Words.{fault_of, matches_of}

@@ -2,18 +2,17 @@
 -- clap's.
 use Rattle.std.specs.Prelude.{◌≡◌, ◌≢◌, ℕ, ◌-◌, ◌==◌, ◌&&◌, ◌||◌, ⊤, Bool, true, false, not, List, [], ◌∷◌, map, filter}
 use Rattle.std.specs.Prelude.{find, codes, length, slice_get, Some, None, option_map, unwrap_or, Result, Ok, Err}
-use Rattle.std.specs.Prelude.{string_bytes, Option, String}
-use Rattle.std.specs.declared.alloc.Global.{Global}
+use Rattle.std.specs.Prelude.{string_bytes, Option}
 use Rattle.std.specs.List.{list_any, before_first, after_first}
 use Rattle.std.specs.Option.{option_map_or}
 use Rattle.std.specs.Str.Parse.{digits_value, without_leading_plus}
-use Rattle.kati_args.specs.Prelude.{Text, is_separator, is_equals, new_rule, takes, with_rule, Args, MacroWord, ArgFault}
-use Rattle.clap.specs.Words.{App, IsAmong, Row, Rule, all_of, fault_of, first_of, kind_of, matches_of, new_app}
+use Rattle.kati_args.specs.Prelude.{Text, is_separator, is_equals, new_rule, takes, with_rule, Args, MacroWord}
+use Rattle.kati_args.specs.Prelude.{ArgFault}
+use Rattle.clap.specs.Words.{App, IsAmong, Row, Rule, all_of, fault_of, first_of, matches_of, new_app}
 use Rattle.clap.specs.declared.builder.action.ArgAction.TheVariants.{Append, Set, SetTrue}
 use Rattle.clap.specs.declared.builder.value_parser.ValueParser.TheVariants as parser
 use Rattle.clap.specs.declared.error.kind.ErrorKind.{ErrorKind}
-use Rattle.clap.specs.declared.error.kind.ErrorKind.TheVariants.{DisplayHelp, OutOfMemory}
-use Rattle.clap.specs.declared.error.Error.{Error}
+use Rattle.clap.specs.declared.error.kind.ErrorKind.TheVariants.{DisplayHelp}
 use Rattle.kati_args.specs.declared.fault.ArgFault.TheVariants.{BadMacro, Help, Memory, Usage}
 
 -- ---- the command, as clap has it
@@ -140,18 +139,3 @@ AnswersWords words (Err (Usage text)) =
     × IsAmong kind (fault_of kati_app words))
 AnswersWords words (Err Memory) = ⊤
 AnswersWords words result = IsTaken words × AnswersFound (matches_of kati_app words) result
-
--- what is returned for an error of clap's
-abbrev pub ReportsError : Error → ArgFault → Type 0
-ReportsError error (Help text) = kind_of error ≡ DisplayHelp
-ReportsError error (Usage text) = (kind_of error ≢ OutOfMemory) × (kind_of error ≢ DisplayHelp)
-ReportsError error Memory = ⊤
-ReportsError error (BadMacro word) = ⊥
-
--- what is told of a fault of this kind: the text that was made of it, and want of memory just where none could be made
-abbrev pub TellsFaultText : {E : Type 0} → ErrorKind → Result (String Global) E → ArgFault → Type 0
-TellsFaultText kind (Ok text) (Help told) = (kind ≡ DisplayHelp) × (told ≡ text)
-TellsFaultText kind (Ok text) (Usage told) = (kind ≢ DisplayHelp) × (told ≡ text)
-TellsFaultText kind (Ok text) Memory = ⊥
-TellsFaultText kind (Ok text) (BadMacro word) = ⊥
-TellsFaultText kind (Err fault) told = told ≡ Memory

@@ -1,7 +1,8 @@
 //! From the words to what they ask for.
 ghost use Rattle.std.specs.Prelude.{◌≡◌, ◌≤◌, IfOk, IfSome, codes, map, option_map, string_bytes, unwrap_or};
 ghost use Rattle.clap.specs.Words.{HasKind, IsUnsignedIn, fault_of, first_value, found_of, rows_of};
-ghost use Rattle.kati_args.specs.Args.{AnswersWords, AnswersFound, ReportsError, TellsFaultText, number_in, words_in};
+ghost use Rattle.kati_args.specs.Args.{AnswersWords, AnswersFound, number_in, words_in};
+ghost use Rattle.kati_args.specs.inner.Faults.{ReportsError, TellsFaultText};
 
 use crate::args::Args;
 use crate::fault::ArgFault;

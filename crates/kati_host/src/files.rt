@@ -166,7 +166,7 @@ impl<'a> HostFiles<'a> {
 
 impl<'a> HostFiles<'a> {
     ghost use Rattle.std.specs.Prelude.{◌≡◌, ◌≤◌, ◌++◌, ◌∷◌, [], IfOk, OnErr, option_map, string_bytes};
-    ghost use Rattle.kt_eval.specs.files.Files.{AskedAfter, CountedAfter};
+    ghost use Rattle.kt_eval.specs.views.files.Files.{AskedAfter, CountedAfter};
     ghost use Rattle.kati_host.specs.Seen.{files_seen};
 
     // Notes what came of reading the file of this name, and gives just that, unless the name can't be kept.
@@ -196,7 +196,7 @@ impl<'a> HostFiles<'a> {
     ghost use Rattle.std.specs.Prelude.{◌≡◌, ◌≤◌, ◌++◌, ◌∷◌, [], IfErr, IfOk, IfSome, IsNone, IsSome, OnErr, Some};
     ghost use Rattle.std.specs.Prelude.{option_map, string_bytes};
     ghost use Rattle.std.specs.IoError.{error_kind};
-    ghost use Rattle.kt_eval.specs.files.Files.{AskedAfter, CountedAfter};
+    ghost use Rattle.kt_eval.specs.views.files.Files.{AskedAfter, CountedAfter};
     ghost use Rattle.kati_host.specs.Seen.{files_seen};
 
     // Notes what is found where a file was to be opened, under this name, and gives just that, unless the name can't be

@@ -1,8 +1,8 @@
 -- A list that holds all names that goals may need: those that rules name, and texts of bounded length.
 use Rattle.std.proofs.Common.{arith, ◌≡◌, ◌⊎◌, ◌≤◌, ℕ, Bool, true, false, not, List, [], ◌∷◌, ◌++◌, length, filter, flat_map, Option, Some, None, refl, sym, subst, ⊎_elim, inl, inr, if◌then◌else◌}
 use Rattle.kati.proofs.Common.{Contains, after_last, before_last, last_or, list_any, Contains-append_cases, Contains-append_left, Contains-append_right, none-some, Text, Entry, needs_for, is_among, without_repeats, all_needs, is_suffix_rule, suffixes_of, Candidate, Part, bare_part, double_node, inputs_of, joined_needs, needs_after, node_by, node_of, order_only_of, other_rules, own_part, searched, used_rule, HasInput, first_or_rest, from_flat_map, in_first, in_flat_map, in_rest, chosen_is, Contains-from_map, Contains-none, kept_by_filter, from_without_repeats}
-use Rattle.kt_rules.specs.declared.entry.Target.{Target}
-use Rattle.kt_rules.specs.declared.entry.Needs.{Needs}
+use Rattle.kt_rules.specs.declared.line.entry.Target.{Target}
+use Rattle.kt_rules.specs.declared.line.entry.Needs.{Needs}
 use Rattle.kt_rules.specs.Book.{explicit_rules, has_recipe, is_double, is_made, patterns_of, rules_of, target_rules}
 use Rattle.kt_graph.specs.search.Search.{choice_of}
 use Rattle.kati_laws.proofs.ClosingLemmas.{IsClosed}

@@ -1,8 +1,9 @@
 -- Each run has a meaning: the result of its goals can be decided, since the names that they may need are in a list.
 use Rattle.std.proofs.Common.{arith, ◌≡◌, ◌⊎◌, ℕ, Bool, true, false, List, [], ◌∷◌, ◌++◌, map, filter, find, flat_map, Option, Some, None, refl, sym, ap, subst, ⊎_elim, inl, inr}
 use Rattle.kati.proofs.Common.{Contains, list_any, IsStrictlySortedBy, nat_cmp, slice_cmp, Text, word_set, Entry, IsSoundGraph, trouble_number, trouble_words, is_one_making, Instance, Node, all_inputs, node_of, is_reserved, AreOneMaking, ComesFirst, HasEdge, HasInput, IsCyclic, IsFirst, IsGraph, IsInGroup, IsReached, Leads, Reaches, Trouble, beside, itself, circular, no_rule, one_file, reserved_name, unmade_goal, first_or_rest, from_flat_map, in_first, in_flat_map, in_rest, reached_on, node_name, comes_first, file_trouble, in_filter, kept_by_filter, is_reserved_there, none_below, group_cases, Trace, traced, Gave, StepEnd, Stopped, fault_at, Meaning, MeansAfter, MeansGoals, WantedGoals, meaning_of, prepared, planned}
-use Rattle.kt_text.proofs.SortLemmas.{word_set-sorts}
-use Rattle.kt_graph.specs.inner.faults.Files.{is_repeated, made_names}
+use Rattle.kt_text.proofs.lemmas.SortLemmas.{word_set-sorts}
+use Rattle.kt_graph.specs.views.faults.Files.{is_repeated}
+use Rattle.kt_graph.specs.views.nodes.Groups.{made_names}
 use Rattle.kt_graph.proofs.lemmas.nodes.GroupLemmas.{one_itself}
 use Rattle.kt_graph.proofs.lemmas.nodes.ReachLemmas.{goal_reached, leads_on}
 use Rattle.kati_laws.specs.Once.{HasAMeaning}

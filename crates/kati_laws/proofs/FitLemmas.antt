@@ -1,7 +1,7 @@
 -- What pattern rules make of names: texts of bounded length, of the symbols that are there.
 use Rattle.std.proofs.Common.{◌≡◌, ◌⊎◌, ◌≤◌, ◌<◌, ◌+◌, ◌-◌, ◌==◌, ◌&&◌, ℕ, zero, suc, Bool, true, false, not, List, [], ◌∷◌, ◌++◌, length, map, flat_map, take, drop, Option, Some, None, refl, sym, ap, subst, ⊎_elim, arith, if◌then◌else◌, fold, nat_le, option_map, filter_map}
 use Rattle.kati.proofs.Common.{Contains, slice_range, option_and_then, option_to_list, leb-true, take-append-drop, Contains-append_cases, Contains-append_left, Contains-append_right, none-some, same_Some, Text, name_part, with_stem, Entry, after_dots, without_dots, all_needs, Candidate, are_short, candidate_by, candidate_of, candidates_for, directory_with_slash, fit_of, has_slash, left_out, matched_part, matching_from, needed_name, needed_names, nonempty, shorter, shortest, size_of, spelled_out, stem_of, unless_long, without_any, first_or_rest, from_flat_map, in_first, in_flat_map, in_rest, Contains-from_map, Contains-map, Contains-none, each_passes, Contains-from_filter_map}
-use Rattle.kt_rules.specs.declared.entry.Target.{Target}
+use Rattle.kt_rules.specs.declared.line.entry.Target.{Target}
 use Rattle.kt_text.specs.Match.{has_percent, pattern_back, pattern_front}
 use Rattle.kt_graph.proofs.lemmas.search.GrowthLemmas.{from_by_size}
 use Rattle.kt_graph.proofs.lemmas.nodes.MadeLemmas.{from_without_any, in_option}

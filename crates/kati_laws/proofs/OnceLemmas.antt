@@ -8,7 +8,7 @@ use Rattle.std.proofs.lemmas.Map.Lookups.{exact_bytes}
 use Rattle.kati_laws.specs.Once.{HasOneMeaning}
 use Rattle.kati.specs.Steps.{telling}
 use Rattle.kati.proofs.lemmas.plan.PlanLemmas.{name_in, not_less, order}
-use Rattle.kt_text.proofs.SortLemmas.{never_both}
+use Rattle.kt_text.proofs.lemmas.SortLemmas.{never_both}
 
 -- ---- names in order
 

@@ -1,6 +1,7 @@
 -- Worked command lines, as facts that compute. The forms of options are those of clap.
 use Rattle.std.specs.Prelude.{◌≡◌, ⊤, List, [], ◌∷◌, Option, Some, None, Result, Ok, Err, if◌then◌else◌, codes}
-use Rattle.kati_args.specs.Prelude.{Text, fault_of, matches_of, takes}
+use Rattle.kati_args.specs.Prelude.{Text, takes}
+use Rattle.clap.specs.Words.{fault_of, matches_of}
 use Rattle.kati_args.specs.declared.args.Args.{Args}
 use Rattle.kati_args.specs.declared.args.MacroWord.{MacroWord}
 use Rattle.kati_args.specs.declared.fault.ArgFault.{ArgFault}

@@ -1,10 +1,8 @@
 //! Laws of the meaning. These functions do nothing: only their contracts matter.
 ghost use Rattle.kati_laws.specs.Meaning.{NamesAreAsked};
-ghost use Rattle.kati.specs.Exact.{PlansAreGraphs};
+ghost use Rattle.kati.specs.views.Plans.{PlansAreGraphs, PlansReadBack, PlansAreSound};
 ghost use Rattle.kati_laws.specs.Names.{LinesTellNames};
 ghost use Rattle.kati_laws.specs.Once.{HasAMeaning, HasOneMeaning};
-ghost use Rattle.kati.specs.Once.{PlansReadBack};
-ghost use Rattle.kati.specs.Sound.{PlansAreSound};
 
 /// A run has a meaning, whatever its arguments are and its files hold, so a law of meanings is never about nothing.
 pub fn has_a_meaning()

@@ -1,9 +1,10 @@
 //! What calls over files in memory mean. What they answer agrees with what they hold, so the clauses that speak of each
 //! store that agrees with the answers speak of theirs.
 ghost use Rattle.std.specs.Prelude.{IfOk};
-ghost use Rattle.kt_eval.specs.files.Memory.{seen_of};
-ghost use Rattle.kt_ninja.specs.Memory.{sink_seen_of};
-ghost use Rattle.kati.specs.AfterRun.{Leaves, Translates};
+ghost use Rattle.kt_eval.specs.views.files.Memory.{seen_of};
+ghost use Rattle.kt_ninja.specs.views.Memory.{sink_seen_of};
+ghost use Rattle.kati.specs.AfterRun.{Leaves};
+ghost use Rattle.kati.specs.views.AfterRun.{Translates};
 ghost use Rattle.kati.specs.Devices.{devices};
 
 use kati::{Args, Outcome, RunFault, Status, run, translate};

@@ -1,10 +1,11 @@
 -- The names that most proofs cite, passed on from one place. Declares nothing.
 unfoldable pub use Rattle.bstr.proofs.Computing.{computing}
-pub use Rattle.kt_eval.specs.Outcome.{Fails, IfCutBy, done, then_do}
+pub use Rattle.kt_eval.specs.views.Outcome.{Fails, IfCutBy, BlamesBy}
+pub use Rattle.kt_eval.specs.Outcome.{done, then_do}
 pub use Rattle.kt_eval.specs.State.{newer}
 unfoldable pub use Rattle.kt_eval.specs.State.{innermost_value, lookup, seen}
-pub use Rattle.kt_eval.specs.Step.{BlamesBy, Trail, asked_for, one_of, told, trail}
-unfoldable pub use Rattle.kt_eval.specs.Step.{astray}
+pub use Rattle.kt_eval.specs.inner.Evaluation.{Trail, asked_for, one_of, told, trail}
+unfoldable pub use Rattle.kt_eval.specs.inner.Evaluation.{astray}
 pub use Rattle.kt_eval.specs.declared.reading.page.Source.{Source}
 pub use Rattle.kt_eval.specs.declared.reading.page.Source.TheVariants.{File, Held}
 pub use Rattle.kt_eval.specs.declared.state.Frame.{Frame}
@@ -15,13 +16,14 @@ unfoldable pub use Rattle.kt_eval.specs.expanding.Calls.{arguments_from, argumen
 pub use Rattle.kt_eval.specs.expanding.Expansion.{Evaluator, accepted, apply_other, flavoured, too_deep}
 unfoldable pub use Rattle.kt_eval.specs.expanding.Expansion.{apply, apply_and, apply_call, apply_error, apply_eval, apply_foreach, apply_if, apply_info, apply_or, apply_text, apply_value, apply_warning, body_of, call_by_name, called, each_argument, each_term, each_word, expanded, referred, term_of, value_named, value_of}
 unfoldable pub use Rattle.kt_eval.specs.expanding.Levels.{above, evaluator, none_left}
-pub use Rattle.kt_eval.specs.files.Files.{absent, same_found}
+pub use Rattle.kt_eval.specs.inner.Answers.{absent}
+pub use Rattle.kt_eval.specs.files.Files.{same_found}
 unfoldable pub use Rattle.kt_eval.specs.files.Files.{differing}
 unfoldable pub use Rattle.kt_eval.specs.macros.Macros.{assigning, find, put, with_dollars_doubled}
 pub use Rattle.kt_eval.specs.reading.Reading.{Page, RawLine, at_line, body_at, largest_file, raw_line, read_included, read_or, read_tab_in, read_without_nul, sheet_of}
 unfoldable pub use Rattle.kt_eval.specs.reading.Reading.{at_number, branch_holds, included, late_else, line_at, read_bare_tab, read_branches, read_bytes, read_define, read_end, read_file, read_first, read_held, read_include, read_items, read_kind, read_line, read_sheet, read_stray, read_tab, read_text}
 unfoldable pub use Rattle.kt_list.specs.Prefixes.{last}
-pub use Rattle.kt_syntax.proofs.Closing.{Closes, after-close, after-open, after-other, closes-close, closes-open, closes-other, count_nil, count_no, count_yes}
+pub use Rattle.kt_syntax.proofs.lemmas.Closing.{Closes, after-close, after-open, after-other, closes-close, closes-open, closes-other, count_nil, count_no, count_yes}
 pub use Rattle.kt_syntax.specs.Blocks.{Branches, Items, branch, conditional, definition, fault, late, line, no_branch, none, tree_of}
 unfoldable pub use Rattle.kt_syntax.specs.Blocks.{levels_from}
 unfoldable pub use Rattle.kt_syntax.specs.Comments.{uncommented, uncommented_of}
@@ -29,13 +31,15 @@ pub use Rattle.kt_syntax.specs.Heads.{RuleParts, line_parts}
 unfoldable pub use Rattle.kt_syntax.specs.Heads.{after_modifier, after_modifiers, colon_place, head_end, is_modifier, is_target_specific, rule_texts}
 pub use Rattle.kt_syntax.specs.Kinds.{blank, line_form, refused, rule}
 unfoldable pub use Rattle.kt_syntax.specs.Kinds.{assignment_parts, before_comment, block_word, directive_of, form_of, include_word, is_refused_word, kind_within, name_end, operator_of, worded}
-pub use Rattle.kt_syntax.specs.Reading.{IsAhead, IsConditional, ReadsOn, after_branches, append}
-unfoldable pub use Rattle.kt_syntax.specs.Reading.{AreTried, left_at}
+pub use Rattle.kt_syntax.specs.views.Reading.{IsAhead, IsConditional, ReadsOn, after_branches, append}
+unfoldable pub use Rattle.kt_syntax.specs.views.Reading.{AreTried, left_at}
 unfoldable pub use Rattle.kt_syntax.specs.Recipes.{joint_of, recipe_lines, recipe_of, spliced_line}
 pub use Rattle.kt_syntax.specs.Roles.{line_text}
 unfoldable pub use Rattle.kt_syntax.specs.Roles.{first_word, role_by_word, role_of, starts_condition}
-pub use Rattle.kt_syntax.specs.Terms.{dropped, token_of}
-unfoldable pub use Rattle.kt_syntax.specs.Terms.{after_dollar, byte_count, closing, first_term, terms_after, terms_of}
+pub use Rattle.kt_syntax.specs.Terms.{dropped}
+pub use Rattle.kt_syntax.specs.views.Terms.{token_of, IsBalanced}
+unfoldable pub use Rattle.kt_syntax.specs.Terms.{after_dollar, closing, first_term, terms_after, terms_of}
+unfoldable pub use Rattle.kt_syntax.specs.views.Terms.{byte_count}
 pub use Rattle.kt_syntax.specs.declared.form.Directive.{Directive}
 pub use Rattle.kt_syntax.specs.declared.form.Operator.{Operator}
 pub use Rattle.kt_syntax.specs.declared.part.Missing.{Missing}
@@ -54,7 +58,14 @@ pub use Rattle.std.proofs.lemmas.Slice.Eq.{bytes_eq-Decides}
 unfoldable pub use Rattle.std.specs.Fmt.{digits}
 pub use Rattle.std.specs.List.{after_first, before_first, onto_first, position_or_len}
 pub use Rattle.std.specs.Str.{IsUtf8, bytes_eq, is_utf8}
-pub use Rattle.kt_eval.specs.Prelude.{AgreeWith, All, Answer, AnswersGrow, AsksNothing, Assigning, Braces, Byte, Contains, Deferred, Entry, Fault, Flavour, Form, FoundValue, Function, Gave, Gives, GoesOn, IfCut, Immediate, IsBalanced, IsPrefix, Keeps, Macro, Macros, Mark, Parentheses, Step, StepEnd, Stop, Stopped, Store, Term, Text, World, [], arity, assignment, bind, defers, directive, dollar, escapes, expands, fault_at, found_of, frozen_world, join_with_byte, keeps, leaving, left_of, list_all, list_any, literal, look, message_place, plain_of, reference, rule_of, say, set_by_makefile, set_rule, slice_get, slice_range, stop, stripped, text_function_name, unbind, unclosed}
+pub use Rattle.kt_eval.specs.files.Files.{AgreeWith, Answer}
+pub use Rattle.std.specs.List.{All, Contains, list_all}
+pub use Rattle.kt_eval.specs.views.files.Files.{AnswersGrow}
+pub use Rattle.kt_eval.specs.views.Prelude.{AsksNothing, Gave, Gives, IfCut, IsPrefix, StepEnd, Stop, Stopped, fault_at, left_of}
+pub use Rattle.kt_eval.specs.inner.Prelude.{Assigning, GoesOn, Keeps, defers, escapes, expands, keeps}
+pub use Rattle.kt_eval.specs.Prelude.{Braces, Byte, Deferred, Entry, Fault, Flavour, Form, FoundValue, Function, Immediate, Macro, Macros, Mark, Parentheses, Step, Store, Term, Text, World, [], arity, assignment, bind, directive, dollar, frozen_world, join_with_byte, leaving, list_any, literal, look, message_place, plain_of, reference, rule_of, say, set_rule, slice_get, slice_range, stop, stripped, text_function_name, unbind, unclosed}
+pub use Rattle.kt_eval.specs.State.{found_of}
+pub use Rattle.kt_eval.specs.macros.Macros.{set_by_makefile}
 unfoldable pub use Rattle.kt_eval.specs.files.Including.{each_include, include_line}
 unfoldable pub use Rattle.kt_eval.specs.macros.Assignments.{assign_line, assign_named, body_text}
 unfoldable pub use Rattle.kt_eval.specs.reading.Conditionals.{are_equal, else_holds, is_defined}

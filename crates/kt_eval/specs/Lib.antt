@@ -1,6 +1,5 @@
 pub mod Prelude
 pub mod files
-pub mod Values
 pub mod macros
 pub mod State
 pub mod Outcome
@@ -8,5 +7,5 @@ pub mod Step
 pub mod expanding
 pub mod reading
 pub mod Faults
-pub mod Growing
+pub mod views
 pub mod inner

@@ -1,5 +1,4 @@
--- What files hold, what reads answer and change, and the stores that agree with the answers (`Agreement`). `Including`
--- defines which names an include asks for.
+-- What files hold, what is seen of reads, and the stores that agree with the answers (`AgreeWith`). `Including` defines
+-- which names an include asks for.
 pub mod Files
-pub mod Memory
 pub mod Including

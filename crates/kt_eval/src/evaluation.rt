@@ -1,6 +1,6 @@
 //! An evaluation in progress: what it knows, and the small steps that change it.
 ghost use Rattle.std.specs.Prelude.{◌≡◌, ◌++◌, IfOk, OnErr, OnOk, None, drop, option_map, true};
-ghost use Rattle.kt_syntax.specs.Terms.{token_of};
+ghost use Rattle.kt_syntax.specs.views.Terms.{token_of};
 ghost use Rattle.kt_eval.specs.State.{lookup};
 ghost use Rattle.kt_eval.specs.inner.Plain.{left_by, put_by, put_of, still_deferred};
 
@@ -39,7 +39,7 @@ pub(crate) struct Evaluation<'a, M: MacroScope, F: Files> {
 }
 
 impl<'a, M: MacroScope, F: Files> Model for Evaluation<'a, M, F> {
-    ghost use Rattle.kt_eval.specs.Step.{Evaluation};
+    ghost use Rattle.kt_eval.specs.inner.Evaluation.{Evaluation};
 
     ghost Value = { Evaluation };
 
@@ -63,10 +63,11 @@ impl<'a, M: MacroScope, F: Files> Model for Evaluation<'a, M, F> {
 impl<'a, M: MacroScope, F: Files> Evaluation<'a, M, F> {
     ghost use Rattle.std.specs.Prelude.{Option, List, ℕ};
     ghost use Rattle.kt_text.specs.Words.{Text};
-    ghost use Rattle.kt_text.specs.Functions.{Answers};
+    ghost use Rattle.kt_text.specs.views.Functions.{Answers};
     ghost use Rattle.kt_eval.specs.expanding.Expansion.{accepted, bad_argument};
-    ghost use Rattle.kt_eval.specs.Outcome.{Gives, IfCut, left_of};
-    ghost use Rattle.kt_eval.specs.Step.{Blames, GoesOn, files_of};
+    ghost use Rattle.kt_eval.specs.views.Outcome.{Gives, IfCut, Blames};
+    ghost use Rattle.kt_eval.specs.Outcome.{left_of};
+    ghost use Rattle.kt_eval.specs.inner.Evaluation.{GoesOn, files_of};
     ghost use Rattle.kt_eval.specs.State.{bind, unbind, say, warn, message_place};
     ghost use Rattle.kt_eval.specs.Step.{fault_of};
 
@@ -228,8 +229,9 @@ impl<'a, M: MacroScope, F: Files> Evaluation<'a, M, F> {
     ghost use Rattle.kt_syntax.specs.Recipes.{recipe_of};
     ghost use Rattle.kt_eval.specs.reading.Rules.{close_rule, enter_rule, open_rule, recipe_line, rule_place};
     ghost use Rattle.kt_eval.specs.State.{move_to, set_macro, set_rule};
-    ghost use Rattle.kt_eval.specs.Outcome.{Gives, IfCut, left_of};
-    ghost use Rattle.kt_eval.specs.Step.{Blames, GoesOn, Keeps, files_of};
+    ghost use Rattle.kt_eval.specs.views.Outcome.{Gives, IfCut, Blames};
+    ghost use Rattle.kt_eval.specs.Outcome.{left_of};
+    ghost use Rattle.kt_eval.specs.inner.Evaluation.{GoesOn, Keeps, files_of};
     ghost use Rattle.kt_eval.specs.files.Files.{AgreeWith, Store};
     ghost use Rattle.kt_eval.specs.macros.Macros.{assigning, find, set_by_makefile};
     ghost use Rattle.std.specs.Cow.{cow_slice_items};

@@ -1,6 +1,6 @@
 //! Faults of makefiles.
 ghost use Rattle.std.specs.Prelude.{◌≡◌, ◌++◌, IfOk, OnErr, OnOk};
-ghost use Rattle.kt_text.specs.Begun.{HasBegun};
+ghost use Rattle.kt_text.specs.views.Begun.{HasBegun};
 ghost use Rattle.kt_eval.specs.Faults.{fault_line, two_digits};
 ghost use Rattle.kt_eval.specs.State.{message_place};
 ghost use Rattle.kt_eval.specs.Step.{fault_of};

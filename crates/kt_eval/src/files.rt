@@ -3,7 +3,8 @@
 //! Takes a name, and returns the bytes of the file, or that there is none, or that its device failed. The names that
 //! were asked for and the number of failures can be read at any time.
 ghost use Rattle.std.specs.Prelude.{◌≡◌, ◌∷◌, ◌++◌, [], option_map, map, string_bytes, IfOk, OnErr, ◌≤◌};
-ghost use Rattle.kt_eval.specs.files.Files.{AskedAfter, CountedAfter, FilesSeen};
+ghost use Rattle.kt_eval.specs.views.files.Files.{AskedAfter, CountedAfter};
+ghost use Rattle.kt_eval.specs.files.Files.{FilesSeen};
 
 mod including;
 mod memory;

@@ -6,7 +6,7 @@ ghost use Rattle.kt_eval.specs.declared.expanding.function.Function.{Function};
 ghost use Rattle.kt_eval.specs.declared.reading.page.Source.{Source};
 ghost use Rattle.kt_eval.specs.expanding.Expansion.{apply, expanded};
 ghost use Rattle.kt_eval.specs.files.Files.{Store};
-ghost use Rattle.kt_eval.specs.Growing.{StaysOneDeeper};
+ghost use Rattle.kt_eval.specs.views.Growing.{StaysOneDeeper};
 ghost use Rattle.kt_eval.specs.expanding.Levels.{evaluator};
 ghost use Rattle.kt_eval.specs.reading.Reading.{Page, read_first, read_items, read_text};
 

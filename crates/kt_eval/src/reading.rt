@@ -3,9 +3,10 @@
 //! Takes the bytes of a makefile. Each line does what its kind says: it assigns, opens a rule, continues a recipe,
 //! includes a file, or chooses a branch. Returns macros, rules and messages, or the first fault.
 ghost use Rattle.std.specs.Prelude.{◌≡◌, length, option_map, IfOk, Some, false, true};
-ghost use Rattle.kt_syntax.specs.Kinds.{line_form, line_form_view};
+ghost use Rattle.kt_syntax.specs.Kinds.{line_form};
+ghost use Rattle.kt_syntax.specs.views.Lines.{line_form_view};
 ghost use Rattle.kt_syntax.specs.Blocks.{tree_of};
-ghost use Rattle.kt_syntax.specs.Reading.{IsAhead, IsConditional};
+ghost use Rattle.kt_syntax.specs.views.Reading.{IsAhead, IsConditional};
 ghost use Rattle.kt_syntax.specs.declared.step.BlockStep.TheVariants as step;
 ghost use Rattle.kt_eval.specs.reading.Reading.{branch_holds, read_bare_tab, read_define, read_end, read_held};
 ghost use Rattle.kt_eval.specs.reading.Reading.{read_include, read_items, read_kind, read_line, read_sheet, read_stray};

@@ -1,6 +1,6 @@
 //! Why the reading of a makefile stops.
 ghost use Rattle.std.specs.Prelude.{◌≡◌};
-ghost use Rattle.kt_eval.specs.inner.Views.{rule_stop};
+ghost use Rattle.kt_eval.specs.views.Outcome.{rule_stop};
 ghost use Rattle.kt_eval.specs.declared.stop.Stop.TheVariants.{Memory};
 
 use crate::fault::Fault;

@@ -26,7 +26,7 @@ enum ValueStorage {
 
 impl Model for Value {
     ghost use Rattle.std.specs.Prelude.{ℕ, List};
-    ghost use Rattle.kt_eval.specs.Values.{stored_value};
+    ghost use Rattle.kt_eval.specs.inner.Values.{stored_value};
 
     ghost Value = { List ℕ };
 

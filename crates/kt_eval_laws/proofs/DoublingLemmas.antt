@@ -2,7 +2,7 @@
 use Rattle.std.proofs.Common.{arith, ◌≡◌, ◌==◌, ℕ, suc, Bool, true, false, [], ◌∷◌, ◌++◌, Some, take, refl, sym, ap, subst, ◌∙◌, append_assoc, append-nil, ⊎_elim}
 use Rattle.kt_eval.proofs.Common.{cases_Bool, eqb-true, Text, dropped, terms_of, terms_after, first_term, after_dollar, set_by_makefile, with_dollars_doubled, Store, World, found_of, StepEnd, Gave, Evaluator, value_of, term_of, each_term, expanded, above, evaluator}
 use Rattle.kt_eval.specs.declared.macros.Flavour.TheVariants.{Deferred}
-use Rattle.kt_syntax.proofs.Runs.{run, run-no}
+use Rattle.kt_syntax.proofs.lemmas.Runs.{run, run-no}
 
 -- the expansion of what comes after a given number of bytes, whose expansion is known
 pub after : Evaluator → World → Text → ℕ → Text → StepEnd World Text

@@ -4,7 +4,7 @@ use Rattle.std.proofs.Common.{ℕ, suc, Bool, List}
 use Rattle.kt_eval.proofs.Common.{Text, Items, Store, apply, Page, read_items, read_text, read_first, evaluator}
 use Rattle.kt_eval.specs.declared.expanding.function.Function.{Function}
 use Rattle.kt_eval.specs.declared.reading.page.Source.{Source}
-use Rattle.kt_eval.specs.Growing.{TakesNothingBack}
+use Rattle.kt_eval.specs.views.Growing.{TakesNothingBack}
 use Rattle.kt_eval.proofs.lemmas.GrowingLemmas.{apply_related}
 use Rattle.kt_eval.proofs.lemmas.GrowingReads.{read_items_related, read_text_related, read_first_related, one_more_level}
 

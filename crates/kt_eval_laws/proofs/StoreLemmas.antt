@@ -2,7 +2,7 @@
 use Rattle.std.proofs.Common.{get_or, suc, ◌≡◌, ◌∙◌, ◌≤◌, ℕ, ap, sym, refl, arith, inl, inr, ◌⊎◌, List, [], ◌∷◌, ◌++◌, Bool, true, false, Option, Some, None, if◌then◌else◌}
 use Rattle.kt_eval.proofs.Common.{All-cons, All-contains, All-nil, Contains-get_or, Contains-append_cases, Contains-append_right, Contains-append_left, Contains-push, Contains-push_cases, bytes_eq-Decides, Contains, bytes_eq, AgreeWith, Answer, AnswersGrow, Store, differing, look, same_found}
 use Rattle.kt_eval_laws.specs.Agreement.{AreSteady, HoldsEach, store_of, with_found}
-use Rattle.kt_eval.specs.files.Memory.{MemFiles, answers_from, seen_of}
+use Rattle.kt_eval.specs.views.files.Memory.{MemFiles, answers_from, seen_of}
 use Rattle.kt_eval.proofs.lemmas.AgreementLemmas.{held_by, off}
 
 grown : (store : Store) (old added : List Answer) → differing store old ≤ differing store (old ++ added)

@@ -1,7 +1,10 @@
 -- What it says that a store agrees with answers, and for which answers there is such a store.
 use Rattle.std.specs.Prelude.{◌≡◌, ℕ, List, [], ◌∷◌, ◌++◌, Option, Some, None}
-use Rattle.kt_eval.specs.Prelude.{All, Contains, AgreeWith, Answer, AnswersGrow, Store, look}
-use Rattle.kt_eval.specs.files.Memory.{MemFiles, seen_of}
+use Rattle.std.specs.List.{All, Contains}
+use Rattle.kt_eval.specs.files.Files.{AgreeWith, Answer}
+use Rattle.kt_eval.specs.views.files.Files.{AnswersGrow}
+use Rattle.kt_eval.specs.Prelude.{Store, look}
+use Rattle.kt_eval.specs.views.files.Memory.{MemFiles, seen_of}
 
 -- a store holds what was answered, each time
 abbrev pub HoldsEach : Store → List Answer → Type 0

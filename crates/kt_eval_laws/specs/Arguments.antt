@@ -1,6 +1,8 @@
 -- How the arguments of a call are cut (GNU make manual, "Function Call Syntax").
 use Rattle.std.specs.Prelude.{◌≡◌, ℕ, ◌-◌, ◌<◌, ◌≤◌, List, ◌∷◌, ◌++◌, length, take, drop, Option, Some, None}
-use Rattle.kt_eval.specs.Prelude.{All, join_with_byte, Text, byte_count, IsBalanced}
+use Rattle.std.specs.List.{All}
+use Rattle.kt_eval.specs.Prelude.{join_with_byte, Text}
+use Rattle.kt_syntax.specs.views.Terms.{byte_count, IsBalanced}
 use Rattle.kt_syntax.specs.declared.term.Mark.{Mark}
 use Rattle.kt_eval.specs.expanding.Calls.{opener, closer, arguments_of}
 

@@ -1,7 +1,8 @@
 -- Where the texts of `ifeq (a,b)` are cut, as a relation between a text and a place of it (GNU make manual, "Syntax of
 -- Conditionals"; that only parentheses count, as they stand in the file, is kati's own).
 use Rattle.std.specs.Prelude.{◌≡◌, ℕ, ◌<◌, length, take, slice_index, MatchOption}
-use Rattle.kt_eval.specs.Prelude.{Text, IsBalanced}
+use Rattle.kt_eval.specs.Prelude.{Text}
+use Rattle.kt_syntax.specs.views.Terms.{IsBalanced}
 use Rattle.kt_eval.specs.reading.Conditions.{bare_place}
 
 -- the byte is at the place, and each parenthesis before it is closed before it

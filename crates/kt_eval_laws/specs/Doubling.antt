@@ -1,6 +1,9 @@
 -- What a text with each dollar doubled expands to (POSIX.1-2024 make, "Macros": `:::=`).
 use Rattle.std.specs.Prelude.{◌≡◌, ℕ, suc, Bool, Some}
-use Rattle.kt_eval.specs.Prelude.{Text, Store, set_by_makefile, with_dollars_doubled, World, found_of, Gave}
+use Rattle.kt_eval.specs.Prelude.{Text, Store, World}
+use Rattle.kt_eval.specs.macros.Macros.{set_by_makefile, with_dollars_doubled}
+use Rattle.kt_eval.specs.State.{found_of}
+use Rattle.kt_eval.specs.Outcome.{Gave}
 use Rattle.kt_eval.specs.declared.macros.Flavour.TheVariants.{Deferred}
 use Rattle.kt_eval.specs.expanding.Expansion.{value_of, expanded}
 use Rattle.kt_eval.specs.expanding.Levels.{evaluator}

@@ -1,7 +1,10 @@
 -- Worked values of expansion, as facts that compute. The texts are of the GNU make manual's sections on variables and
 -- functions, and of kati's own rules where it has some.
 use Rattle.std.specs.Prelude.{◌≡◌, ℕ, List, [], ◌∷◌, Option, Some, None, codes}
-use Rattle.kt_eval.specs.Prelude.{Text, Macros, assigning, keeps, defers, expands, set_by_makefile, StepEnd, Gave, Stopped, fault_at, Store}
+use Rattle.kt_eval.specs.Prelude.{Text, Macros, Store}
+use Rattle.kt_eval.specs.macros.Macros.{assigning, keeps, defers, expands, set_by_makefile}
+use Rattle.kt_eval.specs.Outcome.{StepEnd, Gave, Stopped}
+use Rattle.kt_eval.specs.Step.{fault_at}
 use Rattle.kt_rules.specs.declared.place.Place.{Place}
 use Rattle.kt_eval.specs.declared.fault.Fault.{Fault}
 use Rattle.kt_eval.specs.declared.macros.Flavour.TheVariants.{Deferred, Immediate}

@@ -10,7 +10,7 @@ ghost use Rattle.kt_eval_laws.specs.Doubling.{DoublingLaw};
 ghost use Rattle.kt_eval.specs.expanding.Expansion.{apply, expanded};
 ghost use Rattle.kt_eval_laws.specs.Agreement.{AddedGrow, AgreeingAreSteady, AgreeingHolds, HoldingAgrees, MemoryAgrees, SteadyAgree};
 ghost use Rattle.kt_eval.specs.files.Files.{Store};
-ghost use Rattle.kt_eval.specs.Growing.{TakesNothingBack};
+ghost use Rattle.kt_eval.specs.views.Growing.{TakesNothingBack};
 ghost use Rattle.kt_eval.specs.expanding.Levels.{evaluator};
 ghost use Rattle.kt_eval.specs.reading.Reading.{Page, read_first, read_items, read_text};
 ghost use Rattle.kt_eval_laws.specs.Rows.{RowsOfAssignments, RowsOfCalls, RowsOfReading, RowsOfReferences};

@@ -3,7 +3,8 @@ pub use Rattle.indexmap.proofs.CallerLemmas.{Contains-insert_key, Contains-list_
 pub use Rattle.indexmap.specs.IndexSet.{insert_key}
 pub use Rattle.kt_graph.specs.Known.{named_by, named_with, unknown_of}
 unfoldable pub use Rattle.kt_graph.specs.Known.{known_names, listed_names}
-pub use Rattle.kt_graph.specs.Reach.{AreOneMaking, ComesFirst, HasEdge, HasInput, HasMadeInputs, IsCyclic, IsDoubled, IsFirst, IsGraph, IsInGroup, IsMade, IsReached, IsReserved, Leads, Reaches, Trouble, beside, circular, is_unmade, itself, no_rule, one_file, reserved_name, unmade_goal}
+pub use Rattle.kt_graph.specs.Reach.{AreOneMaking, ComesFirst, HasEdge, HasInput, IsCyclic, IsDoubled, IsFirst, IsGraph, IsInGroup, IsMade, IsReached, IsReserved, Leads, Reaches, Trouble, beside, circular, is_unmade, itself, no_rule, one_file, reserved_name, unmade_goal}
+pub use Rattle.kt_graph.specs.views.Reach.{HasMadeInputs}
 pub use Rattle.kt_graph.specs.declared.faults.edges.Edges.{Edges}
 pub use Rattle.kt_graph.specs.declared.nodes.byte_order.Front.{Front}
 pub use Rattle.kt_graph.specs.declared.nodes.graph_builder.GraphBuilder.{GraphBuilder}
@@ -15,11 +16,16 @@ pub use Rattle.kt_graph.specs.declared.nodes.part.NumberedPart.{NumberedPart}
 pub use Rattle.kt_graph.specs.declared.nodes.stored.HeldPart.{HeldPart}
 pub use Rattle.kt_graph.specs.declared.search.ends.TargetEnds.{TargetEnds}
 pub use Rattle.kt_graph.specs.declared.search.tried.TriedQuestions.{TriedQuestions}
-pub use Rattle.kt_graph.specs.faults.Paths.{above_name, ends_in_name, is_idle, is_reserved, is_rooted, step_up, with_part}
+pub use Rattle.kt_graph.specs.faults.Paths.{above_name, is_idle, is_reserved, is_rooted, step_up, with_part}
+pub use Rattle.kt_graph.specs.inner.faults.Files.{ends_in_name, HasFiles, held_for, several_in}
+pub use Rattle.kt_graph.specs.inner.nodes.Graph.{AreDistinct, IsByteOrder}
 unfoldable pub use Rattle.kt_graph.specs.faults.Paths.{canon_of, components_of}
 pub use Rattle.kt_graph.specs.inner.faults.Arrivals.{AreCounted, IsLeftIn, LeavesCircular, arrivals_at, is_left, next_of_all, next_of_left, with_arrival, without_arrival}
-pub use Rattle.kt_graph.specs.inner.faults.Edges.{AreEdgesOf, AreMadeBelow, AreNeededBelow, AreReversed, HasNext, HaveEdges, HoldsCircular, IsDoneWith, IsEdge, IsFirstBack, IsRepeated, LeadToVertices, LeadsBack, LeadsOn, LeadsTo, Searches, Visits, bare_rows, count_held, edge_row, edge_rows, edges_from, edges_to, holds_in, listed_number, making_edges, makings_edges, needed_numbers, next_of, numbers_after, row_by, rows_held, vertex_count, with_edge, with_edges, work_with}
-pub use Rattle.kt_graph.specs.inner.faults.Files.{AreDistinct, HasFiles, IsByteOrder, held_for, is_repeated, made_names, several_in}
+pub use Rattle.kt_graph.specs.inner.faults.Edges.{AreEdgesOf, AreMadeBelow, AreNeededBelow, AreReversed, HasNext, HaveEdges, HoldsCircular, IsDoneWith, IsEdge, IsFirstBack, IsRepeated, LeadToVertices, LeadsBack, LeadsOn, LeadsTo, Searches, Visits, count_held, edge_row, edge_rows, holds_in, listed_number, making_edges, makings_edges, next_of, numbers_after, row_by, vertex_count, work_with}
+pub use Rattle.kt_graph.specs.inner.nodes.Stored.{needed_numbers}
+pub use Rattle.kt_graph.specs.inner.nodes.Buckets.{bare_rows, edges_from, edges_to, rows_held, with_edge, with_edges}
+pub use Rattle.kt_graph.specs.views.faults.Files.{is_repeated}
+pub use Rattle.kt_graph.specs.views.nodes.Groups.{made_names}
 pub use Rattle.kt_graph.specs.inner.nodes.GraphBuilder.{AllSay, AreOf, AreTold, BuildsNode, HasLastNeeds, IsBegun, IsCut, IsDone, IsLeafOf, IsLikeLast, IsOver, ReachesMore, leaf_stored, sole_node}
 pub use Rattle.kt_graph.specs.inner.nodes.Inputs.{HasOwnInputs, inputs_held, numbers_without, others_held, with_input_number}
 unfoldable pub use Rattle.kt_graph.specs.inner.nodes.Inputs.{differ, rise, rise_after, rise_but_first}
@@ -30,30 +36,33 @@ pub use Rattle.kt_graph.specs.inner.nodes.Stored.{AreRowsOf, AreStored, Grew, Ha
 pub use Rattle.kt_graph.specs.inner.search.Ends.{AreAllNoted, AreNoted, HasAll, IsFixedEnd, IsNoted, KeepsNoted, NotesAll, NotesEnd, candidate_numbered, candidates_numbered, numbers_at}
 pub use Rattle.kt_graph.specs.nodes.Node.{bare_part, chosen_rule, double_node, explicit_node, implicit_node, kind_without, needs_after, node_by, node_with, other_rules, part_of, plain_node, searched, used_rule}
 unfoldable pub use Rattle.kt_graph.specs.nodes.Node.{inputs_of, joined_needs, node_of, order_only_of, suffix_stem}
-pub use Rattle.kt_graph.specs.nodes.Views.{NodeTable, instance_at, instance_view, node_at, node_numbered, node_view, nodes_view, part_view}
+pub use Rattle.kt_graph.specs.inner.nodes.NodeTable.{NodeTable, instance_at, node_at, node_numbered, node_view, nodes_view, part_view}
+pub use Rattle.kt_graph.specs.views.nodes.Node.{instance_view}
 pub use Rattle.kt_graph.specs.search.Candidates.{are_short, by_size, candidate_by, candidate_with, drops_any, has_slash, left_out, matched_part, needed_name, nonempty, shorter, shortest, size_of, spelled_out, unless_long, without_any}
 unfoldable pub use Rattle.kt_graph.specs.search.Candidates.{candidate_of, candidates_for, fit_of, matching_from, needed_names, stem_of}
-pub use Rattle.kt_graph.specs.search.Search.{Asking, Choosing, IsFoundByTrees, Search, chain_limit, chosen_of, is_begun, is_inferred, is_met, is_used, open_candidates, question_eq, questions_among, questions_by, questions_for, questions_inside, unknown_needs}
-unfoldable pub use Rattle.kt_graph.specs.search.Search.{HasTree, asking, fitting, with_rule}
-pub use Rattle.kt_graph.specs.search.Views.{AreWithin, IsFitWithin, candidate_at, candidate_view, candidates_view, choice_view, found_view, held_by_size, held_without_any, question_view, stays}
-pub use Rattle.kt_list.specs.Names.{AreNumbersOf, name_at, names_at}
+pub use Rattle.kt_graph.specs.views.search.Search.{Asking, IsFoundByTrees, Search, question_eq, questions_among, questions_by, questions_for, questions_inside, choice_view, question_view, Question}
+pub use Rattle.kt_graph.specs.search.Search.{Choosing, chain_limit, chosen_of, is_begun, is_inferred, is_met, is_used, open_candidates, unknown_needs}
+unfoldable pub use Rattle.kt_graph.specs.views.search.Search.{HasTree, asking}
+unfoldable pub use Rattle.kt_graph.specs.search.Search.{fitting, with_rule}
+pub use Rattle.kt_graph.specs.inner.search.Candidates.{AreWithin, IsFitWithin, candidate_at, candidate_view, candidates_view, found_view, held_by_size, held_without_any, stays}
+pub use Rattle.kt_list.specs.views.Names.{AreNumbersOf, name_at, names_at}
 pub use Rattle.kt_list.proofs.NameLemmas.{number_found}
 pub use Rattle.kt_list.proofs.NumberLemmas.{named_at, names_read, numbers_below, numbers_push, numbers_stay}
 pub use Rattle.kt_list.proofs.general.Booleans.{and_first, and_nothing, and_second, equal_when, or_first, or_second, or_swap}
 pub use Rattle.kt_list.proofs.general.Elements.{first_or_rest, from_flat_map, in_first, in_flat_map, in_rest, none_in_empty}
 pub use Rattle.kt_list.proofs.general.Places.{at_place, head_is}
-pub use Rattle.kt_rules.proofs.NoteLemmas.{no_two, place_at, same_place}
-pub use Rattle.kt_rules.specs.Book.{is_explicit, is_made, rule_needs, target_rules}
+pub use Rattle.kt_rules.proofs.lemmas.book.NoteLemmas.{no_two, place_at, same_place}
+pub use Rattle.kt_rules.specs.Book.{is_explicit, is_made, target_rules, is_terminal}
+pub use Rattle.kt_rules.specs.views.Book.{rule_needs}
 unfoldable pub use Rattle.kt_rules.specs.Book.{explicit_rules, first_goal_by, is_phony, patterns_of, recipes_of, refusal_of, rules_of}
 pub use Rattle.kt_rules.specs.Entry.{no_needs}
 unfoldable pub use Rattle.kt_rules.specs.Entry.{head_names, rule_of, stemmed_names, stemmed_of}
 unfoldable pub use Rattle.kt_rules.specs.Names.{after_dots, cut_pieces, cut_place, is_member, is_refused_name, is_refused_target, is_special, is_wildcard, is_without_effect, name_of, unquoted, without_dots, without_outer_separators, without_repeats, written_words}
-pub use Rattle.kt_rules.specs.Patterns.{is_terminal}
 pub use Rattle.kt_rules.specs.Suffixes.{is_suffix_rule}
 unfoldable pub use Rattle.kt_rules.specs.Suffixes.{start_suffixes}
-pub use Rattle.kt_rules.specs.Targets.{names_view, needed_view, needs_view}
-pub use Rattle.kt_text.proofs.MatchLemmas.{list_any-place, no_percent_found, pattern_cut, percent_found}
-pub use Rattle.kt_text.proofs.PlaceLemmas.{first_byte_place}
+pub use Rattle.kt_rules.specs.views.Targets.{names_view, needed_view, needs_view}
+pub use Rattle.kt_text.proofs.lemmas.MatchLemmas.{list_any-place, no_percent_found, pattern_cut, percent_found}
+pub use Rattle.kt_text.proofs.lemmas.PlaceLemmas.{first_byte_place}
 unfoldable pub use Rattle.kt_text.specs.Match.{has_percent, is_between, is_percent, pattern_back, pattern_front, stem_span}
 unfoldable pub use Rattle.kt_text.specs.Words.{is_blank, is_separator, list_text, words_of}
 pub use Rattle.memchr.specs.Find.{IsFirstByte, is_byte}
@@ -85,4 +94,7 @@ pub use Rattle.std.specs.Ordering.{MatchOrdering, is_eq, is_lt, ordering_reverse
 pub use Rattle.std.specs.Str.{bytes_eq}
 pub use Rattle.std.specs.declared.cmp.Ordering.{Ordering}
 pub use Rattle.std.specs.declared.cmp.Ordering.TheVariants.{Equal, Greater, Less}
-pub use Rattle.kt_graph.specs.Prelude.{AreBelow, Candidate, Contains, Entry, Explicit, HasMore, HeldQuestion, Implicit, IsPrefix, Leaf, List, Needs, Node, NodeKind, Part, Question, Target, Text, after_last, all_inputs, all_needs, before_last, choice_of, count_by, group_of, has_recipe, is_among, is_double, is_leaf, is_nonempty, join_with_byte, list_all, list_any, map, nat_cmp, needs_for, needs_with, of_group, of_pattern, option_and_then, option_map_or, option_to_list, ordering_then, own_part, place_of, range_with_len, rule_view, slice_cmp, slice_range, slice_split, suffixes_of, with_name, with_question}
+pub use Rattle.kt_graph.specs.inner.Prelude.{AreBelow, Candidate, Explicit, HasMore, IsPrefix, Leaf, Needs, NodeKind, Part, Target, after_last, all_needs, before_last, count_by, group_of, has_recipe, is_double, list_all, needs_for, needs_with, option_and_then, option_to_list, ordering_then, own_part, place_of, range_with_len, rule_view, slice_range, suffixes_of, with_name, with_question}
+pub use Rattle.kt_graph.specs.Prelude.{Contains, Entry, Node, Text, all_inputs, is_leaf, is_nonempty, join_with_byte, nat_cmp, option_map_or, slice_cmp, slice_split}
+pub use Rattle.kt_graph.specs.views.Prelude.{HeldQuestion, Implicit, List, is_among, list_any, map, of_group, of_pattern}
+pub use Rattle.kt_graph.specs.search.Search.{choice_of}

@@ -5,4 +5,5 @@ pub mod nodes
 pub mod Goals
 pub mod faults
 pub mod Reach
+pub mod views
 pub mod inner

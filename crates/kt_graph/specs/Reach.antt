@@ -1,8 +1,8 @@
 -- The names that goals need, and what is wrong with them (POSIX.1-2024 make, "Target Rules"; GNU make manual, "How
 -- `make` Processes a Makefile"; what is refused is kati's own).
-use Rattle.std.specs.Prelude.{◌≡◌, ◌↔◌, Bool, true, false, not, ◌&&◌, List, [], ◌∷◌, bytes_eq, map, find, Option, Some}
-use Rattle.kt_graph.specs.Prelude.{None, Contains, list_any, IsStrictlySortedBy, nat_cmp, slice_cmp, Text, is_among}
-use Rattle.kt_graph.specs.Prelude.{Entry, Implicit, Instance, Node, node_of, is_leaf, all_inputs}
+use Rattle.std.specs.Prelude.{◌≡◌, ◌↔◌, Bool, true, false, List, [], ◌∷◌, map, find, Option, Some}
+use Rattle.kt_graph.specs.Prelude.{None, Contains, IsStrictlySortedBy, nat_cmp, slice_cmp, Text, Entry, Instance, Node}
+use Rattle.kt_graph.specs.Prelude.{node_of, is_leaf, all_inputs}
 use Rattle.std.specs.declared.cmp.Ordering.TheVariants.{Less}
 use Rattle.kt_graph.specs.faults.Paths.{canon_of, is_reserved}
 
@@ -137,13 +137,3 @@ pub record IsGraph (rules : List Entry) (known goals : List Text) (nodes : List 
   pub rises : IsStrictlySortedBy (slice_cmp nat_cmp) (map (λ node. node.name) nodes)
   pub reached : (name : Text) → Contains (map (λ node. node.name) nodes) name ↔ IsReached rules known goals name
   pub stored : nodes ≡ map (node_of rules known) (map (λ node. node.name) nodes)
-
--- whether one of the nodes has a name, and a rule makes it
-abbrev pub is_made_among : List Node → Text → Bool
-is_made_among nodes name = list_any (λ node. bytes_eq node.name name && not (is_leaf node.kind)) nodes
-
--- what an implicit node needs is known, or a rule makes it: it isn't a file that nothing names
-abbrev pub HasMadeInputs : List Text → List Node → Type 0
-HasMadeInputs known nodes =
-    (node : Node) (input : Text) → Contains nodes node → node.kind ≡ Implicit → Contains (all_inputs node) input
-    → is_among known input ≡ false → is_made_among nodes input ≡ true

@@ -2,4 +2,3 @@
 -- `node_of` in `Node`; `Groups` defines which nodes are made together.
 pub mod Node
 pub mod Groups
-pub mod Views

@@ -3,12 +3,12 @@
 //! Takes the nodes of a graph and its goals, and returns the first of: a goal that no rule makes, a name that depends
 //! on itself, a reserved name, two names of one file; or that nothing is wrong.
 
-pub(crate) mod cycles;
+mod cycles;
 pub(crate) mod edges;
 pub(crate) mod fault;
-pub(crate) mod files;
+mod files;
+pub(crate) mod first_trouble;
 mod paths;
-pub(crate) mod rows;
 mod spelling;
 pub(crate) mod trouble;
 

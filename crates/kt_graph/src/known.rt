@@ -65,7 +65,7 @@ impl<'a> Known<'a> {
     }
 
     // As `contains`, by looking the name up.
-    #[tactic(auto, using(kt_rules::proofs::BookLemmas::among_fold))]
+    #[tactic(auto, using(kt_rules::proofs::lemmas::book::BookLemmas::among_fold))]
     fn has(&self, name: &[u8]) -> bool
         ensures { result ≡ is_among self.now name.now }
     {
@@ -79,7 +79,7 @@ impl<'a> Known<'a> {
 
     /// Whether a known name may end with a text of at least two bytes. Takes no memory.
     pub(crate) fn may_end(&self, end: &[u8]) -> bool
-        ensures { result ≡ false → 2 ≤ length end.now → (front : Text) → is_among self.now (front ++ end.now) ≡ false }
+        ensures quick { result ≡ false → 2 ≤ length end.now → (front : Text) → is_among self.now (front ++ end.now) ≡ false }
     {
         self.ends.is_marked(end)
     }

@@ -3,6 +3,7 @@
 //! Takes a book, the known names and the goals, and returns a graph: each name that is reached from a goal has a number
 //! and one node, which holds what its rules say, with numbers for other names.
 
+pub(crate) mod buckets;
 mod building;
 mod byte_order;
 pub(crate) mod graph;
@@ -18,6 +19,7 @@ mod part;
 mod reached;
 mod reached_name;
 mod rows;
+mod span;
 mod stem;
 pub(crate) mod stored;
 pub(crate) mod tables;

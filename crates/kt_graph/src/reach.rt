@@ -2,10 +2,12 @@
 ghost use Rattle.std.specs.Prelude.{◌≡◌, IfErr, IfOk};
 ghost use Rattle.kt_text.specs.Words.{Text};
 ghost use Rattle.kt_graph.specs.Known.{known_names};
-ghost use Rattle.kt_graph.specs.faults.Faults.{IsSoundGraph, ReportsFirst};
-ghost use Rattle.kt_graph.specs.Reach.{HasMadeInputs};
+ghost use Rattle.kt_graph.specs.faults.Faults.{IsSoundGraph};
+ghost use Rattle.kt_graph.specs.views.faults.Faults.{ReportsFirst};
+ghost use Rattle.kt_graph.specs.views.Reach.{HasMadeInputs};
 
 use crate::faults::fault::GraphFault;
+use crate::faults::first_trouble::first_trouble;
 use crate::known::Known;
 use crate::nodes::graph::Graph;
 use kt_rules::{Book, Name};
@@ -27,7 +29,7 @@ pub fn graph<'a>(
     ensures fault { IfErr result (ReportsFirst book.now known.now goals.now) }
 {
     let graph = Graph::reached(alloc, book, known, goals)?;
-    match graph.trouble(goals)? {
+    match first_trouble(&graph, goals)? {
         Some(trouble) => Err(trouble.fault(alloc)),
         None => Ok(graph),
     }

@@ -5,8 +5,9 @@
 ghost use Rattle.std.specs.Prelude.{◌≡◌, [], map, option_map, IfOk, OnErr, OnOk};
 ghost use Rattle.std.specs.List.{IsDistinct};
 ghost use Rattle.kt_rules.specs.Book.{patterns_of};
-ghost use Rattle.kt_graph.specs.search.Search.{IsFoundByTrees, choice_of, question_eq, questions_after};
-ghost use Rattle.kt_graph.specs.search.Views.{question_view, choice_view};
+ghost use Rattle.kt_graph.specs.views.search.Search.{IsFoundByTrees, question_eq, questions_after, question_view};
+ghost use Rattle.kt_graph.specs.views.search.Search.{choice_view};
+ghost use Rattle.kt_graph.specs.search.Search.{choice_of};
 
 mod candidate;
 mod candidates;
@@ -42,13 +43,13 @@ pub struct Search<'a> {
 }
 
 impl<'a> Model for Search<'a> {
-    ghost use Rattle.kt_graph.specs.search.Search.{Search};
+    ghost use Rattle.kt_graph.specs.views.search.Search.{Search};
 
     ghost Value = { Search };
 
     ghost use Rattle.std.specs.Prelude.{map};
     ghost use Rattle.kt_graph.specs.inner.search.Chains.{IsRight};
-    ghost use Rattle.kt_graph.specs.search.Views.{question_view};
+    ghost use Rattle.kt_graph.specs.views.search.Search.{question_view};
 
     ghost view = { λ search. record {
       rules = search.chains.patterns;
@@ -61,7 +62,7 @@ impl<'a> Model for Search<'a> {
 }
 
 impl<'a> Search<'a> {
-    ghost use Rattle.kt_graph.specs.search.Search.{Search as SearchSeen};
+    ghost use Rattle.kt_graph.specs.views.search.Search.{Search as SearchSeen};
 
     /// A search without questions so far.
     pub fn new(

@@ -1,8 +1,12 @@
 -- Worked names, choices, nodes and goals, as facts that compute. The rules are those of the GNU make manual's
 -- sections on implicit rules, and kati's own where it has some.
 use Rattle.std.specs.Prelude.{◌≡◌, ℕ, true, List, [], ◌∷◌, ◌++◌, Option, Some, None, option_map, codes}
-use Rattle.kt_graph.specs.Prelude.{Text, Entry, all_needs, questions_after, choice_of, node_of, inputs_of, order_only_of}
-use Rattle.kt_rules.specs.declared.entry.Kind.TheVariants.{SingleColon, TerminalPattern}
+use Rattle.kt_graph.specs.Prelude.{Text, Entry, node_of}
+use Rattle.kt_rules.specs.Suffixes.{all_needs}
+use Rattle.kt_graph.specs.views.search.Search.{questions_after}
+use Rattle.kt_graph.specs.search.Search.{choice_of}
+use Rattle.kt_graph.specs.nodes.Node.{inputs_of, order_only_of}
+use Rattle.kt_rules.specs.declared.line.entry.Kind.TheVariants.{SingleColon, TerminalPattern}
 use Rattle.kt_rules_laws.specs.BookRows.{rule, made, needing, pattern}
 use Rattle.kt_graph.specs.declared.nodes.node.NodeKind.TheVariants as kinds
 use Rattle.kt_graph.specs.Known.{known_names, listed_names}

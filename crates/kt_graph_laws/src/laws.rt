@@ -2,8 +2,9 @@
 ghost use Rattle.std.specs.Prelude.{List};
 ghost use Rattle.kt_text.specs.Words.{Text};
 ghost use Rattle.kt_rules.specs.Entry.{Entry};
-ghost use Rattle.kt_graph.specs.faults.Faults.{ReportsFirst};
-ghost use Rattle.kt_graph.specs.nodes.Groups.{AreGroups, groups_of};
+ghost use Rattle.kt_graph.specs.views.faults.Faults.{ReportsFirst};
+ghost use Rattle.kt_graph.specs.views.nodes.Groups.{AreGroups};
+ghost use Rattle.kt_graph.specs.nodes.Groups.{groups_of};
 ghost use Rattle.kt_graph.specs.nodes.Node.{Node};
 ghost use Rattle.kt_graph.specs.Reach.{IsGraph};
 ghost use Rattle.kt_graph_laws.specs.Resolution.{IsResolution};

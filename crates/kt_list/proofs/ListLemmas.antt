@@ -11,7 +11,8 @@ use Rattle.std.proofs.lemmas.List.Folds.{Any-from_list_any}
 use Rattle.std.proofs.lemmas.List.Sums.{position_or_len_is}
 use Rattle.std.proofs.lemmas.Map.Keys.{apart_from_distinct, any_passes_from_place, IsDistinct-from_apart, IsDistinct-push}
 use Rattle.kt_list.proofs.NameLemmas.{number_found}
-use Rattle.kt_list.specs.Names.{is_among, place_of, with_name}
+use Rattle.kt_list.specs.Names.{is_among, with_name}
+use Rattle.kt_list.specs.views.Names.{place_of}
 use Rattle.kt_list.specs.inner.HashChains.{AreRowsOnce}
 use Rattle.kt_list.specs.inner.Hashes.{is_at}
 

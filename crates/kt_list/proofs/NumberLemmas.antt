@@ -3,8 +3,8 @@ use Rattle.std.proofs.Common.{◌≡◌, ℕ, zero, suc, ◌<◌, List, [], ◌�
 use Rattle.std.proofs.lemmas.List.{map-append}
 use Rattle.std.proofs.lemmas.List.Elements.{All-cons, All-nil}
 use Rattle.std.proofs.lemmas.Option.{slice_get_within}
-use Rattle.kt_list.specs.Names.{AreBelow, AreNumbersOf, name_at, names_at}
-use Rattle.kt_list.specs.Prefixes.{HasMore}
+use Rattle.kt_list.specs.views.Names.{AreBelow, AreNumbersOf, name_at, names_at}
+use Rattle.kt_list.specs.views.Prefixes.{HasMore}
 use Rattle.kt_list.proofs.PrefixLemmas.{slice_get-left}
 
 -- a longer table says the same of a number

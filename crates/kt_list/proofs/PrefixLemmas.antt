@@ -1,6 +1,6 @@
 -- Lists that begin with another one.
 use Rattle.std.proofs.Common.{◌≡◌, ℕ, zero, suc, List, [], ◌∷◌, ◌++◌, Some, slice_get, arith, append_assoc}
-use Rattle.kt_list.specs.Prefixes.{HasMore}
+use Rattle.kt_list.specs.views.Prefixes.{HasMore}
 
 pub slice_get-left : {A : Type 0} (xs ys : List A) (n : ℕ) (x : A) → slice_get xs n ≡ Some x → slice_get (xs ++ ys) n ≡ Some x
 slice_get-left [] ys n x h = cc

@@ -5,6 +5,7 @@ ghost use Rattle.std.specs.Prelude.{take, true, IfNone, IfSome, OnErr, OnOk};
 ghost use Rattle.kt_list.specs.inner.HashChains.{AreAllChained, AreChained, hashes_of, last_of};
 
 use crate::narrowing::narrow;
+use crate::rows::Rows;
 use std::alloc::{AllocError, Global};
 use std::marker::Model;
 
@@ -168,5 +169,28 @@ fn empty_chains(lasts: &mut Vec<u32>)
 {
     for chain in 0..lasts.len() {
         lasts[chain] = 0;
+    }
+}
+
+/// Adds a row, and its hash. An `Err` is out of memory, and leaves both as they were.
+pub(crate) fn put<T: Copy + Drop>(
+    rows: &mut Rows<T>,
+    chains: &mut HashChains,
+    row: &[T],
+    hash: u32,
+) -> Result<(), AllocError>
+    ensures added { OnOk result (rows.new ≡ rows.old ++ row.now ∷ []) }
+    ensures hashed { OnOk result (chains.new ≡ chains.old ++ hash ∷ []) }
+    ensures refused { OnErr result (rows.new ≡ rows.old) }
+    ensures kept { OnErr result (chains.new ≡ chains.old) }
+{
+    let count = rows.len();
+    rows.push_row(row)?;
+    match chains.push(hash) {
+        Ok(()) => Ok(()),
+        Err(error) => {
+            rows.truncate(count);
+            Err(error)
+        }
     }
 }

@@ -6,7 +6,6 @@ mod key;
 mod lists;
 mod names;
 mod narrowing;
-mod numbered;
 mod rows;
 mod sequence;
 mod shared;

@@ -4,11 +4,11 @@ ghost use Rattle.std.specs.Prelude.{IfNone, IfOk, IfSome, OnErr, OnOk};
 ghost use Rattle.std.specs.List.{IsDistinct};
 ghost use Rattle.std.specs.Str.{bytes_eq};
 ghost use Rattle.kt_list.specs.inner.Hashes.{hash_with, is_at, list_hash};
-ghost use Rattle.kt_list.specs.Names.{is_among, place_of, with_name};
+ghost use Rattle.kt_list.specs.Names.{is_among, with_name};
+ghost use Rattle.kt_list.specs.views.Names.{place_of};
 
-use crate::hash_chains::HashChains;
+use crate::hash_chains::{HashChains, put};
 use crate::narrowing::narrow;
-use crate::numbered::put;
 use crate::rows::Rows;
 use std::alloc::{AllocError, Global};
 use std::marker::Model;

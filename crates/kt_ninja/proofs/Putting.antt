@@ -3,7 +3,7 @@ use Rattle.std.proofs.Common.{◌≡◌, ℕ, ◌+◌, List, [], ◌++◌, refl,
 use Rattle.kt_ninja.proofs.Common.{length-append, Block}
 use Rattle.kt_list.specs.Counters.{Rises}
 use Rattle.kt_ninja.specs.Written.{GrowsByFront, SinkSeen}
-use Rattle.kt_ninja.specs.Blocks.{Moves, PutsBy, Counts, Passes, HandsOver, Puts, PrintsBy, Prints}
+use Rattle.kt_ninja.specs.inner.Blocks.{Moves, PutsBy, Counts, Passes, HandsOver, Puts, PrintsBy, Prints}
 use Rattle.kt_ninja.proofs.Growth.{appended-nil, front_after, front_of_more, takes_twice}
 
 -- what waited and the first text, cut where the block stood in between, goes on with the second text

@@ -3,7 +3,8 @@ use Rattle.std.proofs.Common.{arith, ◌≡◌, ◌∙◌, ℕ, ◌+◌, List, [
 use Rattle.kt_ninja.proofs.Common.{list_any, option_or, pointwise, find-append, list_any-append, Statement, is_among, Obstacle, is_name, repeated_after, obstacle_of_statements}
 use Rattle.std.proofs.lemmas.List.Concat.{flat_map-append}
 use Rattle.kt_ninja.specs.Plan.{names_of, outputs}
-use Rattle.kt_ninja.specs.View.{obstacle_at, statement_names}
+use Rattle.kt_ninja.specs.inner.View.{obstacle_at}
+use Rattle.kt_ninja.specs.views.View.{statement_names}
 use Rattle.kt_ninja.proofs.Places.{drop_at, take_at}
 
 pub is_among-outputs : (ss : List Statement) (name : List ℕ) → is_among (outputs ss) name ≡ list_any (λ s. is_among s.outs name) ss

@@ -2,8 +2,9 @@
 use Rattle.std.proofs.Common.{◌≡◌, ℕ, List, Some, Option, ap, ◌∙◌, subst}
 use Rattle.kt_ninja.proofs.Common.{Block, Statement, marked_text, names_text, rule_name_text, rule_text}
 use Rattle.kt_ninja.specs.declared.plan.Made.{Made}
-use Rattle.kt_ninja.specs.Blocks.{Puts}
-use Rattle.kt_ninja.specs.View.{made_at, made_by, statement_names}
+use Rattle.kt_ninja.specs.inner.Blocks.{Puts}
+use Rattle.kt_ninja.specs.views.View.{made_at, statement_names}
+use Rattle.kt_ninja.specs.Plan.{made_by}
 use Rattle.kt_ninja.specs.Written.{SinkSeen}
 
 module _ {S : Type 0} (seen : S → SinkSeen) (old new : Block S) (found : Option Statement) (s : Statement) (is : found ≡ Some s) where

@@ -1,10 +1,7 @@
 pub mod Prelude
 pub mod Plan
-pub mod View
 pub mod Text
 pub mod Writable
 pub mod Written
-pub mod Blocks
-pub mod Memory
-pub mod Escaping
+pub mod views
 pub mod inner

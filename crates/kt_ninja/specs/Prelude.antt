@@ -4,6 +4,5 @@ pub use Rattle.kt_ninja.specs.declared.plan.Made.{Made}
 pub use Rattle.kt_ninja.specs.declared.plan.Made.TheVariants.{Command, Phony}
 pub use Rattle.kt_ninja.specs.declared.plan.Plan.{Plan}
 pub use Rattle.kt_ninja.specs.declared.plan.Statement.{Statement}
-pub use Rattle.std.specs.Cmp.Lexicographic.{bytes_decides, pointwise, pointwise_decides}
-pub use Rattle.std.specs.List.{concat, flat_map, list_all, position_from}
+pub use Rattle.std.specs.List.{concat, flat_map, list_all}
 pub use Rattle.std.specs.Option.{option_or}

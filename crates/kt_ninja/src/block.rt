@@ -1,6 +1,6 @@
 //! Bytes on their way to a sink, handed over a block at a time.
 ghost use Rattle.std.specs.Prelude.{◌≡◌, ◌≤◌, ◌<◌, ◌+◌, [], take, drop, length};
-ghost use Rattle.kt_ninja.specs.Escaping.{is_escaped};
+ghost use Rattle.kt_ninja.specs.inner.Escaping.{is_escaped};
 ghost use Rattle.kt_ninja.specs.Text.{escaped};
 
 use crate::escapes::Escapes;
@@ -27,7 +27,7 @@ fn after(text: &[u8], at: usize) -> &[u8]
 }
 
 impl<'a, W: Sink> Block<'a, W> {
-    ghost use Rattle.kt_ninja.specs.Blocks.{HandsOver, Passes, Puts};
+    ghost use Rattle.kt_ninja.specs.inner.Blocks.{HandsOver, Passes, Puts};
 
     /// Hands over what waits.
     pub fn flush(&mut self)

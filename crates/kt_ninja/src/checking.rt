@@ -1,12 +1,14 @@
 //! Which plans can be written.
 ghost use Rattle.std.specs.Prelude.{◌≡◌, ◌≤◌, ◌↔◌, ◌||◌, [], length, not, find, option_map, slice_get, take, IsOk};
 ghost use Rattle.std.specs.List.{list_all, list_any, position_from};
-ghost use Rattle.kt_ninja.specs.Plan.{names_of, outputs};
+ghost use Rattle.kt_ninja.specs.Plan.{names_of, outputs, made_by};
 ghost use Rattle.kt_list.specs.Names.{is_among};
-ghost use Rattle.kt_ninja.specs.View.{made_by, names_listed, obstacle_at, statement_names};
+ghost use Rattle.kt_ninja.specs.views.View.{names_listed, statement_names};
+ghost use Rattle.kt_ninja.specs.inner.View.{obstacle_at};
 ghost use Rattle.kt_ninja.specs.declared.view.PlanNames.TheVariants.{Outputs};
-ghost use Rattle.kt_ninja.specs.Writable.{HasWritableTexts, IsWritable, first_obstacle, is_command_byte, is_empty};
-ghost use Rattle.kt_ninja.specs.Writable.{is_writable_making, is_name, is_path_byte, not_made, repeated_after, obstacle_in};
+ghost use Rattle.kt_ninja.specs.Writable.{HasWritableTexts, IsWritable, is_command_byte, is_empty};
+ghost use Rattle.kt_ninja.specs.views.Writable.{first_obstacle, not_made, repeated_after, obstacle_in};
+ghost use Rattle.kt_ninja.specs.Writable.{is_writable_making, is_name, is_path_byte};
 ghost use Rattle.kt_ninja.specs.Writable.{obstacle_of_statements};
 
 use crate::plan::Plan;

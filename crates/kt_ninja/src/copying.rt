@@ -1,7 +1,7 @@
 //! Plans that are built from views of them.
 ghost use Rattle.std.specs.Prelude.{◌≡◌, IfOk, slice_get};
 ghost use Rattle.kt_ninja.specs.declared.view.PlanNames.TheVariants.{Implicit, Inputs, OrderOnly, Outputs};
-ghost use Rattle.kt_ninja.specs.View.{made_at, names_listed};
+ghost use Rattle.kt_ninja.specs.views.View.{made_at, names_listed};
 
 use crate::plan::{Made, Path, Plan, Statement};
 use crate::view::{NamesView, PlanNames, PlanView};

@@ -3,7 +3,7 @@
 //! name of usual length.
 ghost use Rattle.std.specs.Prelude.{◌<◌, ◌≡◌, IfSome, length};
 ghost use Rattle.memchr.specs.Find.{IsFirstByte};
-ghost use Rattle.kt_ninja.specs.Escaping.{is_escaped};
+ghost use Rattle.kt_ninja.specs.inner.Escaping.{is_escaped};
 ghost use Rattle.kt_ninja.specs.Text.{is_special_in_name};
 
 use memchr::{memchr, memchr3};

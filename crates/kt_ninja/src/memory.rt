@@ -17,7 +17,7 @@ pub struct MemSink {
 
 impl Model for MemSink {
     ghost use Rattle.std.specs.Prelude.{◌≤◌, vec_len, vec_capacity};
-    ghost use Rattle.kt_ninja.specs.Memory.{MemSink};
+    ghost use Rattle.kt_ninja.specs.views.Memory.{MemSink};
 
     ghost Value = { MemSink };
 
@@ -33,7 +33,7 @@ impl Model for MemSink {
 }
 
 impl MemSink {
-    ghost use Rattle.kt_ninja.specs.Memory.{MemSink as MemSinkSeen};
+    ghost use Rattle.kt_ninja.specs.views.Memory.{MemSink as MemSinkSeen};
 
     /// A sink with room for a given number of bytes, reserved at once, of which it takes up to
     /// `step` in a call. With a step of 0 it returns 0 for every piece.
@@ -69,7 +69,7 @@ impl Sink for MemSink {
     ghost use Rattle.std.specs.Prelude.{◌≡◌, ◌≤◌, ◌<◌, Ok, [], IfOk, OnErr, IsErr, length, take};
     ghost use Rattle.kt_list.specs.Counters.{one_more, Rises};
     ghost use Rattle.kt_ninja.specs.Written.{GrowsByFront, Takes};
-    ghost use Rattle.kt_ninja.specs.Memory.{sink_after_call, sink_seen_of, taken_of};
+    ghost use Rattle.kt_ninja.specs.views.Memory.{sink_after_call, sink_seen_of, taken_of};
 
     ghost seen = { sink_seen_of };
 

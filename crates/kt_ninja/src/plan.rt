@@ -1,7 +1,7 @@
 //! A build plan: statements with their outputs, commands and inputs, and the default targets.
 ghost use Rattle.std.specs.Prelude.{◌≡◌, ◌↔◌, IsTrue};
 ghost use Rattle.std.specs.Cmp.{partial_equiv_from_equiv};
-ghost use Rattle.kt_ninja.specs.Plan.{same_made, same_plan, same_statement};
+ghost use Rattle.kt_ninja.specs.views.Plan.{same_made, same_plan, same_statement};
 ghost use Rattle.kt_ninja.specs.inner.Equality.{made_laws, plan_laws, statement_laws};
 
 use kt_list::{Sequence, Text};

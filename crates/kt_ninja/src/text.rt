@@ -3,11 +3,12 @@
 //! statement for each name.
 ghost use Rattle.std.specs.Prelude.{◌≡◌, ◌≤◌, ◌<◌, ℕ, OnOk, OnErr, Some, false, length, option_map, slice_get};
 ghost use Rattle.kt_list.specs.Counters.{Rises};
-ghost use Rattle.kt_ninja.specs.Blocks.{Prints, Puts};
+ghost use Rattle.kt_ninja.specs.inner.Blocks.{Prints, Puts};
 ghost use Rattle.kt_ninja.specs.Text.{build_text, command_text, defaults_text, lead_text, marked_text, names_text};
 ghost use Rattle.kt_ninja.specs.Text.{number_text, plan_text, rule_count, rule_name_text, rule_text, statement_text};
 ghost use Rattle.kt_ninja.specs.Text.{statements_text};
-ghost use Rattle.kt_ninja.specs.View.{made_at, made_by};
+ghost use Rattle.kt_ninja.specs.views.View.{made_at};
+ghost use Rattle.kt_ninja.specs.Plan.{made_by};
 ghost use Rattle.kt_ninja.specs.Writable.{IsWritable};
 ghost use Rattle.kt_ninja.specs.Written.{GrowsByFront, Takes};
 ghost use Rattle.kt_ninja.specs.declared.plan.Statement.{Statement as StatementSeen};

@@ -1,6 +1,7 @@
 //! Plans by places, wherever they are held.
 ghost use Rattle.std.specs.Prelude.{◌≡◌, ◌<◌, List, Some, ℕ, length, option_map, slice_get};
-ghost use Rattle.kt_ninja.specs.View.{made_at, made_by, names_listed, statement_names};
+ghost use Rattle.kt_ninja.specs.views.View.{made_at, names_listed, statement_names};
+ghost use Rattle.kt_ninja.specs.Plan.{made_by};
 ghost use Rattle.kt_ninja.specs.declared.plan.Plan.{Plan as PlanSeen};
 
 use crate::plan::{Made, Path, Plan, Statement};
@@ -134,7 +135,8 @@ impl<'a> PlanView<'a> for Plan {
     type Names = &'a [Path];
 
     ghost use Rattle.std.specs.Prelude.{◌≡◌, ◌<◌, Some, length, option_map, slice_get};
-    ghost use Rattle.kt_ninja.specs.View.{made_at, made_by, names_listed};
+    ghost use Rattle.kt_ninja.specs.views.View.{made_at, names_listed};
+    ghost use Rattle.kt_ninja.specs.Plan.{made_by};
 
     ghost plan = { λ plan. plan };
 

@@ -3,7 +3,8 @@ pub use Rattle.kt_list.specs.Names.{with_name}
 pub use Rattle.kt_ninja.specs.Plan.{names_of, outputs}
 pub use Rattle.kt_ninja.specs.Text.{command_text, defaults_text, escaped, is_special_in_command, is_special_in_name, lead_text, marked_text, names_text, rule_count, rule_name_text, rule_text, statements_text}
 unfoldable pub use Rattle.kt_ninja.specs.Text.{number_text, plan_text}
-pub use Rattle.kt_ninja.specs.Writable.{IsWritable, is_command, is_command_byte, is_name, is_path_byte, is_writable_making, repeated_after}
+pub use Rattle.kt_ninja.specs.Writable.{IsWritable, is_command, is_command_byte, is_name, is_path_byte, is_writable_making}
+pub use Rattle.kt_ninja.specs.views.Writable.{repeated_after}
 pub use Rattle.kt_ninja_reader.specs.Forms.{Binding, Build, BuildInputs, MarginForm, Spelling, begins_with_at, bound_to, build_after, build_cut, build_form, build_inputs, build_with, default_form, is_keyword, is_plain_byte, paths_of, rule_form, single_name, without_lead}
 unfoldable pub use Rattle.kt_ninja_reader.specs.Forms.{binding_of, build_of, defaults_of, margin_form, name_bytes, rule_name_in, spelled_words}
 pub use Rattle.kt_ninja_reader.specs.JoinedLines.{FileLine, first_number, goes_on, joined_text, left_over, with_byte, without_indent}
@@ -30,4 +31,7 @@ pub use Rattle.std.proofs.lemmas.Result.{err_from_is_err_and, on_ok_weaker}
 pub use Rattle.std.specs.Borrow.{Bor}
 pub use Rattle.std.specs.Cmp.Lexicographic.{other_text, pointwise, same_text}
 pub use Rattle.std.specs.List.{after_first, before_first, onto_first, position_or_len, prefix_len, slice_split, starts_with}
-pub use Rattle.kt_ninja_reader.specs.Prelude.{Bytes, Command, JoinedLine, Made, Memory, NoReading, PartFault, Phony, Piece, Plan, Statement, bytes_eq, concat, flat_map, is_among, is_blank_line, is_empty, join_with_byte, list_all, list_any, option_and_then, outside}
+pub use Rattle.kt_ninja_reader.specs.Prelude.{Bytes, Command, Made, Phony, Plan, Statement, bytes_eq, flat_map, is_among, is_empty, join_with_byte, list_all, list_any, option_and_then}
+pub use Rattle.kt_ninja_reader.specs.inner.Prelude.{JoinedLine, Memory, NoReading, PartFault, Piece, outside}
+pub use Rattle.std.specs.List.{concat}
+pub use Rattle.kt_ninja_reader.specs.JoinedLines.{is_blank_line}

@@ -1,9 +1,8 @@
 pub mod Prelude
 pub mod JoinedLines
 pub mod Pieces
-pub mod Spellings
 pub mod Forms
 pub mod Scopes
 pub mod NinjaRead
-pub mod Reading
+pub mod views
 pub mod inner

@@ -4,8 +4,8 @@ ghost use Rattle.std.specs.List.{list_any, slice_split};
 ghost use Rattle.kt_ninja_reader.specs.Forms.{binding_of, build_after, build_inputs, build_of, build_with, defaults_of};
 ghost use Rattle.kt_ninja_reader.specs.Forms.{is_keyword, is_plain_byte, paths_of, rule_name_in, single_name, spelled_words};
 ghost use Rattle.kt_ninja_reader.specs.inner.Cutting.{is_own_byte};
-ghost use Rattle.kt_ninja_reader.specs.inner.Wording.{bars_cut, binding_view, build_view, inputs_view, key_of, some_word};
-ghost use Rattle.kt_ninja_reader.specs.inner.Wording.{two_bars, two_of};
+ghost use Rattle.kt_ninja_reader.specs.inner.Wording.{bars_cut, binding_view, build_view, inputs_view, key_of};
+ghost use Rattle.kt_ninja_reader.specs.inner.Wording.{some_word, two_bars, two_of};
 ghost use Rattle.kt_ninja_reader.specs.inner.Refusals.{Reads, ReadsAs};
 ghost use Rattle.std.specs.Prelude.{true};
 
@@ -99,7 +99,7 @@ fn is_keyword(name: &[u8]) -> bool
 }
 
 // The key that stands before `=`.
-#[tactic(auto, using(crate::proofs::LineLemmas::key_free, crate::proofs::LineLemmas::key_taken))]
+#[tactic(auto, using(crate::proofs::lemmas::LineLemmas::key_free, crate::proofs::lemmas::LineLemmas::key_taken))]
 fn key<'t>(alloc: Global, front: &Spelling<'t>) -> Result<&'t [u8], PartFault>
     ensures { ReadsAs (λ key. key.now) result (key_of front.now) }
 {
@@ -255,7 +255,7 @@ fn build_after<'t>(
 }
 
 /// What stands after `build`.
-#[tactic(auto, using(crate::proofs::LineLemmas::build_none, crate::proofs::LineLemmas::sides_read))]
+#[tactic(auto, using(crate::proofs::lemmas::LineLemmas::build_none, crate::proofs::lemmas::LineLemmas::sides_read))]
 pub(crate) fn build_of<'t>(alloc: Global, line: &Spelling<'t>) -> Result<Build<'t>, PartFault>
     ensures { ReadsAs build_view result (build_of line.now) }
 {

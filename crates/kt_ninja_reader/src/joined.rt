@@ -22,7 +22,7 @@ struct FileLine<'a> {
 }
 
 // Where the first newline stands, or the length of the text.
-#[tactic(auto, using(crate::proofs::JoinedLemmas::newline_found))]
+#[tactic(auto, using(crate::proofs::lemmas::JoinedLemmas::newline_found))]
 fn line_length(text: &[u8]) -> usize
     ensures value { result ≡ position_or_len (λ b. b == 10) text.now }
     ensures bound { result ≤ length text.now }
@@ -30,7 +30,7 @@ fn line_length(text: &[u8]) -> usize
     memchr(b'\n', text).unwrap_or(text.len())
 }
 
-#[tactic(auto, using(crate::proofs::JoinedLemmas::lines_cut, crate::proofs::JoinedLemmas::lines_none))]
+#[tactic(auto, using(crate::proofs::lemmas::JoinedLemmas::lines_cut, crate::proofs::lemmas::JoinedLemmas::lines_none))]
 fn first_line(text: &[u8]) -> FileLine<'_>
     requires { 0 < length text.now }
     ensures cut { file_lines text.now ≡ file_line result ∷ file_lines result.after.now }
@@ -98,7 +98,7 @@ fn ends_in_dollar(text: &[u8]) -> bool
 }
 
 // Whether the last of the dollars is escaped by none before it.
-#[tactic(auto, using(crate::proofs::JoinedLemmas::dollar_step), unfolding(crate::specs::JoinedLines::ends_in_dollar))]
+#[tactic(auto, using(crate::proofs::lemmas::JoinedLemmas::dollar_step), unfolding(crate::specs::JoinedLines::ends_in_dollar))]
 fn is_dollar_open(text: &[u8]) -> bool
     ensures { result ≡ ends_in_dollar false text.now }
 {

@@ -35,7 +35,7 @@ impl<'t> JoinedText<'t> {
 
     // The slice of the file that it is, if no lines were joined.
     fn of_file(&self) -> Option<&'t [u8]>
-        ensures { IfSome result (λ slice. slice.now ≡ self.now) }
+        ensures quick { IfSome result (λ slice. slice.now ≡ self.now) }
     {
         match &self.joined {
             Some(_) => None,

@@ -6,8 +6,10 @@ ghost use Rattle.kt_ninja.specs.declared.plan.Plan.{Plan as PlanRead};
 ghost use Rattle.kt_ninja_reader.specs.declared.read_fault.ReadFault.TheVariants.{Memory as MemoryRefused};
 ghost use Rattle.kt_ninja_reader.specs.NinjaRead.{all_parts, begins_part, block_of, cut_lines, is_file_byte, is_sound};
 ghost use Rattle.kt_ninja_reader.specs.NinjaRead.{ninja_read, nothing_read, plan_said, read_part, read_parts};
-ghost use Rattle.kt_ninja_reader.specs.Reading.{AddsBindings, Misreads, StopsBlock, build_line, default_line, line_binding, part_fault};
-ghost use Rattle.kt_ninja_reader.specs.Reading.{file_part, margin_line, part_before, read_margin, rule_at_margin};
+ghost use Rattle.kt_ninja_reader.specs.inner.Reading.{AddsBindings, StopsBlock, build_line, default_line, line_binding};
+ghost use Rattle.kt_ninja_reader.specs.inner.Reading.{part_fault, file_part, margin_line, part_before, read_margin};
+ghost use Rattle.kt_ninja_reader.specs.inner.Reading.{rule_at_margin};
+ghost use Rattle.kt_ninja_reader.specs.views.Reading.{Misreads};
 ghost use Rattle.kt_ninja_reader.specs.inner.Parting.{CutsPart};
 ghost use Rattle.kt_ninja_reader.specs.inner.Refusals.{Reads, ReadsAs};
 ghost use Rattle.kt_ninja_reader.specs.Pieces.{pieces};
@@ -85,7 +87,7 @@ fn line_binding(alloc: Global, text: &[u8]) -> Result<Binding<'_>, PartFault>
 }
 
 // Adds a line to a block, and returns whether the block is closed after it.
-#[tactic(auto, using(crate::proofs::ReaderLemmas::blank_adds, crate::proofs::ReaderLemmas::comment_adds))]
+#[tactic(auto, using(crate::proofs::lemmas::ReaderLemmas::blank_adds, crate::proofs::lemmas::ReaderLemmas::comment_adds))]
 fn add_line<'t>(
     alloc: Global,
     closed: bool,
@@ -183,7 +185,7 @@ fn read_margin_line<'t>(
 }
 
 // What stands after the keyword, if the text begins with it.
-#[tactic(auto, using(crate::proofs::Stripping::stripped))]
+#[tactic(auto, using(crate::proofs::lemmas::Stripping::stripped))]
 fn past<'t>(keyword: &[u8], text: &'t [u8]) -> Option<&'t [u8]>
     ensures { MatchOption result (starts_with nat_eq text.now keyword.now ≡ false)
         (λ rest. (starts_with nat_eq text.now keyword.now ≡ true) × (rest.now ≡ drop (length keyword.now) text.now)) }
@@ -315,7 +317,7 @@ fn read_parts<'t>(alloc: Global, parts: &'t [JoinedLine<'t>]) -> Result<State<'t
 }
 
 // All lines of the file.
-#[tactic(auto, using(crate::proofs::ReaderLemmas::none_before))]
+#[tactic(auto, using(crate::proofs::lemmas::ReaderLemmas::none_before))]
 fn read_lines<'t>(alloc: Global, lines: &'t [JoinedLine<'t>]) -> Result<State<'t>, ReadFault>
     ensures { MatchResult result (λ state. read_parts nothing_read (all_parts (cut_lines lines.now))
         ≡ Ok state) (Misreads (read_parts nothing_read (all_parts (cut_lines lines.now)))) }

@@ -98,7 +98,7 @@ impl<'t> Model for PendingStatements<'t> {
 impl More {
     // Whether there is nothing of it.
     fn is_none(&self) -> bool
-        ensures { result ≡ true → self.now ≡ no_more }
+        ensures quick { result ≡ true → self.now ≡ no_more }
     {
         self.block.is_unset()
             && are_none(self.implicit.as_slice())
@@ -107,7 +107,7 @@ impl More {
 }
 
 fn are_none(names: &[Path]) -> bool
-    ensures { result ≡ true → names.now ≡ [] }
+    ensures quick { result ≡ true → names.now ≡ [] }
 {
     matches!(names, [])
 }
@@ -195,7 +195,7 @@ impl<'t> PendingStatement<'t> {
     }
 
     // The statement of the plan, by the variables that the file leaves.
-    #[tactic(auto, using(crate::proofs::StateLemmas::statement_told))]
+    #[tactic(auto, using(crate::proofs::lemmas::StateLemmas::statement_told))]
     fn into_statement(self, alloc: Global, file: &Scope) -> Result<Statement, AllocError>
         ensures { IfOk result (λ s. s ≡ statement_of_pending file.now self.entry) }
     {
@@ -255,7 +255,7 @@ impl<'t> PendingStatements<'t> {
         }
     }
 
-    #[tactic(auto, using(crate::proofs::ReaderLemmas::told_more))]
+    #[tactic(auto, using(crate::proofs::lemmas::ReaderLemmas::told_more))]
     pub(crate) fn push(
         &mut self,
         alloc: Global,

@@ -41,7 +41,7 @@ impl BlockScope {
 
     /// Whether it holds no table.
     pub(crate) fn is_unset(&self) -> bool
-        ensures { result ≡ true → self.now ≡ [] }
+        ensures quick { result ≡ true → self.now ≡ [] }
     {
         self.values.is_none()
     }
@@ -120,7 +120,7 @@ fn value_in<'a>(scope: &'a Scope, name: &[u8]) -> &'a [u8]
 }
 
 /// What a spelling stands for.
-#[tactic(auto, using(crate::proofs::ScopeLemmas::expanded_run))]
+#[tactic(auto, using(crate::proofs::lemmas::ScopeLemmas::expanded_run))]
 pub(crate) fn expanded(
     alloc: Global,
     spelling: &Spelling,
@@ -263,7 +263,7 @@ impl<'a> CommandScopes<'a> {
 }
 
 /// The command line that a rule's command is for a statement.
-#[tactic(auto, using(crate::proofs::ScopeLemmas::expanded_run))]
+#[tactic(auto, using(crate::proofs::lemmas::ScopeLemmas::expanded_run))]
 pub(crate) fn command_line(
     alloc: Global,
     command: &Spelling,

@@ -10,8 +10,8 @@ ghost use Rattle.kt_ninja_reader.specs.Pieces.{is_short_name_byte, pieces, piece
 ghost use Rattle.kt_ninja_reader.specs.inner.Spelled.{is_spelled, pieces_in};
 ghost use Rattle.kt_ninja.specs.Writable.{is_empty};
 ghost use Rattle.kt_ninja_reader.specs.inner.Cutting.{AreSides, CutsOff, CutsShort, dollar_piece, dollar_pieces};
-ghost use Rattle.kt_ninja_reader.specs.Spellings.{name_goes_on};
 ghost use Rattle.kt_ninja_reader.specs.inner.Cutting.{is_own_byte, stops_at, variable_names};
+ghost use Rattle.kt_ninja_reader.specs.views.Spellings.{name_goes_on};
 
 use crate::bytes::first_byte;
 use crate::joined::without_indent;
@@ -101,7 +101,7 @@ fn short_name_length(text: &[u8]) -> usize
 }
 
 // A variable whose name stands in braces, of which the first is cut off.
-#[tactic(auto, using(crate::proofs::PieceLemmas::brace_end))]
+#[tactic(auto, using(crate::proofs::lemmas::PieceLemmas::brace_end))]
 fn variable_in_braces(text: &[u8]) -> Option<DollarCut<'_>>
     ensures { MatchOption result (pieces_from (in_braces []) text.now ≡ None) (CutsOff (in_braces []) text.now) }
 {
@@ -154,7 +154,7 @@ fn escape(text: &[u8]) -> Option<DollarCut<'_>>
 }
 
 // The bytes before the first dollar or mark, and what stands from there.
-#[tactic(auto, using(crate::proofs::SpelledLemmas::place_found, crate::proofs::SpelledLemmas::before_free))]
+#[tactic(auto, using(crate::proofs::lemmas::SpelledLemmas::place_found, crate::proofs::lemmas::SpelledLemmas::before_free))]
 fn cut_run(mark: u8, text: &[u8]) -> (&[u8], &[u8])
     ensures whole { text.now ≡ result.0.now ++ result.1.now }
     ensures free { list_any (is_byte2 36 mark) result.0.now ≡ false }
@@ -165,7 +165,7 @@ fn cut_run(mark: u8, text: &[u8]) -> (&[u8], &[u8])
 }
 
 // Whether each dollar of the text begins an escape or a variable.
-#[tactic(auto, using(crate::proofs::SpelledLemmas::spelled_end, crate::proofs::SpelledLemmas::spelled_none))]
+#[tactic(auto, using(crate::proofs::lemmas::SpelledLemmas::spelled_end, crate::proofs::lemmas::SpelledLemmas::spelled_none))]
 fn is_spelled(text: &[u8]) -> bool
     ensures { result ≡ is_spelled text.now }
 {
@@ -265,7 +265,7 @@ impl<'t> Spelling<'t> {
     }
 
     /// The name that it spells, without a dollar.
-    #[tactic(auto, using(crate::proofs::SpelledParts::name_all, crate::proofs::SpelledParts::name_not))]
+    #[tactic(auto, using(crate::proofs::lemmas::SpelledParts::name_all, crate::proofs::lemmas::SpelledParts::name_not))]
     pub(crate) fn name(&self) -> Option<&'t [u8]>
         ensures { MatchOption result (name_bytes self.now ≡ None) (λ name. name_bytes self.now ≡ Some name.now) }
     {

@@ -127,7 +127,7 @@ fn add_to_block(
 }
 
 // The scope of a statement's block.
-#[tactic(auto, using(std::proofs::lemmas::List::drop_all, crate::proofs::StateLemmas::block_end))]
+#[tactic(auto, using(std::proofs::lemmas::List::drop_all, crate::proofs::lemmas::StateLemmas::block_end))]
 fn block_scope(alloc: Global, file: &Scope, bindings: &[Binding]) -> Result<BlockScope, PartFault>
     ensures { Reads result (block_scope file.now [] (map binding_view bindings.now)) }
 {
@@ -139,7 +139,7 @@ fn block_scope(alloc: Global, file: &Scope, bindings: &[Binding]) -> Result<Bloc
 }
 
 // Adds outputs, each of which is new.
-#[tactic(auto, using(crate::proofs::StateLemmas::left_at, crate::proofs::StateLemmas::new_taken))]
+#[tactic(auto, using(crate::proofs::lemmas::StateLemmas::left_at, crate::proofs::lemmas::StateLemmas::new_taken))]
 fn add_outs(names: &mut Names, outs: &[Path]) -> Result<(), PartFault>
     ensures { MatchResult result (λ _. (are_new names.old outs.now ≡ true)
         × (names.new ≡ names.old ++ outs.now)) (FailsTest (are_new names.old outs.now)) }

@@ -33,14 +33,14 @@ impl<V: Drop> Table<V> {
         }
     }
 
-    #[tactic(auto, using(crate::proofs::TableLemmas::find_in_entries))]
+    #[tactic(auto, using(crate::proofs::lemmas::TableLemmas::find_in_entries))]
     pub(crate) fn get(&self, name: &[u8]) -> Option<&V>
         ensures { option_copied result ≡ find_in self.now name.now }
     {
         self.entries.get(Key(name))
     }
 
-    #[tactic(auto, using(crate::proofs::TableLemmas::find_in_entries))]
+    #[tactic(auto, using(crate::proofs::lemmas::TableLemmas::find_in_entries))]
     pub(crate) fn has(&self, name: &[u8]) -> bool
         ensures { result ≡ is_some (find_in self.now name.now) }
     {
@@ -48,7 +48,7 @@ impl<V: Drop> Table<V> {
     }
 
     // Puts the value at the name, in place of what was there.
-    #[tactic(auto, using(crate::proofs::TableLemmas::put_in_entries, crate::proofs::TableLemmas::put_in_entries))]
+    #[tactic(auto, using(crate::proofs::lemmas::TableLemmas::put_in_entries, crate::proofs::lemmas::TableLemmas::put_in_entries))]
     pub(crate) fn put(&mut self, name: Text, value: V) -> Result<(), AllocError>
         ensures { OnOk result (self.new ≡ put_in self.old name value) }
     {
@@ -81,14 +81,14 @@ impl<'t> RuleCommands<'t> {
         }
     }
 
-    #[tactic(auto, using(crate::proofs::TableLemmas::find_in_borrowed))]
+    #[tactic(auto, using(crate::proofs::lemmas::TableLemmas::find_in_borrowed))]
     pub(crate) fn get(&self, name: &'t [u8]) -> Option<&Spelling<'t>>
         ensures { option_copied result ≡ find_in self.now name.now }
     {
         self.commands.get(&Key(name))
     }
 
-    #[tactic(auto, using(crate::proofs::TableLemmas::find_in_borrowed))]
+    #[tactic(auto, using(crate::proofs::lemmas::TableLemmas::find_in_borrowed))]
     pub(crate) fn has(&self, name: &'t [u8]) -> bool
         ensures { result ≡ is_some (find_in self.now name.now) }
     {

@@ -4,7 +4,7 @@ use Rattle.kt_ninja_reader.proofs.Common.{cases_Bool, false≢true, eqb-true, an
 use Rattle.kt_list.proofs.general.Booleans.{and_nothing}
 use Rattle.kt_ninja_reader.specs.JoinedLines.{OpenLine}
 use Rattle.kt_ninja_reader_laws.specs.Continued.{AreContinued, AreUnescaped, ContinuedLine, EndsRight, IsEnd, IsOneLine, JoinedLaw, end_in_file, fronts_in_file, in_file, kept_of, numbered_lines}
-use Rattle.kt_ninja_reader.proofs.JoinedLemmas.{last-append}
+use Rattle.kt_ninja_reader.proofs.lemmas.JoinedLemmas.{last-append}
 
 -- ---- one line of the file
 

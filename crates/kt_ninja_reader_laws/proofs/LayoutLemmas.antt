@@ -6,7 +6,7 @@ use Rattle.kt_ninja_reader_laws.specs.Continued.{AreContinued, ContinuedLine, En
 use Rattle.kt_ninja_reader_laws.specs.Layout.{LayoutLaw, SaysNothing, continued_text, has_block_ended}
 use Rattle.kt_ninja_reader.specs.NinjaRead.{FileParts}
 use Rattle.kt_ninja_reader_laws.proofs.ContinuedLemmas.{joined_law}
-use Rattle.kt_ninja_reader.proofs.ReaderLemmas.{begin_by}
+use Rattle.kt_ninja_reader.proofs.lemmas.ReaderLemmas.{begin_by}
 
 -- ---- lines and parts that are read alike
 

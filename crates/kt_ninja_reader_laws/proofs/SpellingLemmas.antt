@@ -2,8 +2,8 @@
 use Rattle.std.proofs.Common.{arith, ◌≡◌, ℕ, Bool, true, false, ◌==◌, List, [], ◌∷◌, ◌++◌, refl, sym, ◌∙◌, ap, subst, append_assoc, append-nil, Option, Some, None, option_map, ⊎_elim, inl, inr}
 use Rattle.kt_ninja_reader.proofs.Common.{cases_Bool, false≢true, eqb-true, false_from_ne_true, and_from, and_parts, append_cancel_left, list_all-append, concat, list_all, Bytes, is_empty, Piece, Plain, Escaped, Variable, Where, after_dollar, in_braces, in_name, is_escapable, is_long_name_byte, is_short_name_byte, outside, pieces, pieces_from}
 use Rattle.kt_ninja_reader_laws.specs.Spellings.{AreSpelled, IsNameOf, IsSpelled, PieceLaw}
-use Rattle.kt_ninja_reader.specs.Spellings.{name_goes_on}
-use Rattle.kt_ninja_reader.proofs.PieceLemmas.{none_before, escape-brace, escape-escapable, escape-nil, escape-none, escape-short, outside-dollar, outside-plain, name_ended, not_brace}
+use Rattle.kt_ninja_reader.specs.views.Spellings.{name_goes_on}
+use Rattle.kt_ninja_reader.proofs.lemmas.PieceLemmas.{none_before, escape-brace, escape-escapable, escape-nil, escape-none, escape-short, outside-dollar, outside-plain, name_ended, not_brace}
 use Rattle.kt_ninja_reader_laws.proofs.PieceLemmas.{outside-nil}
 
 -- ---- bytes

@@ -1,7 +1,8 @@
 -- Lines that say nothing, wherever they stand in a file (Ninja manual, "Lexical syntax"; that a blank line ends a block
 -- is kati's own).
 use Rattle.std.specs.Prelude.{◌≡◌, Bool, true, ◌&&◌, ◌||◌, List, [], ◌∷◌, ◌++◌, Option}
-use Rattle.kt_ninja_reader.specs.Prelude.{list_all, Bytes, is_blank_line, is_comment}
+use Rattle.kt_ninja_reader.specs.Prelude.{list_all, Bytes}
+use Rattle.kt_ninja_reader.specs.JoinedLines.{is_blank_line, is_comment}
 use Rattle.kt_ninja.specs.declared.plan.Plan.{Plan}
 use Rattle.std.specs.Result.{result_ok}
 use Rattle.kt_ninja_reader_laws.specs.Continued.{AreContinued, ContinuedLine, in_file, kept_of}

@@ -1,8 +1,9 @@
 -- Pieces by their spellings (Ninja manual, "Lexical syntax"): what `pieces` gives is the one way to cut a text.
 use Rattle.std.specs.Prelude.{◌≡◌, ◌⊎◌, ℕ, Bool, true, false, ◌==◌, List, [], ◌∷◌, ◌++◌, Some}
-use Rattle.kt_ninja_reader.specs.Prelude.{concat, list_all, Bytes, is_empty, pieces}
+use Rattle.std.specs.List.{concat}
+use Rattle.kt_ninja_reader.specs.Prelude.{list_all, Bytes, is_empty, pieces}
 use Rattle.kt_ninja_reader.specs.Pieces.{Piece, Plain, Escaped, Variable, is_escapable, is_long_name_byte, is_short_name_byte}
-use Rattle.kt_ninja_reader.specs.Spellings.{name_goes_on}
+use Rattle.kt_ninja_reader.specs.views.Spellings.{name_goes_on}
 
 -- a name: at least one byte, and all of this kind
 abbrev pub IsNameOf : (ℕ → Bool) → Bytes → Type 0

@@ -1,7 +1,7 @@
 -- What isn't too deep is the same with one more level, step by step.
 use Rattle.std.proofs.Common.{arith, ◌≡◌, ℕ, suc, Bool, List, [], ◌∷◌, length, Option, None, if◌then◌else◌, refl}
 use Rattle.kt_recipe.proofs.Common.{range_with_len, Text, RecipeLine, Store, StepEnd, StepOver, leaving, then_do, Macros, expanding_stays, Node, Setting, setting_of, expansion, put_piece, put_pieces, put_line, put_lines, put_part, put_parts, shell_of}
-use Rattle.kt_eval.specs.Growing.{IsTooDeep, StaysOneDeeper}
+use Rattle.kt_eval.specs.views.Growing.{IsTooDeep, StaysOneDeeper}
 
 -- the second is the first, unless that is too deep
 abbrev pub Stays : {L A : Type 0} → StepEnd L A → StepEnd L A → Type 0

@@ -1,8 +1,7 @@
 -- The prerequisites of a node that has one part, as the graph has them.
 use Rattle.std.proofs.Common.{◌≡◌, ◌∙◌, ◌&&◌, ◌==◌, ℕ, zero, suc, true, not, List, [], ◌∷◌, ap, arith, filter, flat_map, length, slice_get}
 use Rattle.kt_recipe.proofs.Common.{Node, append-nil, is_among, without_repeats}
-use Rattle.kt_graph.specs.nodes.Node.{Part, inputs_of, order_only_of}
-use Rattle.kt_graph.specs.nodes.Views.{part_needed, part_order_only}
+use Rattle.kt_graph.specs.nodes.Node.{Part, inputs_of, order_only_of, part_needed, part_order_only}
 use Rattle.kt_recipe.specs.inner.Asking.{is_only_part}
 
 needed_alone : (parts : List Part) (part : ℕ) → (part == 0 && length parts == 1) ≡ true

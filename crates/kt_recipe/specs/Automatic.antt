@@ -1,11 +1,10 @@
 -- The automatic macros of a recipe (POSIX.1-2024 make, "Internal Macros"; GNU make manual, "Automatic Variables").
 use Rattle.std.specs.Prelude.{ℕ, Bool, true, false, not, List, [], ◌∷◌, map, flat_map, filter, take, slice_get, codes}
 use Rattle.kt_text.specs.Words.{Text, is_nonempty}
-use Rattle.kt_rules.specs.declared.entry.Needs.{Needs}
+use Rattle.kt_rules.specs.declared.line.entry.Needs.{Needs}
 use Rattle.kt_rules.specs.Names.{is_among, without_repeats}
 use Rattle.kt_eval.specs.files.Files.{Store}
-use Rattle.kt_graph.specs.nodes.Node.{Node}
-use Rattle.kt_graph.specs.nodes.Views.{part_needed, part_order_only, part_stem}
+use Rattle.kt_graph.specs.nodes.Node.{Node, part_needed, part_order_only, part_stem}
 use Rattle.kt_recipe.specs.declared.forms.NamePart.{NamePart}
 use Rattle.kt_recipe.specs.declared.forms.NamePart.TheVariants.{Whole, Directory, File}
 use Rattle.kt_recipe.specs.declared.subjects.Subject.{Subject}
@@ -64,8 +63,3 @@ of_mark node part subject =
 -- the automatic macros in the recipe of a part of a node: their names and values
 unfoldable pub automatic_in : Node → ℕ → Store
 automatic_in node part = flat_map (λ mark. map (λ macro. (mark.0 ∷ macro.0, macro.1)) (of_mark node part mark.1)) marks
-
--- a node's part as its automatic macros are held
-pub record PartMacros : Type 0 where
-  pub node : Node
-  pub part : ℕ

@@ -4,5 +4,5 @@ pub mod Automatic
 pub mod Quoting
 pub mod Lines
 pub mod Shell
-pub mod Views
+pub mod views
 pub mod inner

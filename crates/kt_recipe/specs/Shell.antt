@@ -94,8 +94,3 @@ put_parts table limit node (part ∷ parts) command = do
 -- the command of a node, if it has a piece: its parts in order
 unfoldable pub shell_of : Macros → ℕ → Node → StepOver (List Text) (Option Text)
 shell_of table limit node = put_parts table limit node (range_with_len 0 (length node.parts)) None
-
--- the macros and the limit of levels that commands are made with
-pub record Commands : Type 0 where
-  pub table : Macros
-  pub limit : ℕ

@@ -6,7 +6,7 @@ ghost use Rattle.std.specs.Prelude.{slice_get, take};
 ghost use Rattle.std.specs.Cow.{cow_slice_items};
 ghost use Rattle.kt_text.specs.Words.{is_nonempty};
 ghost use Rattle.kt_rules.specs.Names.{is_among, without_repeats};
-ghost use Rattle.kt_graph.specs.nodes.Views.{part_needed, part_order_only};
+ghost use Rattle.kt_graph.specs.nodes.Node.{part_needed, part_order_only};
 ghost use Rattle.kt_recipe.specs.inner.Asking.{is_only_part, macro_in};
 ghost use Rattle.kt_recipe.specs.Automatic.{subject_names_in};
 ghost use Rattle.kt_recipe.specs.Forms.{names_text_in};
@@ -31,7 +31,7 @@ pub struct PartMacros<'n, 'g> {
 }
 
 impl<'n, 'g> Model for PartMacros<'n, 'g> {
-    ghost use Rattle.kt_recipe.specs.Automatic.{PartMacros};
+    ghost use Rattle.kt_recipe.specs.views.Automatic.{PartMacros};
 
     ghost Value = { PartMacros };
 
@@ -109,7 +109,7 @@ pub(crate) fn put_told(
 // The name of a subject that has only one name, which is then borrowed.
 #[tactic(auto, unfolding(crate::specs::Automatic::subject_names))]
 fn only_name<'g>(node: &Node<'g>, part: usize, subject: Subject) -> Option<&'g [u8]>
-    ensures { IfSome result (λ name. subject_names_in node.now part subject ≡ name.now ∷ []) }
+    ensures quick { IfSome result (λ name. subject_names_in node.now part subject ≡ name.now ∷ []) }
 {
     match subject {
         Subject::Target => Some(node.name()),
@@ -209,7 +209,7 @@ fn is_only_part(node: &Node<'_>, part: usize) -> bool
 }
 
 // Each of the names once.
-#[tactic(auto, unfolding(kt_rules::specs::Names::without_repeats))]
+#[tactic(auto, unfolding(kt_list::specs::Names::without_repeats))]
 fn each<'g>(alloc: Global, names: Inputs<'g>) -> Result<IndexSet<Key<'g>>, AllocError>
     ensures { IfOk result (λ set. map (λ key. key.0.now) set.keys ≡ without_repeats names.entry) }
 {

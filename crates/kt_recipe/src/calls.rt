@@ -1,7 +1,8 @@
 //! Calls of the shell, joined to one command.
 ghost use Rattle.std.specs.Prelude.{◌≡◌, ◌++◌, Some, OnOk};
 ghost use Rattle.kt_recipe.specs.Shell.{joined, shell_call, wrapped};
-ghost use Rattle.kt_recipe.specs.Views.{command_in, with_joint};
+ghost use Rattle.kt_recipe.specs.views.Commands.{command_in};
+ghost use Rattle.kt_recipe.specs.inner.Shell.{with_joint};
 
 use crate::quoting::put_quoted;
 use std::alloc::AllocError;

@@ -1,6 +1,6 @@
 //! What the commands of a makefile are made with.
 ghost use Rattle.std.specs.Prelude.{◌≡◌, IfOk, Some, option_map};
-ghost use Rattle.kt_eval.specs.expanding.Pure.{Says};
+ghost use Rattle.kt_eval.specs.views.expanding.Pure.{Says};
 
 use crate::kept::KeptLines;
 use crate::plain::plain_shell;
@@ -22,7 +22,7 @@ pub(crate) struct Expander<'m> {
 
 impl<'m> Model for Expander<'m> {
     ghost use Rattle.std.specs.Prelude.{◌≡◌, option_map};
-    ghost use Rattle.kt_recipe.specs.Shell.{Commands};
+    ghost use Rattle.kt_recipe.specs.views.Commands.{Commands};
     ghost use Rattle.kt_recipe.specs.inner.Plain.{plain_shell};
 
     ghost Value = { Commands };
@@ -91,7 +91,7 @@ pub struct Commands<'m> {
 
 impl<'m> Model for Commands<'m> {
     ghost use Rattle.std.specs.Prelude.{◌≡◌};
-    ghost use Rattle.kt_recipe.specs.Shell.{Commands};
+    ghost use Rattle.kt_recipe.specs.views.Commands.{Commands};
 
     ghost Value = { Commands };
 

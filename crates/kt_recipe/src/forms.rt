@@ -2,7 +2,8 @@
 ghost use Rattle.std.specs.Prelude.{◌≡◌, ◌≤◌, ◌∷◌, [], IfOk, OnOk, length, map};
 ghost use Rattle.std.specs.List.{join_with_byte};
 ghost use Rattle.kt_text.specs.Functions.{name_part, name_place};
-ghost use Rattle.kt_text.specs.Words.{list_text, put_word};
+ghost use Rattle.kt_text.specs.Words.{list_text};
+ghost use Rattle.kt_text.specs.views.Words.{put_word};
 ghost use Rattle.kt_recipe.specs.Forms.{directory_of, names_text_in};
 
 use memchr::memrchr;
@@ -57,7 +58,7 @@ fn whole(alloc: Global, names: &[&[u8]]) -> Result<Vec<u8>, AllocError>
     Ok(text)
 }
 
-#[tactic(auto, using(kt_text::proofs::ListLemmas::put_words_is))]
+#[tactic(auto, using(kt_text::proofs::lemmas::ListLemmas::put_words_is))]
 fn directories(alloc: Global, names: &[&[u8]]) -> Result<Vec<u8>, AllocError>
     ensures { IfOk result (λ text. text.items ≡ list_text (map directory_of (map (λ name. name.now) names.now))) }
 {
@@ -68,7 +69,7 @@ fn directories(alloc: Global, names: &[&[u8]]) -> Result<Vec<u8>, AllocError>
     Ok(text)
 }
 
-#[tactic(auto, using(kt_text::proofs::ListLemmas::put_words_is))]
+#[tactic(auto, using(kt_text::proofs::lemmas::ListLemmas::put_words_is))]
 fn files(alloc: Global, names: &[&[u8]]) -> Result<Vec<u8>, AllocError>
     ensures { IfOk result (λ text. text.items ≡ list_text (map name_part (map (λ name. name.now) names.now))) }
 {
@@ -110,7 +111,7 @@ fn file(name: &[u8]) -> &[u8]
 }
 
 // Where the part after the last slash begins.
-#[tactic(auto, using(kt_text::proofs::NameLemmas::name_places))]
+#[tactic(auto, using(kt_text::proofs::lemmas::NameLemmas::name_places))]
 fn name_place(name: &[u8]) -> usize
     ensures value { result ≡ name_place name.now }
     ensures bound { result ≤ length name.now }

@@ -58,7 +58,7 @@ pub(crate) struct KeptLines<'m> {
 }
 
 impl<'m> Model for KeptLines<'m> {
-    ghost use Rattle.kt_recipe.specs.Shell.{Commands};
+    ghost use Rattle.kt_recipe.specs.views.Commands.{Commands};
     ghost use Rattle.kt_recipe.specs.inner.Prepared.{IsRightLine};
     ghost use Rattle.std.specs.List.{All};
 
@@ -93,7 +93,7 @@ impl<'m> KeptLines<'m> {
         out: &mut Vec<u8>,
     ) -> Result<bool, AllocError>
         ensures same { self.new ≡ self.old }
-        ensures filled { IfOk result (λ known. known ≡ true
+        ensures quick_filled { IfOk result (λ known. known ≡ true
             → IsFilled self.old line.now node.now part out.new.items) }
     {
         if number >= MOST {
@@ -107,7 +107,7 @@ impl<'m> KeptLines<'m> {
 
     // The line with this number, if it has this text.
     fn kept(&self, number: usize, text: &[u8]) -> Option<&KeptLine>
-        ensures { IfSome result (λ line. IsRightLine self.now.table self.now.limit line.now
+        ensures quick { IfSome result (λ line. IsRightLine self.now.table self.now.limit line.now
             × (line.now.text.items ≡ text.now)) }
     {
         let line = self.lines.as_slice().get(number)?;
@@ -127,7 +127,7 @@ impl<'m> KeptLines<'m> {
         out: &mut Vec<u8>,
     ) -> Result<bool, AllocError>
         ensures same { self.new ≡ self.old }
-        ensures filled { IfOk result (λ known. known ≡ true
+        ensures quick_filled { IfOk result (λ known. known ≡ true
             → IsFilled self.old line.now node.now part out.new.items) }
     {
         let made = KeptLine::of(self.alloc, self.macros, self.limit, line)?;

@@ -1,5 +1,5 @@
 //! Laws of the definitions. These functions do nothing: only their contracts matter.
-ghost use Rattle.kt_eval.specs.Growing.{StaysOneDeeper};
+ghost use Rattle.kt_eval.specs.views.Growing.{StaysOneDeeper};
 ghost use Rattle.kt_eval.specs.macros.Macros.{Macros};
 ghost use Rattle.kt_graph.specs.nodes.Node.{Node};
 ghost use Rattle.kt_recipe.specs.Shell.{shell_of};

@@ -3,7 +3,8 @@
 //! expanded once, to pieces. Spares the search for references, a hash for each macro, and each call.
 ghost use Rattle.std.specs.Prelude.{◌≡◌, ◌++◌, [], IfOk, IfSome, OnOk, false, map, option_map, true};
 ghost use Rattle.kt_text.specs.Words.{stripped};
-ghost use Rattle.kt_syntax.specs.Terms.{reference, token_of};
+ghost use Rattle.kt_syntax.specs.Terms.{reference};
+ghost use Rattle.kt_syntax.specs.views.Terms.{token_of};
 ghost use Rattle.kt_eval.specs.State.{lookup};
 ghost use Rattle.kt_eval.specs.expanding.Expansion.{apply, apply_if, apply_text, each_argument, expanded, flavoured};
 ghost use Rattle.kt_eval.specs.expanding.Expansion.{term_of, value_of};
@@ -48,7 +49,7 @@ impl PreparedText {
         limit: u64,
         text: &[u8],
     ) -> Result<Option<PreparedText>, AllocError>
-        ensures { IfOk result (λ found. IfSome found (λ pieces. IsPrepared macros.now limit text.now pieces)) }
+        ensures quick { IfOk result (λ found. IfSome found (λ pieces. IsPrepared macros.now limit text.now pieces)) }
     {
         let mut pieces = PreparedText::none(alloc);
         if put_text(macros, limit, text, &mut pieces)? {
@@ -72,7 +73,7 @@ impl PreparedText {
     // The text of pieces without an automatic macro.
     #[tactic(auto, unfolding(crate::specs::inner::Prepared::filled, crate::specs::inner::Prepared::filled_gaps))]
     fn whole(self) -> Option<Vec<u8>>
-        ensures { IfSome result (λ text. AreText self text.items) }
+        ensures quick { IfSome result (λ text. AreText self text.items) }
     {
         let PreparedText {
             alloc: _alloc,
@@ -103,7 +104,7 @@ fn put_text(
     text: &[u8],
     pieces: &mut PreparedText,
 ) -> Result<bool, AllocError>
-    ensures { IfOk result (λ known. known ≡ true
+    ensures quick { IfOk result (λ known. known ≡ true
         → Adds macros.now (expanded (evaluator false [] limit) text.now) pieces.old pieces.new) }
 {
     let mut rest = terms(text);
@@ -122,7 +123,7 @@ fn put_term(
     term: Result<Term<'_>, Unterminated>,
     pieces: &mut PreparedText,
 ) -> Result<bool, AllocError>
-    ensures { IfOk result (λ known. known ≡ true
+    ensures quick { IfOk result (λ known. known ≡ true
         → Adds macros.now (term_of (evaluator false [] limit) (token_of term.entry)) pieces.old pieces.new) }
 {
     match term {
@@ -147,7 +148,7 @@ fn put_asked(
     body: &[u8],
     pieces: &mut PreparedText,
 ) -> Result<bool, AllocError>
-    ensures { IfOk result (λ known. known ≡ true
+    ensures quick { IfOk result (λ known. known ≡ true
         → Adds macros.now (term_of (evaluator false [] limit) (reference mark body.now)) pieces.old pieces.new) }
 {
     match Request::by(pieces.alloc, mark, body)? {
@@ -168,7 +169,7 @@ fn put_call(
     arguments: &[&[u8]],
     pieces: &mut PreparedText,
 ) -> Result<bool, AllocError>
-    ensures { IfOk result (λ known. known ≡ true
+    ensures quick { IfOk result (λ known. known ≡ true
         → Adds macros.now (apply (evaluator false [] limit) function (map (λ a. a.now) arguments.now))
         pieces.old pieces.new) }
 {
@@ -195,7 +196,7 @@ fn put_applied(
     texts: &[&[u8]],
     pieces: &mut PreparedText,
 ) -> Result<bool, AllocError>
-    ensures { IfOk result (λ known. known ≡ true
+    ensures quick { IfOk result (λ known. known ≡ true
         → Adds macros.now (apply_text (evaluator false [] limit) function (map (λ a. a.now) texts.now))
         pieces.old pieces.new) }
 {
@@ -216,7 +217,7 @@ fn known_arguments(
     limit: u64,
     texts: &[&[u8]],
 ) -> Result<Option<Vec<Value>>, AllocError>
-    ensures { IfOk result (λ found. IfSome found (λ values. IsKnown macros.now
+    ensures quick { IfOk result (λ found. IfSome found (λ values. IsKnown macros.now
         (each_argument (evaluator false [] limit) [] (map (λ a. a.now) texts.now)) values.items)) }
 {
     let mut values = Vec::new(alloc);
@@ -241,7 +242,7 @@ fn put_if(
     other: Option<&[u8]>,
     pieces: &mut PreparedText,
 ) -> Result<bool, AllocError>
-    ensures { IfOk result (λ known. known ≡ true
+    ensures quick { IfOk result (λ known. known ≡ true
         → Adds macros.now (apply_if (evaluator false [] limit) condition.now chosen.now
         (option_map (λ t. t.now) other.entry)) pieces.old pieces.new) }
 {
@@ -267,7 +268,7 @@ fn known_text(
     limit: u64,
     text: &[u8],
 ) -> Result<Option<Vec<u8>>, AllocError>
-    ensures { IfOk result (λ found. IfSome found (λ bytes. IsKnown macros.now
+    ensures quick { IfOk result (λ found. IfSome found (λ bytes. IsKnown macros.now
         ((evaluator false [] limit).expand text.now) bytes.items)) }
 {
     let mut pieces = PreparedText::none(alloc);
@@ -286,7 +287,7 @@ fn put_name(
     name: &[u8],
     pieces: &mut PreparedText,
 ) -> Result<bool, AllocError>
-    ensures { IfOk result (λ known. known ≡ true
+    ensures quick { IfOk result (λ known. known ≡ true
         → Adds macros.now (λ w. value_of (evaluator false [] limit) (lookup name.now w) w) pieces.old pieces.new) }
 {
     if let Some((subject, form)) = asked_by(name) {
@@ -306,7 +307,7 @@ fn put_value(
     value: &[u8],
     pieces: &mut PreparedText,
 ) -> Result<bool, AllocError>
-    ensures { IfOk result (λ known. known ≡ true
+    ensures quick { IfOk result (λ known. known ≡ true
         → Adds macros.now (flavoured (evaluator false [] limit) flavour value.now) pieces.old pieces.new) }
 {
     match flavour {
@@ -323,7 +324,7 @@ fn put_deeper(
     text: &[u8],
     pieces: &mut PreparedText,
 ) -> Result<bool, AllocError>
-    ensures { IfOk result (λ known. known ≡ true
+    ensures quick { IfOk result (λ known. known ≡ true
         → Adds macros.now ((evaluator false [] limit).expand text.now) pieces.old pieces.new) }
 {
     if limit == 0 {
@@ -345,7 +346,7 @@ fn put_result(
     arguments: &[Value],
     pieces: &mut PreparedText,
 ) -> Result<bool, AllocError>
-    ensures { IfOk result (λ known. known ≡ true → AddsResult function arguments.now pieces.old pieces.new) }
+    ensures quick { IfOk result (λ known. known ≡ true → AddsResult function arguments.now pieces.old pieces.new) }
 {
     match text_result(pieces.alloc, function, arguments) {
         Ok(text) => put_known(pieces, &text),

@@ -2,12 +2,13 @@
 ghost use Rattle.std.specs.Prelude.{◌≡◌, None, length, map, option_map};
 ghost use Rattle.std.specs.Cow.{cow_slice_items};
 ghost use Rattle.std.specs.List.{range_with_len};
-ghost use Rattle.kt_eval.specs.expanding.Pure.{Says};
+ghost use Rattle.kt_eval.specs.views.expanding.Pure.{Says};
 ghost use Rattle.kt_recipe.specs.Automatic.{automatic_in};
 ghost use Rattle.kt_recipe.specs.Lines.{pieces_of_line};
 ghost use Rattle.kt_recipe.specs.Shell.{expansion, put_line, put_lines, put_part, put_parts, put_piece, put_pieces};
 ghost use Rattle.kt_recipe.specs.Shell.{shell_of, shell_text};
-ghost use Rattle.kt_recipe.specs.Views.{command_in, setting_at};
+ghost use Rattle.kt_recipe.specs.views.Commands.{command_in};
+ghost use Rattle.kt_recipe.specs.inner.Shell.{setting_at};
 
 use crate::automatic::auto_of;
 use crate::calls::put_call;

@@ -2,7 +2,7 @@
 use Rattle.std.proofs.Common.{arith, ◌≡◌, ℕ, Bool, true, false, List, [], ◌∷◌, ◌++◌, length, map, Option, Some, None, if◌then◌else◌, refl, sym, ap, subst, ◌∙◌, codes, filter, flat_map}
 use Rattle.std.proofs.lemmas.Grind.{flat_map-append}
 use Rattle.kt_recipe.proofs.Common.{append-nil, append_assoc, All, range_with_len, Text, is_nonempty, Store, Macros, Node, after_run, ignores_failure, pieces_of_line, joined, wrapped, Setting, shell_text, expansion, put_piece, put_pieces, put_line, put_lines, put_part, put_parts, shell_of}
-use Rattle.kt_rules.specs.declared.entry.RecipeLine.{RecipeLine}
+use Rattle.kt_rules.specs.declared.line.entry.RecipeLine.{RecipeLine}
 use Rattle.std.proofs.lemmas.List.Elements.{All-nil, All-cons, All-head, All-tail}
 use Rattle.kt_eval.specs.Outcome.{StepEnd, Gave, StepOver, ◌>>=◌, then_do, done}
 use Rattle.kt_recipe_laws.specs.Commands.{NodeLine, line_with, lines_in, lines_of, CommandPiece, piece_with, Call, call_text, command_of, ExpandedText, AreExpanded, MadeLine, CallsItsPieces, shell_at, expanded_for, IsCommandOf, CommandLaw}

@@ -2,7 +2,7 @@
 use Rattle.std.proofs.Common.{arith, refl, ◌≡◌, ℕ, List, [], ◌∷◌, ◌++◌, Some, codes}
 use Rattle.kt_recipe.proofs.Common.{Text, is_separator, is_blank, words_of, literal, reference, terms_of, Store, Macros, find, seen, innermost_value, lookup, Gave, Stopped, other_function, function_of, is_refused_function, arguments_from, arguments_of, asked_of, request_by_mark, naming_of, text_function, value_of, each_argument, each_word, apply_foreach, apply_eval, apply_error, apply_info, apply, body_of, value_named, referred, term_of, each_term, expanded, above, none_left, evaluator, Node, automatic_in, is_prefix, ignores_failure, pieces_of_line, wrapped, setting_of, shell_text, expansion, put_piece, put_pieces, put_line, put_lines, put_part, put_parts, shell_of}
 use Rattle.kt_rules.specs.declared.place.Place.{Place}
-use Rattle.kt_rules.specs.declared.entry.RecipeLine.{RecipeLine}
+use Rattle.kt_rules.specs.declared.line.entry.RecipeLine.{RecipeLine}
 use Rattle.kt_syntax.specs.declared.term.Mark.TheVariants.{Byte, Parentheses}
 use Rattle.kt_eval.specs.Step.{fault_at}
 use Rattle.kt_eval.specs.expanding.TextFunctions.{text_result}

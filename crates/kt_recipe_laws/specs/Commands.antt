@@ -2,8 +2,10 @@
 -- "Errors in Recipes", "Defining Canned Recipes"; how they are joined to one command is kati's own).
 use Rattle.std.specs.Prelude.{◌≡◌, ◌↔◌, ℕ, Bool, ◌||◌, List, [], ◌∷◌, length, map, filter, flat_map, Option, Some, None, codes, slice_get, unwrap_or}
 use Rattle.std.specs.List.{All, join_by, range_with_len}
-use Rattle.kt_recipe.specs.Prelude.{Text, is_nonempty, Store, Gave, Macros, Node, part_lines, automatic_in}
-use Rattle.kt_rules.specs.declared.entry.RecipeLine.{RecipeLine}
+use Rattle.kt_recipe.specs.Prelude.{Text, Store, Macros, Node, part_lines, automatic_in}
+use Rattle.kt_text.specs.Words.{is_nonempty}
+use Rattle.kt_eval.specs.Outcome.{Gave}
+use Rattle.kt_rules.specs.declared.line.entry.RecipeLine.{RecipeLine}
 use Rattle.kt_recipe.specs.Lines.{after_run, ignores_failure, pieces_of_line}
 use Rattle.kt_recipe.specs.Shell.{Setting, expansion, setting_of, shell_of, shell_text, wrapped}
 

@@ -1,7 +1,11 @@
 -- Worked values of automatic macros and of commands, as facts that compute.
 use Rattle.std.specs.Prelude.{◌≡◌, ℕ, List, [], ◌∷◌, Option, Some, None, codes}
-use Rattle.kt_recipe.specs.Prelude.{Text, look, StepEnd, Gave, Stopped, fault_at, Macros, Node, Part}
-use Rattle.kt_rules.specs.declared.entry.RecipeLine.{RecipeLine}
+use Rattle.kt_recipe.specs.Prelude.{Text, Macros, Node}
+use Rattle.kt_eval.specs.files.Files.{look}
+use Rattle.kt_eval.specs.Outcome.{StepEnd, Gave, Stopped}
+use Rattle.kt_eval.specs.Step.{fault_at}
+use Rattle.kt_graph.specs.nodes.Node.{Part}
+use Rattle.kt_rules.specs.declared.line.entry.RecipeLine.{RecipeLine}
 use Rattle.kt_eval_laws.specs.Rows.{at_m, deferred}
 use Rattle.kt_graph.specs.declared.nodes.node.NodeKind.TheVariants.{DoubleColon, Explicit}
 use Rattle.kt_recipe.specs.Automatic.{automatic_in}

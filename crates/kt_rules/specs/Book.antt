@@ -1,9 +1,9 @@
 -- The rules of a makefile as a list, and lookups in it (POSIX.1-2024 make, "Target Rules"; GNU make manual, "Rules").
-use Rattle.std.specs.Prelude.{◌≡◌, ℕ, Bool, true, false, not, ◌&&◌, ◌||◌, ◌==◌, List, [], ◌∷◌, ◌++◌, map, filter, find}
+use Rattle.std.specs.Prelude.{Bool, true, false, not, ◌&&◌, ◌||◌, ◌==◌, List, [], ◌∷◌, ◌++◌, map, filter, find}
 use Rattle.std.specs.Prelude.{flat_map, filter_map, codes, bytes_eq, Option, Some, None, option_map, is_some, is_none}
 use Rattle.std.specs.Prelude.{Result, Ok, Err, if◌then◌else◌}
-use Rattle.kt_rules.specs.Prelude.{AllPairs, list_any, enumerate_from, option_or, option_map_or, Text, Kind}
-use Rattle.kt_rules.specs.Prelude.{DoubleColon, Group, Pattern, TerminalPattern, Target, Place, Needs, Entry, needs_for}
+use Rattle.kt_rules.specs.Prelude.{list_any, option_or, option_map_or, Text, Kind, DoubleColon, Group, Pattern}
+use Rattle.kt_rules.specs.Prelude.{TerminalPattern, Target, Place, Entry}
 use Rattle.std.specs.Cmp.Lexicographic.{pointwise}
 use Rattle.kt_rules.specs.Names.{is_among, is_special}
 use Rattle.kt_rules.specs.Places.{place_text}
@@ -25,6 +25,11 @@ abbrev pub is_pattern : Kind → Bool
 is_pattern Pattern = true
 is_pattern TerminalPattern = true
 is_pattern other = false
+
+-- whether a rule is terminal: no implicit rule is searched for to make the prerequisites
+abbrev pub is_terminal : Kind → Bool
+is_terminal TerminalPattern = true
+is_terminal other = false
 
 -- whether a rule makes a target by name: a pattern rule doesn't, and a special target isn't made
 abbrev pub is_made : Entry → Target → Bool
@@ -54,27 +59,9 @@ recipes_of rules name = filter has_recipe (rules_of rules name)
 unfoldable pub explicit_rules : List Entry → Text → List (Entry × Target)
 explicit_rules rules name = filter (λ made. not (is_suffix_rule (suffixes_of rules) name made)) (rules_of rules name)
 
--- what a rule says of a target, whatever its name: the kind, whether there is a recipe, and the prerequisites
-abbrev pub rule_needs : Entry × Target → Kind × (Bool × Needs)
-rule_needs made = (made.0.kind, (is_some made.0.recipe, needs_for made.0 made.1))
-
--- the explicit rules of two names say the same of them, one by one
-abbrev pub AreMadeAlike : List Entry → Text → Text → Type 0
-AreMadeAlike rules name other =
-    map rule_needs (explicit_rules rules name) ≡ map rule_needs (explicit_rules rules other)
-
 -- whether a rule is explicit for one of its targets, given the suffixes
 abbrev pub is_explicit : List Text → Entry × Target → Bool
 is_explicit suffixes made = is_made made.0 made.1 && not (is_suffix_rule suffixes made.1.name made)
-
--- the number of a numbered rule, once for each of its targets with the name for which it is explicit
-abbrev pub numbers_in : List Text → Text → ℕ × Entry → List ℕ
-numbers_in suffixes name numbered = map (λ target. numbered.0)
-    (filter (λ target. bytes_eq name target.name && is_explicit suffixes (numbered.1, target)) numbered.1.targets)
-
--- the numbers of the explicit rules of a target, in order: a rule's number is its place in the list, from 0
-unfoldable pub explicit_numbers : List Entry → Text → List ℕ
-explicit_numbers rules name = flat_map (numbers_in (suffixes_of rules) name) (enumerate_from 0 rules)
 
 -- the phony names: the prerequisites of the special target `.PHONY` (POSIX.1-2024 make, "Special Targets")
 abbrev pub phony_of : Entry → List Text
@@ -97,10 +84,6 @@ may_be_goal name = not (begins_with_dot name) || list_any (λ byte. byte == 47) 
 -- whether a rule is explicit, and its target may be the default goal
 abbrev pub is_goal : List Text → Entry × Target → Bool
 is_goal suffixes made = may_be_goal made.1.name && not (is_suffix_rule suffixes made.1.name made)
-
--- the first target of one rule that may be the default goal
-abbrev pub goal_in : List Text → Entry → Option Text
-goal_in suffixes rule = option_map (λ made. made.1.name) (find (is_goal suffixes) (target_rules rule))
 
 -- the first target of all rules that may be the default goal, given the suffixes
 unfoldable pub first_goal_by : List Text → List Entry → Option Text
@@ -145,20 +128,6 @@ refusal_of rules rule =
     if is_group rule.kind && is_none rule.recipe then Some bad_group
     else option_or (option_map (λ target. both_colons target.name) (both_colons_in rules rule))
     (option_map (λ target. two_recipes target.name) (two_recipes_in rules rule))
-
--- whether a rule makes a target of this name
-abbrev pub makes : Entry → Text → Bool
-makes rule name = list_any (λ target. bytes_eq name target.name) (made_targets rule)
-
--- of two rules with a recipe, one of them a group, neither makes a target of the other
-abbrev pub AreApart : Entry → Entry → Type 0
-AreApart earlier later =
-    is_some earlier.recipe ≡ true → is_some later.recipe ≡ true → (is_group later.kind || is_group earlier.kind) ≡ true
-    → list_any (λ target. makes earlier target.name) (made_targets later) ≡ false
-
--- a group shares no target with another rule that has a recipe (kati's own)
-abbrev pub GroupsStandAlone : List Entry → Type 0
-GroupsStandAlone rules = AllPairs AreApart rules
 
 -- the targets for which a rule with one colon gives a second recipe; an earlier rule with a recipe also has one colon,
 -- or this one would be refused (GNU make manual, "Multiple Rules for One Target")

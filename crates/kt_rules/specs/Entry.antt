@@ -6,15 +6,15 @@ use Rattle.std.specs.Option.{option_and_then}
 use Rattle.kt_text.specs.Words.{Text, words_of}
 use Rattle.kt_text.specs.Match.{has_percent, stem_span}
 use Rattle.kt_text.specs.Functions.{with_stem}
-use Rattle.kt_rules.specs.declared.entry.Kind.{Kind}
-use Rattle.kt_rules.specs.declared.entry.Kind.TheVariants.{SingleColon, DoubleColon, Group, Pattern, TerminalPattern}
-use Rattle.kt_rules.specs.declared.entry.Needs.{Needs}
-use Rattle.kt_rules.specs.declared.entry.StemmedNeeds.{StemmedNeeds}
-use Rattle.kt_rules.specs.declared.entry.Target.{Target}
-use Rattle.kt_rules.specs.declared.entry.RecipeLine.{RecipeLine}
-use Rattle.kt_rules.specs.declared.head.Separator.{Separator}
-use Rattle.kt_rules.specs.declared.head.Separator.TheVariants.{Single, Double, Grouped}
-use Rattle.kt_rules.specs.declared.line.HeadNames.{HeadNames}
+use Rattle.kt_rules.specs.declared.line.entry.Kind.{Kind}
+use Rattle.kt_rules.specs.declared.line.entry.Kind.TheVariants.{SingleColon, DoubleColon, Group, Pattern, TerminalPattern}
+use Rattle.kt_rules.specs.declared.line.entry.Needs.{Needs}
+use Rattle.kt_rules.specs.declared.line.entry.StemmedNeeds.{StemmedNeeds}
+use Rattle.kt_rules.specs.declared.line.entry.Target.{Target}
+use Rattle.kt_rules.specs.declared.line.entry.RecipeLine.{RecipeLine}
+use Rattle.kt_rules.specs.declared.line.head.Separator.{Separator}
+use Rattle.kt_rules.specs.declared.line.head.Separator.TheVariants.{Single, Double, Grouped}
+use Rattle.kt_rules.specs.declared.line.head_names.HeadNames.{HeadNames}
 use Rattle.kt_rules.specs.declared.place.Place.{Place}
 use Rattle.kt_rules.specs.Refusals.{Refusal, RuleLineFault, rule_line_faults}
 use Rattle.kt_rules.specs.Names.{without_dots}

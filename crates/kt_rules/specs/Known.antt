@@ -1,13 +1,8 @@
--- The names that stand in rules, and those that rules make known: those of explicit rules, and the phony ones (kati's
--- own).
-use Rattle.std.specs.Prelude.{List, [], ◌∷◌, ◌++◌, flat_map, map, if◌then◌else◌}
+-- The names that rules make known: those of explicit rules, and the phony ones (kati's own).
+use Rattle.std.specs.Prelude.{List, [], ◌∷◌, ◌++◌, flat_map, if◌then◌else◌}
 use Rattle.kt_rules.specs.Prelude.{Text, Target, Entry, needs_for}
 use Rattle.kt_rules.specs.Suffixes.{all_needs}
 use Rattle.kt_rules.specs.Book.{is_explicit, phony_of}
-
--- the names that stand in a rule: its targets, and what those need that no static pattern gives anything
-abbrev pub names_in : Entry → List Text
-names_in rule = map (λ target. target.name) rule.targets ++ all_needs rule.needs
 
 -- a target of an explicit rule, and all its prerequisites
 abbrev pub named_with : List Text → Entry → Target → List Text

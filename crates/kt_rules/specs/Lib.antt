@@ -7,10 +7,6 @@ pub mod Names
 pub mod RuleLine
 pub mod Suffixes
 pub mod Book
-pub mod Indexes
-pub mod Targets
 pub mod Known
-pub mod Slots
-pub mod Patterns
-pub mod Cuts
+pub mod views
 pub mod inner

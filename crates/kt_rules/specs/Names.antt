@@ -7,8 +7,8 @@ use Rattle.kt_text.specs.Words.{Text, is_nonempty, is_separator, stripped_start}
 use Rattle.kt_text.specs.Functions.{quotes_percent}
 pub use Rattle.kt_list.specs.Names.{is_among, with_name}
 unfoldable pub use Rattle.kt_list.specs.Names.{without_repeats}
-use Rattle.kt_rules.specs.declared.cutting.Cut.{Cut}
-use Rattle.kt_rules.specs.declared.cutting.Cut.TheVariants.{Colon, Separator}
+use Rattle.kt_rules.specs.declared.line.cutting.Cut.{Cut}
+use Rattle.kt_rules.specs.declared.line.cutting.Cut.TheVariants.{Colon, Separator}
 
 -- a byte that a backslash directly before it quotes: a space or a colon (kati's own)
 abbrev pub is_quotable : ℕ → Bool

@@ -1,13 +1,9 @@
 -- Why a rule is refused, and the fault for it (kati's own).
-use Rattle.std.specs.Prelude.{◌≡◌, ℕ, [], Result, Ok, Err}
+use Rattle.std.specs.Prelude.{ℕ, [], Result, Ok, Err}
 use Rattle.kt_text.specs.Words.{Text}
 use Rattle.kt_rules.specs.declared.fault_kind.FaultKind.{FaultKind}
 use Rattle.kt_rules.specs.declared.fault_kind.FaultKind.TheVariants as kind
 use Rattle.kt_rules.specs.declared.place.Place.{Place}
-use Rattle.kt_rules.specs.declared.fault.RuleFault.{RuleFault}
-use Rattle.kt_rules.specs.declared.fault.RuleFault.TheVariants.{Memory, Refused}
-use Rattle.kt_rules.specs.declared.refusal.Refusal.{Refusal as HeldRefusal}
-use Rattle.kt_rules.specs.declared.refusal.Refusal.TheVariants as told
 use Rattle.kt_rules.specs.FaultKinds.{fault_kind_number, words_with}
 
 -- what is wrong with a rule line, or, from `both_colons` on, with a rule after the rules before it
@@ -19,16 +15,6 @@ pub data Refusal : Type 0 where
   bad_group : Refusal
   both_colons : (name : Text) → Refusal
   two_recipes : (name : Text) → Refusal
-
--- a refusal of the code as one of the definitions
-abbrev pub refusal_view : HeldRefusal → Refusal
-refusal_view told.MissingSeparator = missing_separator
-refusal_view (told.RefusedName name) = refused_name name.now
-refusal_view (told.BadStaticPattern name) = bad_static_pattern name.now
-refusal_view (told.RefusedTarget name) = refused_target name.now
-refusal_view told.BadGroup = bad_group
-refusal_view (told.BothColons name) = both_colons name.now
-refusal_view (told.TwoRecipes name) = two_recipes name.now
 
 -- the kind of the fault, and the name in its message, which is empty if the message has none
 abbrev pub kind_and_name : Refusal → FaultKind × Text
@@ -56,15 +42,3 @@ rule_line_fault place refusal =
 abbrev pub rule_line_faults : {A : Type 0} → Place → Result A Refusal → Result A RuleLineFault
 rule_line_faults place (Ok value) = Ok value
 rule_line_faults place (Err refusal) = Err (rule_line_fault place refusal)
-
--- the call returns exactly this fault, or runs out of memory, which is always allowed
-abbrev pub ReportsFault : RuleFault → RuleLineFault → Type 0
-ReportsFault Memory fault = Unit {0}
-ReportsFault (Refused number place words) fault = record { number = number; place = place; words = words } ≡ fault
-
--- the call returns the expected value or fault, or runs out of memory
-abbrev pub GivesExpected : {A : Type 0} → Result A RuleFault → Result A RuleLineFault → Type 0
-GivesExpected (Ok value) expected = expected ≡ Ok value
-GivesExpected (Err Memory) expected = Unit {0}
-GivesExpected (Err (Refused number place words)) expected =
-    expected ≡ Err (record { number = number; place = place; words = words })

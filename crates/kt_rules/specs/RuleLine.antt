@@ -9,15 +9,13 @@ use Rattle.std.specs.Option.{option_or}
 use Rattle.std.specs.Cmp.Lexicographic.{pointwise}
 use Rattle.kt_text.specs.Words.{Text}
 use Rattle.kt_text.specs.Match.{has_percent, stem_span}
-use Rattle.kt_rules.specs.declared.head.Separator.{Separator}
-use Rattle.kt_rules.specs.declared.head.Separator.TheVariants.{Single, Double, Grouped}
-use Rattle.kt_rules.specs.declared.head.Head.{Head as HeadTold}
-use Rattle.kt_rules.specs.declared.line.HeadNames.{HeadNames}
-use Rattle.kt_rules.specs.declared.entry.Needs.{Needs}
-use Rattle.kt_rules.specs.declared.refusal.Refusal.{Refusal as RefusalTold}
-use Rattle.kt_rules.specs.Refusals.{Refusal, refusal_view, missing_separator, refused_name, bad_static_pattern}
-use Rattle.kt_rules.specs.Refusals.{refused_target, bad_group}
-use Rattle.kt_rules.specs.declared.cutting.Cut.TheVariants.{Colon}
+use Rattle.kt_rules.specs.declared.line.head.Separator.{Separator}
+use Rattle.kt_rules.specs.declared.line.head.Separator.TheVariants.{Single, Double, Grouped}
+use Rattle.kt_rules.specs.declared.line.head_names.HeadNames.{HeadNames}
+use Rattle.kt_rules.specs.declared.line.entry.Needs.{Needs}
+use Rattle.kt_rules.specs.Refusals.{Refusal, missing_separator, refused_name, bad_static_pattern, refused_target}
+use Rattle.kt_rules.specs.Refusals.{bad_group}
+use Rattle.kt_rules.specs.declared.line.cutting.Cut.TheVariants.{Colon}
 use Rattle.kt_rules.specs.Names.{cut_place, written_words, without_outer_separators, name_of, without_repeats, is_among}
 use Rattle.kt_rules.specs.Names.{is_refused_name, is_without_effect, is_special, is_refused_target, wait_name}
 
@@ -28,15 +26,6 @@ pub record Head : Type 0 where
   -- the target pattern of a static pattern rule
   pub pattern : Option Text
   pub needs : Text
-
--- a head of the code as one of the definitions
-abbrev pub head_view : HeadTold → Head
-head_view head = record {
-  separator = head.separator;
-  targets = head.targets.now;
-  pattern = option_map (λ word. word.now) head.pattern;
-  needs = head.needs.now;
-}
 
 -- the text before the first unquoted colon and the text after it (POSIX.1-2024 make, "Target Rules")
 unfoldable pub colon_cut : Text → Option (Text × Text)
@@ -182,12 +171,3 @@ line_refusal line =
     ∷ first_refusal (map (target_refusal line.pattern) line.targets)
     ∷ refused_if (is_among (tested_needs line) wait_name) (refused_target wait_name)
     ∷ [])
-
--- the result of a cut as one of the definitions
-abbrev pub heads_view : Result HeadTold RefusalTold → Result Head Refusal
-heads_view (Ok head) = Ok (head_view head)
-heads_view (Err refusal) = Err (refusal_view refusal)
-
--- a refusal of the code, if any, as one of the definitions
-abbrev pub refusal_in : Option RefusalTold → Option Refusal
-refusal_in refusal = option_map refusal_view refusal

@@ -2,11 +2,13 @@
 ghost use Rattle.std.specs.Prelude.{◌≡◌, ◌++◌, ◌∷◌, [], All, IfOk, None, OnErr, OnOk, find, flat_map, nat_eq};
 ghost use Rattle.std.specs.Prelude.{IsTrue, option_map};
 ghost use Rattle.std.specs.List.{Contains, ends_with};
-ghost use Rattle.kt_rules.specs.Book.{AreMadeAlike, GroupsStandAlone, added, explicit_rules, first_goal_of};
-ghost use Rattle.kt_rules.specs.Book.{is_explicit, is_phony, override_messages, patterns_of, refusal_of};
-ghost use Rattle.kt_rules.specs.Known.{named_by, names_in};
-ghost use Rattle.kt_rules.specs.Refusals.{GivesExpected};
-ghost use Rattle.kt_rules.specs.Slots.{rule_view};
+ghost use Rattle.kt_rules.specs.views.Book.{AreMadeAlike, GroupsStandAlone};
+ghost use Rattle.kt_rules.specs.Book.{added, explicit_rules, first_goal_of, is_explicit, is_phony, override_messages};
+ghost use Rattle.kt_rules.specs.Book.{patterns_of, refusal_of};
+ghost use Rattle.kt_rules.specs.Known.{named_by};
+ghost use Rattle.kt_rules.specs.views.Known.{names_in};
+ghost use Rattle.kt_rules.specs.views.Refusals.{GivesExpected};
+ghost use Rattle.kt_rules.specs.views.Targets.{rule_view};
 ghost use Rattle.kt_rules.specs.Suffixes.{suffixes_of};
 
 mod alike;
@@ -34,8 +36,8 @@ mod suffix;
 mod suffixes;
 mod target_rule;
 
-use crate::entry::{Entry, Name};
 use crate::fault::RuleFault;
+use crate::line::entry::{Entry, Name};
 use alike::need_same;
 pub use book_names::BookNames;
 pub use book_rule::BookRule;
@@ -108,7 +110,7 @@ impl Book {
     /// Refuses, in this order: a group without a recipe; a target that has rules with one colon and with two; a target
     /// with two recipes, one of them a group's. So a group shares no target with another entry that has a recipe. More
     /// than 4,294,967,295 entries, targets or prerequisites are refused as if memory were.
-    #[tactic(auto, using(crate::proofs::AddLemmas::answers_refused))]
+    #[tactic(auto, using(crate::proofs::lemmas::book::AddLemmas::answers_refused))]
     pub fn add(&mut self, entry: Entry) -> Result<Warnings, RuleFault>
         ensures answers { GivesExpected result (added self.old entry (refusal_of self.old entry)) }
         ensures grown { OnOk result (self.new ≡ self.old ++ entry ∷ []) }
@@ -181,7 +183,7 @@ impl Book {
         other: &[u8],
         other_number: usize,
     ) -> bool
-        ensures { IsTrue result → AreMadeAlike self.now name.now other.now }
+        ensures quick { IsTrue result → AreMadeAlike self.now name.now other.now }
     {
         let rules = &self.rules;
         let spots = spots_by_number(rules, &self.spots.targets, name, number);
@@ -238,7 +240,7 @@ impl Book {
     /// The pattern rules that have a recipe and that no later one repeats, in order, each suffix rule
     /// in its place (GNU make manual, "Pattern Rules", "Canceling Implicit Rules", "Old-Fashioned
     /// Suffix Rules").
-    #[tactic(auto, using(crate::proofs::PatternLemmas::patterns_kept))]
+    #[tactic(auto, using(crate::proofs::lemmas::book::PatternLemmas::patterns_kept))]
     pub fn patterns(&self) -> Result<Vec<Pattern<'_>>, AllocError>
         ensures { IfOk result (λ patterns. patterns.items ≡ patterns_of self.now) }
     {

@@ -1,9 +1,9 @@
 //! Owned copies of targets and their prerequisites.
 ghost use Rattle.std.specs.Prelude.{◌≡◌, IfOk};
 ghost use Rattle.kt_rules.specs.Entry.{stemmed};
-ghost use Rattle.kt_rules.specs.Targets.{listed_needs, names_view, needs_view, target_view, targets_view};
+ghost use Rattle.kt_rules.specs.views.Targets.{listed_needs, names_view, needs_view, target_view, targets_view};
 
-use crate::entry::{Name, Needs, StemmedNeeds, Target};
+use crate::line::entry::{Name, Needs, StemmedNeeds, Target};
 use crate::listed::ListedNeeds;
 use crate::needs::{NeededNames, NeedsView};
 use crate::target::{TargetView, Targets};

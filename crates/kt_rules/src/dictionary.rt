@@ -2,12 +2,12 @@
 //! Fast: a name is held once and told by its number from then on, and so is a list of names. Spares a hash, a copy and
 //! a comparison at each further place, and the numbers of a list that several rules have.
 ghost use Rattle.std.specs.Prelude.{◌≡◌, [], Some, get_or, length, option_map, slice_get, IfOk, IsTrue, OnOk};
-ghost use Rattle.kt_list.specs.Names.{AreBelow, AreNumbersOf, name_at, place_of};
-ghost use Rattle.kt_list.specs.Prefixes.{HasMore};
-ghost use Rattle.kt_rules.specs.Targets.{text_in};
+ghost use Rattle.kt_list.specs.views.Names.{AreBelow, AreNumbersOf, name_at, place_of};
+ghost use Rattle.kt_list.specs.views.Prefixes.{HasMore};
+ghost use Rattle.kt_rules.specs.views.Targets.{text_in};
 ghost use Rattle.kt_rules.specs.inner.Dictionary.{GrowsDictionary, IsListOf};
 
-use crate::entry::Name;
+use crate::line::entry::Name;
 use kt_list::{Lists, Names, narrow};
 use std::alloc::{AllocError, Global};
 use std::marker::Model;
@@ -26,7 +26,7 @@ pub(crate) struct Dictionary {
 impl Model for Dictionary {
     ghost use Rattle.std.specs.Prelude.{ℕ, List, All, length};
     ghost use Rattle.kt_text.specs.Words.{Text};
-    ghost use Rattle.kt_list.specs.Names.{AreBelow};
+    ghost use Rattle.kt_list.specs.views.Names.{AreBelow};
 
     ghost Value = { List Text × List (List ℕ) };
 
@@ -83,9 +83,9 @@ impl Dictionary {
     }
 
     /// Whether a name has this number, told without hashing.
-    #[tactic(auto, using(crate::proofs::NoteLemmas::place_at))]
+    #[tactic(auto, using(crate::proofs::lemmas::book::NoteLemmas::place_at))]
     pub(crate) fn has_number(&self, name: &[u8], number: usize) -> bool
-        ensures { IsTrue result → place_of self.now.0 name.now ≡ Some number }
+        ensures quick { IsTrue result → place_of self.now.0 name.now ≡ Some number }
     {
         // The contract of `len` makes known that the names differ.
         let _count = self.names.len();
@@ -115,7 +115,7 @@ impl Dictionary {
 
 // Whether a number is that of a name, told without hashing.
 fn is_name_at(names: &Names, number: usize, name: &[u8]) -> bool
-    ensures { IsTrue result → slice_get names.now number ≡ Some name.now }
+    ensures quick { IsTrue result → slice_get names.now number ≡ Some name.now }
 {
     match names.get(number) {
         Some(held) => held == name,

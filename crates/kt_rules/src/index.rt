@@ -1,9 +1,9 @@
 //! Lists of items, each at a name.
 ghost use Rattle.std.specs.Prelude.{◌≡◌, ◌++◌, ◌∷◌, [], OnErr, OnOk, bytes_eq, if◌then◌else◌};
 ghost use Rattle.kt_text.specs.Words.{Text};
-ghost use Rattle.kt_rules.specs.Indexes.{noted_at};
+ghost use Rattle.kt_rules.specs.views.Indexes.{noted_at};
 
-use crate::entry::Name;
+use crate::line::entry::Name;
 use indexmap::IndexMap;
 use kt_list::Key;
 use std::alloc::{AllocError, Global};

@@ -2,10 +2,10 @@
 ghost use Rattle.std.specs.Prelude.{◌≡◌, ◌∷◌, [], MatchOption, length, option_map, slice_get};
 ghost use Rattle.kt_rules.specs.Entry.{no_needs};
 ghost use Rattle.kt_rules.specs.Suffixes.{has_no_names};
-ghost use Rattle.kt_list.specs.Names.{names_at};
-ghost use Rattle.kt_rules.specs.Targets.{listed_needs, listed_view};
+ghost use Rattle.kt_list.specs.views.Names.{names_at};
+ghost use Rattle.kt_rules.specs.views.Targets.{listed_needs, listed_view};
 
-use crate::entry::{Name, Needs};
+use crate::line::entry::{Name, Needs};
 use kt_list::Names;
 
 /// A list of names.

@@ -4,8 +4,8 @@ ghost use Rattle.std.specs.List.{list_any, prefix_len};
 ghost use Rattle.kt_text.specs.Functions.{with_stem};
 ghost use Rattle.kt_rules.specs.Names.{after_dots, begins_quotable, name_of, unquoted, without_dots};
 
-use crate::cutting::is_quotable;
-use crate::entry::Name;
+use crate::line::cutting::is_quotable;
+use crate::line::entry::Name;
 use kt_text::push_with_stem;
 use std::alloc::{AllocError, Global};
 
@@ -63,7 +63,7 @@ pub(crate) fn name_of(alloc: Global, word: &[u8]) -> Result<Vec<u8>, AllocError>
 }
 
 // As `name_of`, but as a `Name`, which holds a short text without an allocation. Few words have a backslash.
-#[tactic(auto, using(crate::proofs::BackslashLemmas::names_itself))]
+#[tactic(auto, using(crate::proofs::lemmas::line::BackslashLemmas::names_itself))]
 pub(crate) fn named(alloc: Global, word: &[u8]) -> Result<Name, AllocError>
     ensures { IfOk result (λ name. name ≡ name_of word.now) }
 {
@@ -86,7 +86,7 @@ pub fn dotless(alloc: Global, text: Vec<u8>) -> Result<Vec<u8>, AllocError>
 }
 
 // The word without the backslashes that quote a byte. Few words have a backslash.
-#[tactic(auto, using(crate::proofs::BackslashLemmas::quotes_nothing))]
+#[tactic(auto, using(crate::proofs::lemmas::line::BackslashLemmas::quotes_nothing))]
 fn unquoted(alloc: Global, word: &[u8]) -> Result<Vec<u8>, AllocError>
     ensures { IfOk result (λ text. text.items ≡ unquoted word.now) }
 {

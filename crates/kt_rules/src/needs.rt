@@ -5,9 +5,10 @@ ghost use Rattle.std.specs.Iterator.{YieldsFirstBy, item_count};
 ghost use Rattle.kt_text.specs.Words.{Text};
 ghost use Rattle.kt_rules.specs.Entry.{no_needs, shared_needs, stemmed};
 ghost use Rattle.kt_rules.specs.Suffixes.{needs_nothing};
-ghost use Rattle.kt_rules.specs.Targets.{listed_needs, needed_view, names_view, needs_view, stemmed_name, text_in};
+ghost use Rattle.kt_rules.specs.views.Targets.{listed_needs, needed_view, names_view, needs_view, stemmed_name};
+ghost use Rattle.kt_rules.specs.views.Targets.{text_in};
 
-use crate::entry::Needs;
+use crate::line::entry::Needs;
 use crate::listed::{AnyNames, ListedNeeds};
 use crate::name::{stemmed_name, without_dots};
 use kt_list::Names;
@@ -75,7 +76,7 @@ impl<'a> NeedsView<'a> {
     }
 
     /// Whether there are no prerequisites.
-    #[tactic(auto, using(crate::proofs::TargetLemmas::empty_put))]
+    #[tactic(auto, using(crate::proofs::lemmas::TargetLemmas::empty_put))]
     pub fn is_empty(&self) -> bool
         ensures { result ≡ needs_nothing (needs_view self.now) }
     {
@@ -102,7 +103,7 @@ pub struct NeededNames<'a> {
 
 impl<'a> NeededNames<'a> {
     /// The number of names that remain. Takes no memory.
-    #[tactic(auto, using(crate::proofs::TargetLemmas::count_put))]
+    #[tactic(auto, using(crate::proofs::lemmas::TargetLemmas::count_put))]
     pub fn len(&self) -> usize
         ensures { result ≡ length (names_view self.now) }
     {
@@ -117,7 +118,7 @@ impl<'a> Iterator for NeededNames<'a> {
 
     ghost remaining = { item_count names_view };
 
-    #[tactic(auto, using(crate::proofs::TargetLemmas::first_put, crate::proofs::TargetLemmas::none_put))]
+    #[tactic(auto, using(crate::proofs::lemmas::TargetLemmas::first_put, crate::proofs::lemmas::TargetLemmas::none_put))]
     fn next(&mut self) -> Option<NeededName<'a>> {
         let (listed, after) = self.names.split_first()?;
         self.names = after;
@@ -152,7 +153,7 @@ impl<'a> NeededName<'a> {
     /// Its number in a table, found without hashing: where the table is that of the book whose rule needs the name, and
     /// no stem is put in. Takes no memory.
     pub fn number_in(self, table: &Names) -> Option<usize>
-        ensures { IfSome result (λ number. slice_get table.now number ≡ Some (needed_view self.entry)) }
+        ensures quick { IfSome result (λ number. slice_get table.now number ≡ Some (needed_view self.entry)) }
     {
         let number = self.number?;
         let name = self.plain_text()?;
@@ -165,7 +166,7 @@ impl<'a> NeededName<'a> {
 
     // Its bytes, where no stem is put in.
     fn plain_text(self) -> Option<&'a [u8]>
-        ensures { IfSome result (λ name. name.now ≡ needed_view self.entry) }
+        ensures quick { IfSome result (λ name. name.now ≡ needed_view self.entry) }
     {
         match self.stem {
             None => Some(self.name),
@@ -175,9 +176,9 @@ impl<'a> NeededName<'a> {
 }
 
 // A name without percent sign, into which no stem is put.
-#[tactic(auto, using(crate::proofs::TargetLemmas::plain_put))]
+#[tactic(auto, using(crate::proofs::lemmas::TargetLemmas::plain_put))]
 fn stemless_text(name: &[u8]) -> Option<&[u8]>
-    ensures { IfSome result (λ text. (stem : Text) → text.now ≡ stemmed_name stem name.now) }
+    ensures quick { IfSome result (λ text. (stem : Text) → text.now ≡ stemmed_name stem name.now) }
 {
     if has_percent(name) {
         None
@@ -187,7 +188,7 @@ fn stemless_text(name: &[u8]) -> Option<&[u8]>
 }
 
 // A name with the stem put in. A name without a percent sign is borrowed, without leading `./`.
-#[tactic(auto, using(crate::proofs::TargetLemmas::plain_put))]
+#[tactic(auto, using(crate::proofs::lemmas::TargetLemmas::plain_put))]
 fn stemmed_text<'a>(
     alloc: Global,
     name: &'a [u8],

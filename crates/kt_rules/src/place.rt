@@ -15,7 +15,7 @@ pub struct Place {
 }
 
 impl Place {
-    ghost use Rattle.kt_text.specs.Begun.{HasBegun};
+    ghost use Rattle.kt_text.specs.views.Begun.{HasBegun};
     ghost use Rattle.kt_rules.specs.Places.{place_text};
 
     /// This place once more; the file's name is shared, not copied.

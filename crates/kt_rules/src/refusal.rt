@@ -1,6 +1,7 @@
 //! Why a rule is refused; a refusal needs no memory.
 ghost use Rattle.std.specs.Prelude.{◌≡◌};
-ghost use Rattle.kt_rules.specs.Refusals.{ReportsFault, rule_line_fault, refusal_view, kind_and_name};
+ghost use Rattle.kt_rules.specs.inner.Refusals.{ReportsFault, refusal_view};
+ghost use Rattle.kt_rules.specs.Refusals.{rule_line_fault, kind_and_name};
 
 use crate::fault::RuleFault;
 use crate::fault_kind::FaultKind;

@@ -4,8 +4,8 @@
 ghost use Rattle.std.specs.Prelude.{◌≡◌, option_map, length, Some, slice_get};
 ghost use Rattle.std.specs.Iterator.{YieldsFirstBy, item_count};
 ghost use Rattle.kt_rules.specs.Entry.{stemmed, stemmed_of, target_of};
-ghost use Rattle.kt_rules.specs.Targets.{listed_needs, target_view, targets_view, text_in};
-ghost use Rattle.kt_rules.specs.declared.entry.Needs.{Needs as AllNeeds};
+ghost use Rattle.kt_rules.specs.views.Targets.{listed_needs, target_view, targets_view, text_in};
+ghost use Rattle.kt_rules.specs.declared.line.entry.Needs.{Needs as AllNeeds};
 
 use crate::listed::{AnyNames, ListedNeeds};
 use kt_text::match_pattern;

@@ -2,7 +2,7 @@
 use Rattle.std.proofs.Common.{rules, ◌≡◌, ℕ, suc, ◌+◌, Bool, true, false, if◌then◌else◌, List, [], ◌∷◌, ◌++◌, length, take, drop, Option, Some, None, refl, sym, ap, subst, ◌∙◌, true≢false, arith, ⊎_elim, ◌⊎◌, ◌==◌, ◌&&◌, ◌||◌, flat_map, option_map}
 use Rattle.kt_rules.proofs.Common.{list_all, eqb-true, eq-eqb, append_assoc, head_is, and_nothing, Text, cuts, cut_place, after_dots, colon_cut}
 use Rattle.kt_text_laws.proofs.Places.{none_in, tail_is}
-use Rattle.kt_rules.specs.declared.cutting.Cut.TheVariants.{Colon}
+use Rattle.kt_rules.specs.declared.line.cutting.Cut.TheVariants.{Colon}
 use Rattle.kt_rules_laws.specs.Cuts.{HasQuotedColons, FindsColon, is_slash, dot_slash, begins_with_slash, begins_with_dot_slash, is_some_text, IsLeft}
 
 abbrev two : Text → Text → Text × Text

@@ -2,8 +2,8 @@
 use Rattle.std.proofs.Common.{rules, ◌≡◌, ℕ, suc, Bool, true, false, List, [], ◌∷◌, ◌++◌, length, take, map, filter, flat_map, All, refl, sym, ap, subst, ◌∙◌, true≢false, arith, ⊎_elim, ◌⊎◌, inl, inr, append_assoc, append-nil, ◌==◌}
 use Rattle.kt_rules.proofs.Common.{onto_first, All-cons, All-head, All-nil, All-tail, less_one, and_nothing, Text, is_nonempty, is_separator, cut_pieces, written_words}
 use Rattle.kt_text_laws.proofs.Places.{none_in}
-use Rattle.kt_rules.specs.declared.cutting.Cut.TheVariants.{Separator}
-use Rattle.kt_rules.specs.Cuts.{ends_in_backslash}
+use Rattle.kt_rules.specs.declared.line.cutting.Cut.TheVariants.{Separator}
+use Rattle.kt_rules.specs.views.Cuts.{ends_in_backslash}
 use Rattle.kt_rules_laws.specs.HeadWords.{separates, HoldsNoSeparator, HeadWord, part_text, part_word, IsPart, HasGap, AreSeparated, AreWords, WrittenWordsLaw}
 use Rattle.kt_rules_laws.proofs.PartLemmas.{AreSeparators, QuotesNone, first_is, others_are, one_more_is, no_backslash, cuts_is, is_one, not_quoted, separates_too, holds_less, holds_none, holds_more}
 

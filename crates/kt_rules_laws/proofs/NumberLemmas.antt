@@ -1,7 +1,7 @@
 -- The numbers of the entries of explicit rules.
 use Rattle.std.proofs.Common.{rules, ◌≡◌, ℕ, ◌+◌, ◌&&◌, not, Bool, cond, List, [], ◌∷◌, ◌++◌, map, filter, suc, Option, Some, slice_get, refl, sym, ap, ◌∙◌, arith}
 use Rattle.kt_rules.proofs.Common.{enumerate_from, flat_map, bytes_eq, map-append, filter-append, bytes_eq-Decides, Text, Entry, suffixes_of, is_suffix_rule, is_made, is_explicit, target_rules, rules_of, explicit_rules, numbers_in, explicit_numbers}
-use Rattle.kt_rules.specs.declared.entry.Target.{Target}
+use Rattle.kt_rules.specs.declared.line.entry.Target.{Target}
 use Rattle.kt_rules_laws.specs.Book.{NumbersTellRules}
 
 -- ---- the rules at the numbers

@@ -4,7 +4,7 @@ use Rattle.kt_rules.proofs.Common.{suffix_len, eqb-true, get_or-append_right, ge
 use Rattle.kt_text_laws.proofs.Places.{none_in, tail_is}
 use Rattle.std.proofs.lemmas.List.Sums.{suffix_len_is, AllPass-from_list_all}
 use Rattle.kt_text_laws.proofs.CuttingLemmas.{last_of}
-use Rattle.kt_rules.specs.Cuts.{ends_in_backslash}
+use Rattle.kt_rules.specs.views.Cuts.{ends_in_backslash}
 use Rattle.kt_rules_laws.specs.HeadWords.{separates, begins_with_space, BeginsWithNone, EndsWithNone, IsMiddle, OuterLaw}
 use Rattle.kt_rules_laws.proofs.PartLemmas.{AreSeparators, QuotesNone, first_is, others_are, one_more_is, is_one, not_quoted}
 

@@ -2,8 +2,8 @@
 use Rattle.std.proofs.Common.{arith, ◌≡◌, ℕ, Bool, true, false, not, [], ◌∷◌, sym, ap, ◌∙◌, true≢false, ◌==◌, ◌&&◌}
 use Rattle.kt_rules.proofs.Common.{and_from, eqb-true, not-true, list_all, head_is, and_first, and_second, Text, is_separator, cuts, is_quotable}
 use Rattle.kt_text_laws.proofs.Places.{none_in, tail_is}
-use Rattle.kt_rules.specs.declared.cutting.Cut.TheVariants.{Separator}
-use Rattle.kt_rules.specs.Cuts.{ends_in_backslash}
+use Rattle.kt_rules.specs.declared.line.cutting.Cut.TheVariants.{Separator}
+use Rattle.kt_rules.specs.views.Cuts.{ends_in_backslash}
 use Rattle.kt_rules_laws.specs.HeadWords.{separates, HoldsNoSeparator, begins_with_space}
 
 abbrev pub AreSeparators : Text → Type 0

@@ -2,9 +2,9 @@
 -- own rules where it has some.
 use Rattle.std.specs.Prelude.{◌≡◌, ℕ, Bool, true, false, List, [], ◌∷◌, ◌++◌, Some, None, codes}
 use Rattle.kt_rules.specs.Prelude.{Text, Entry}
-use Rattle.kt_rules.specs.declared.entry.Kind.{Kind}
-use Rattle.kt_rules.specs.declared.entry.Kind.TheVariants.{SingleColon, DoubleColon, Group, Pattern}
-use Rattle.kt_rules.specs.declared.entry.Target.{Target}
+use Rattle.kt_rules.specs.declared.line.entry.Kind.{Kind}
+use Rattle.kt_rules.specs.declared.line.entry.Kind.TheVariants.{SingleColon, DoubleColon, Group, Pattern}
+use Rattle.kt_rules.specs.declared.line.entry.Target.{Target}
 use Rattle.kt_rules.specs.declared.place.Place.{Place}
 use Rattle.kt_rules.specs.Places.{place_text}
 use Rattle.kt_rules.specs.Refusals.{bad_group, both_colons, two_recipes}

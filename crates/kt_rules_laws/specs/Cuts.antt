@@ -1,8 +1,11 @@
 -- What the cuts of a rule line find, as facts about the parts of a text (POSIX.1-2024 make, "Target Rules"). That a
 -- backslash quotes only the byte directly after it is kati's own.
 use Rattle.std.specs.Prelude.{◌≡◌, ℕ, Bool, true, false, ◌==◌, ◌&&◌, List, [], ◌∷◌, ◌++◌, flat_map, Option, Some, None}
-use Rattle.kt_rules.specs.Prelude.{list_all, Text, after_dots, colon_cut}
-use Rattle.kt_rules.specs.Cuts.{ends_in_backslash}
+use Rattle.std.specs.List.{list_all}
+use Rattle.kt_rules.specs.Prelude.{Text}
+use Rattle.kt_rules.specs.Names.{after_dots}
+use Rattle.kt_rules.specs.RuleLine.{colon_cut}
+use Rattle.kt_rules.specs.views.Cuts.{ends_in_backslash}
 
 -- each colon of a text has a backslash directly before it
 abbrev pub HasQuotedColons : Bool → Text → Type 0

@@ -2,9 +2,12 @@
 -- make, "Target Rules": names separated by blanks). That a backslash quotes only a space or colon directly after it is
 -- kati's own.
 use Rattle.std.specs.Prelude.{◌≡◌, ℕ, Bool, true, false, not, ◌-◌, ◌==◌, ◌&&◌, List, [], ◌∷◌, ◌++◌, length, take, map}
-use Rattle.kt_rules.specs.Prelude.{flat_map, All, list_all, Text, is_nonempty, is_separator}
+use Rattle.std.specs.Prelude.{flat_map}
+use Rattle.std.specs.List.{All, list_all}
+use Rattle.kt_rules.specs.Prelude.{Text}
+use Rattle.kt_text.specs.Words.{is_nonempty, is_separator}
 use Rattle.kt_rules.specs.Names.{is_quotable, begins_quotable, written_words, without_outer_separators, unquoted}
-use Rattle.kt_rules.specs.Cuts.{ends_in_backslash}
+use Rattle.kt_rules.specs.views.Cuts.{ends_in_backslash}
 
 -- whether a byte separates words: a separator, unless it is a space with a backslash directly before it
 abbrev pub separates : Bool → ℕ → Bool

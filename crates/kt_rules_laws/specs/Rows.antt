@@ -1,10 +1,12 @@
 -- Worked values of the definitions, as facts that compute. The lines are those of the GNU make manual's sections on
 -- rules, and of kati's own rules where it has some.
 use Rattle.std.specs.Prelude.{◌≡◌, List, [], ◌∷◌, ◌++◌, Some, None, Ok, Err, codes}
-use Rattle.kt_rules.specs.Prelude.{Text, without_dots, empty_line, head_names, stemmed_of}
-use Rattle.kt_rules.specs.declared.head.Separator.TheVariants.{Single, Double, Grouped}
-use Rattle.kt_rules.specs.declared.line.HeadNames.{HeadNames}
-use Rattle.kt_rules.specs.declared.head.Separator.{Separator}
+use Rattle.kt_rules.specs.Prelude.{Text}
+use Rattle.kt_rules.specs.Names.{without_dots}
+use Rattle.kt_rules.specs.Entry.{empty_line, head_names, stemmed_of}
+use Rattle.kt_rules.specs.declared.line.head.Separator.TheVariants.{Single, Double, Grouped}
+use Rattle.kt_rules.specs.declared.line.head_names.HeadNames.{HeadNames}
+use Rattle.kt_rules.specs.declared.line.head.Separator.{Separator}
 use Rattle.kt_rules.specs.Refusals.{missing_separator, refused_name, bad_static_pattern, refused_target, bad_group}
 
 -- a line without static pattern

@@ -13,6 +13,8 @@ mod noting;
 #[cfg(test)]
 mod numbers;
 #[cfg(test)]
+mod patterns;
+#[cfg(test)]
 mod plain_way;
 #[cfg(test)]
 mod reading;

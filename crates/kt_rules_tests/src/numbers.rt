@@ -32,6 +32,7 @@ const LINES: [(&[u8], Option<&[u8]>); 9] = [
     ),
 ];
 
+// `NeededName::number_in` finds each number that there is.
 #[test]
 fn tells_numbers(rt: HostRuntime) -> Result<(), Fail> {
     answers(

@@ -1,12 +1,7 @@
 -- Texts without their comments (GNU make manual, "What Makefiles Contain"; runs of backslashes before a number sign are
 -- kati's own).
-use Rattle.std.specs.Prelude.{ℕ, ◌+◌, ◌/◌, ◌%◌, ◌==◌, Bool, true, List, [], ◌∷◌, ◌++◌, replicate, if◌then◌else◌}
+use Rattle.std.specs.Prelude.{ℕ, ◌+◌, ◌/◌, ◌%◌, ◌==◌, List, [], ◌∷◌, ◌++◌, replicate, if◌then◌else◌}
 use Rattle.kt_syntax.specs.Prelude.{Text, condensed_of, mask_of}
-
--- whether a text is empty or begins with its comment, before which not even a blank stands
-abbrev pub begins_comment : Text → Bool
-begins_comment [] = true
-begins_comment (byte ∷ text) = byte == 35
 
 -- a run of this many backslashes
 abbrev pub backslashes : ℕ → Text

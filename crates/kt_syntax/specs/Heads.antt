@@ -2,22 +2,15 @@
 -- make manual, "Target-specific Variable Values"). The head is that of the line's text, in which continuations are
 -- condensed; the recipe is cut from the line as it stands in the file.
 use Rattle.std.specs.Prelude.{ℕ, zero, suc, ◌+◌, Bool, false, not, ◌==◌, ◌&&◌, ◌||◌, nat_eq, nat_lt, List, [], ◌∷◌}
-use Rattle.std.specs.Prelude.{length, take, drop, codes, Option, Some, None, option_map, Result, Ok, Err, is_some}
-use Rattle.std.specs.Prelude.{if◌then◌else◌}
+use Rattle.std.specs.Prelude.{length, take, drop, codes, Option, Some, None, is_some, if◌then◌else◌}
 use Rattle.kt_syntax.specs.Prelude.{starts_with, position_or_len, slice_range, Text, condensed_of, mask_of}
 use Rattle.std.specs.Str.{bytes_eq}
-use Rattle.kt_syntax.specs.declared.heads.RuleParts.{RuleParts as HeldRuleParts}
-use Rattle.kt_syntax.specs.declared.heads.TargetSpecific.{TargetSpecific}
 use Rattle.kt_syntax.specs.Kinds.{assignment_parts, comment_place, past_blanks, past_word}
 
 -- the head of a rule line, and its first recipe line if there is one
 pub record RuleParts : Type 0 where
   pub head : Text
   pub recipe : Option Text
-
-abbrev pub texts_view : Result HeldRuleParts TargetSpecific → Option RuleParts
-texts_view (Ok parts) = Some (record { head = parts.head.now; recipe = option_map (λ recipe. recipe.now) parts.recipe })
-texts_view (Err fault) = None
 
 -- where the head ends: at the first semicolon outside references, or where the comment begins
 unfoldable pub head_end : Text → ℕ

@@ -12,8 +12,6 @@ use Rattle.kt_syntax.specs.declared.form.Operator.TheVariants.{Deferred, Immedia
 use Rattle.kt_syntax.specs.declared.form.Directive.{Directive}
 use Rattle.kt_syntax.specs.declared.form.Directive.TheVariants.{Ifdef, Ifndef, Ifeq, Ifneq, Else, Endif, Define, Endef}
 use Rattle.kt_syntax.specs.declared.form.Directive.TheVariants.{Include, OptionalInclude}
-use Rattle.kt_syntax.specs.declared.form.Form.{Form as HeldForm}
-use Rattle.kt_syntax.specs.declared.form.Form.TheVariants as told
 use Rattle.kt_syntax.specs.Mask.{inside, goes_odd, mask_of}
 
 -- a kind of line, with its parts as they stand in the line's text
@@ -23,13 +21,6 @@ pub data Form : Type 0 where
   directive : (word : Directive) (rest : Text) → Form
   refused : (word : Text) → Form
   rule : Form
-
-abbrev pub line_form_view : HeldForm → Form
-line_form_view told.Blank = blank
-line_form_view (told.Assignment name operator value) = assignment name.now operator value.now
-line_form_view (told.Directive word rest) = directive word rest.now
-line_form_view (told.Refused word) = refused word.now
-line_form_view told.Rule = rule
 
 -- how many symbols stand before the comment, which begins at a number sign after an even number of backslashes (kati's
 -- own; GNU make manual, "What Makefiles Contain")

@@ -1,14 +1,13 @@
 pub mod Prelude
 pub mod Blocks
 pub mod Comments
-pub mod Grammar
 pub mod Heads
 pub mod Kinds
 pub mod Mask
 pub mod Parts
-pub mod Reading
 pub mod Recipes
 pub mod Roles
 pub mod Steps
 pub mod Terms
+pub mod views
 pub mod inner

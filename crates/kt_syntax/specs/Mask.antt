@@ -1,7 +1,6 @@
 -- A line byte by byte: what is outside references (POSIX.1-2024 make, "Macros"), with each continuation that it still
 -- has as blanks (kati's own).
-use Rattle.std.specs.Prelude.{ℕ, zero, suc, Bool, false, not, ◌==◌, ◌&&◌, nat_eq, List, [], ◌∷◌, Option, None, Some}
-use Rattle.std.specs.Prelude.{if◌then◌else◌}
+use Rattle.std.specs.Prelude.{ℕ, zero, suc, Bool, false, not, ◌==◌, ◌&&◌, nat_eq, List, [], ◌∷◌, if◌then◌else◌}
 use Rattle.std.specs.List.{starts_with}
 use Rattle.kt_text.specs.Words.{Text}
 use Rattle.kt_syntax.specs.Terms.{kept, after_dollar}
@@ -9,11 +8,6 @@ use Rattle.kt_syntax.specs.Terms.{kept, after_dollar}
 -- what stands for a byte of a reference: a number that no byte has
 abbrev pub inside : ℕ
 inside = 256
-
--- what stands at a place as a number: a byte outside references, or else one of a reference
-abbrev pub symbol_view : Option ℕ → ℕ
-symbol_view None = inside
-symbol_view (Some byte) = byte
 
 -- whether an odd number of backslashes stands before the next byte
 abbrev pub goes_odd : Bool → ℕ → Bool

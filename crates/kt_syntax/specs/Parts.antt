@@ -20,14 +20,6 @@ pub record Scan : Type 0 where
 abbrev pub nothing_open : Scan
 nothing_open = record { define = None; conditionals = [] }
 
--- how many defines are open in the body of the open one
-abbrev pub depth_of : Scan → ℕ
-depth_of open_blocks = depth_in open_blocks.define
-  where
-    depth_in : Option OpenDefine → ℕ
-    depth_in None = 0
-    depth_in (Some define) = define.depth
-
 -- a line of a define in whose body a given number of defines are open: its own `endef` ends it, all else is text
 abbrev pub body_part : Role → ℕ → BlockPart
 body_part role.Endef zero = part.Endef

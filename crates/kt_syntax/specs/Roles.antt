@@ -1,19 +1,11 @@
 -- What lines are to the blocks round them (GNU make manual, "Syntax of Conditionals" and "Defining Multi-Line
 -- Variables"), by their kinds alone.
-use Rattle.std.specs.Prelude.{Bool, true, false, ◌&&◌, ◌||◌, ◌==◌, List, [], ◌∷◌, length, take, map, Option, Some}
-use Rattle.std.specs.Prelude.{leb, if◌then◌else◌}
+use Rattle.std.specs.Prelude.{Bool, true, false, ◌&&◌, List, [], length, take, map, Option, Some, leb, if◌then◌else◌}
 use Rattle.kt_syntax.specs.Prelude.{slice_range, Directive, NumberedRole, Role, Text, mask_of, line_form, past_word}
 use Rattle.kt_text.specs.declared.line.Line.{Line}
 use Rattle.kt_syntax.specs.declared.form.Directive.TheVariants as word
 use Rattle.kt_syntax.specs.declared.role.Role.TheVariants.{Ordinary, Conditional, Else, Endif, Define, Endef}
 use Rattle.kt_syntax.specs.Kinds.{Form, directive, block_word, comment_place}
-
--- whether a line begins with a blank, with a backslash, which may be that of a continuation, with a byte of a line's
--- end, or with a letter that words of blocks begin with
-abbrev pub may_open : Text → Bool
-may_open [] = false
-may_open (byte ∷ text) = byte == 32 || byte == 9 || byte == 92 || byte == 10 || byte == 13 || byte == 100 || byte == 101
-    || byte == 105
 
 -- the first word of a text that begins with no blank, before its comment
 unfoldable pub first_word : Text → Text

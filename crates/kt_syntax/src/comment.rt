@@ -47,7 +47,7 @@ fn uncommented_by_sign<'a>(alloc: Global, text: &'a [u8]) -> Result<CowSlice<'a,
 }
 
 // As `uncommented`, for a text that is owned.
-#[tactic(auto, using(crate::proofs::SymbolLemmas::nothing_uncommented, crate::proofs::SymbolLemmas::not_found))]
+#[tactic(auto, using(crate::proofs::lemmas::SymbolLemmas::nothing_uncommented, crate::proofs::lemmas::SymbolLemmas::not_found))]
 fn without_its_comment(alloc: Global, text: Vec<u8>) -> Result<Vec<u8>, AllocError>
     ensures { IfOk result (λ plain. plain.items ≡ uncommented_of text.items) }
 {

@@ -1,6 +1,7 @@
 //! Texts cut into terms.
 ghost use Rattle.std.specs.Prelude.{◌≡◌, ◌≤◌, List, length};
-ghost use Rattle.kt_syntax.specs.Terms.{IsSplitting, Term, terms_of};
+ghost use Rattle.kt_syntax.specs.views.Terms.{IsSplitting};
+ghost use Rattle.kt_syntax.specs.Terms.{Term, terms_of};
 
 use crate::term_list::Terms;
 

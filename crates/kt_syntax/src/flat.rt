@@ -1,6 +1,7 @@
 //! The blocks of a text, as a flat list.
 ghost use Rattle.std.specs.Prelude.{◌≡◌, ◌≢◌, length, slice_get, true, false, IfSome, Some};
-ghost use Rattle.kt_syntax.specs.Reading.{AreReadable, IsAhead, ReadsOn};
+ghost use Rattle.kt_syntax.specs.inner.Blocks.{AreReadable};
+ghost use Rattle.kt_syntax.specs.views.Reading.{IsAhead, ReadsOn};
 ghost use Rattle.kt_syntax.specs.declared.step.BlockStep.TheVariants as step;
 
 use crate::part::Missing;
@@ -25,7 +26,7 @@ impl Model for Blocks {
 
     ghost view = { λ blocks. record { steps = blocks.steps; missing = blocks.missing } };
 
-    ghost use Rattle.kt_syntax.specs.Reading.{AreReadable};
+    ghost use Rattle.kt_syntax.specs.inner.Blocks.{AreReadable};
 
     ghost invariant = { λ blocks. AreReadable blocks.steps };
 }

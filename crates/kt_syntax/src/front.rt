@@ -5,7 +5,8 @@
 ghost use Rattle.std.specs.Prelude.{◌≡◌, ◌≤◌, ◌<◌, ◌++◌, None, length, not, true, IfSome};
 ghost use Rattle.std.specs.List.{list_all, position_or_len};
 ghost use Rattle.kt_text.specs.Words.{trimmed_start};
-ghost use Rattle.kt_syntax.specs.Kinds.{form_of, line_form_view, operator_of};
+ghost use Rattle.kt_syntax.specs.Kinds.{form_of, operator_of};
+ghost use Rattle.kt_syntax.specs.views.Lines.{line_form_view};
 ghost use Rattle.kt_syntax.specs.inner.Leading.{IsQuietWord, begins_colon, begins_slash, is_loud};
 
 use crate::form::Form;
@@ -14,9 +15,9 @@ use crate::leading::is_apart;
 use kt_text::trim_start;
 
 // The kind of a line; `None` where it takes a look at the whole line.
-#[tactic(auto, using(crate::proofs::LeadingForms::form_assigned, std::proofs::lemmas::List::take_rest))]
+#[tactic(auto, using(crate::proofs::lemmas::LeadingForms::form_assigned, std::proofs::lemmas::List::take_rest))]
 pub(crate) fn leading_form(text: &[u8], tab: bool) -> Option<Form<'_>>
-    ensures { IfSome result (λ form. line_form_view form ≡ form_of text.now tab) }
+    ensures quick { IfSome result (λ form. line_form_view form ≡ form_of text.now tab) }
 {
     let (word, after) = quiet_word(text)?;
     let rest = trim_start(after);
@@ -33,7 +34,7 @@ pub(crate) fn leading_form(text: &[u8], tab: bool) -> Option<Form<'_>>
 }
 
 // As `leading_form`, by the first word and what comes after it, where that begins with no operator behind its blanks.
-#[tactic(auto, using(crate::proofs::LeadingForms::form_colon))]
+#[tactic(auto, using(crate::proofs::lemmas::LeadingForms::form_colon))]
 fn unassigning_form<'a>(
     tab: bool,
     word: &'a [u8],
@@ -44,7 +45,7 @@ fn unassigning_form<'a>(
     requires some { 0 < length word.now }
     requires rest { rest.now ≡ trimmed_start after.now }
     requires none { None ≡ operator_of rest.now }
-    ensures { IfSome result (λ form. line_form_view form ≡ form_of (word.now ++ after.now) tab) }
+    ensures quick { IfSome result (λ form. line_form_view form ≡ form_of (word.now ++ after.now) tab) }
 {
     if begins_colon(after) {
         return Some(Form::Rule);
@@ -60,7 +61,7 @@ fn unassigning_form<'a>(
 
 // The first word, which nothing in it ends before a blank, an operator or the comment could, and what comes after it.
 fn quiet_word(text: &[u8]) -> Option<(&[u8], &[u8])>
-    ensures { IfSome result (λ cut. IsQuietWord cut.0.now cut.1.now text.now) }
+    ensures quick { IfSome result (λ cut. IsQuietWord cut.0.now cut.1.now text.now) }
 {
     let size = quiet_run(text);
     if size == 0 {

@@ -5,7 +5,7 @@ ghost use Rattle.std.specs.List.{position_or_len};
 ghost use Rattle.kt_syntax.specs.Kinds.{comment_place};
 ghost use Rattle.kt_syntax.specs.Heads.{after_colon, after_modifiers, colon_place, first_recipe, head_end, head_text};
 ghost use Rattle.kt_syntax.specs.Heads.{is_modifier, is_target_specific, line_parts, parts_with, rule_texts};
-ghost use Rattle.kt_syntax.specs.Heads.{texts_view};
+ghost use Rattle.kt_syntax.specs.views.Lines.{texts_view};
 ghost use Rattle.kt_syntax.specs.Mask.{mask_of};
 ghost use Rattle.kt_syntax.specs.inner.Places.{first_symbols};
 
@@ -84,7 +84,7 @@ fn condensed_parts<'t>(
 }
 
 // As `condensed_parts`, where the head ends at a place.
-#[tactic(auto, using(crate::proofs::HeadLemmas::texts_none, crate::proofs::HeadLemmas::texts_some))]
+#[tactic(auto, using(crate::proofs::lemmas::HeadLemmas::texts_none, crate::proofs::lemmas::HeadLemmas::texts_some))]
 fn parts_at<'t>(
     text: &'t [u8],
     comment: usize,
@@ -130,7 +130,7 @@ fn first_recipe(line: &[u8]) -> Option<&[u8]>
 }
 
 // As `first_recipe`, where the head ends at a place.
-#[tactic(auto, using(crate::proofs::HeadLemmas::recipe_none, crate::proofs::HeadLemmas::recipe_some))]
+#[tactic(auto, using(crate::proofs::lemmas::HeadLemmas::recipe_none, crate::proofs::lemmas::HeadLemmas::recipe_some))]
 fn recipe_at(line: &[u8], comment: usize, end: usize) -> Option<&[u8]>
     requires before { comment ≡ comment_place line.now }
     requires end { end ≡ head_end line.now }
@@ -146,7 +146,7 @@ fn recipe_at(line: &[u8], comment: usize, end: usize) -> Option<&[u8]>
 }
 
 // Where the head of a rule line ends.
-#[tactic(auto, using(crate::proofs::SymbolLemmas::no_semicolon, crate::proofs::SymbolLemmas::not_there))]
+#[tactic(auto, using(crate::proofs::lemmas::SymbolLemmas::no_semicolon, crate::proofs::lemmas::SymbolLemmas::not_there))]
 fn head_end(text: &[u8], comment: usize) -> usize
     requires before { comment ≡ comment_place text.now }
     requires within { comment ≤ length text.now }

@@ -5,9 +5,9 @@ ghost use Rattle.std.specs.Prelude.{◌≡◌, ◌≤◌, ◌+◌, drop, false, 
 ghost use Rattle.std.specs.Prelude.{MatchOption};
 ghost use Rattle.std.specs.Str.{bytes_eq};
 ghost use Rattle.kt_syntax.specs.Kinds.{assignment_parts, blank, block_word, directive_of, ends_name, include_word};
-ghost use Rattle.kt_syntax.specs.Kinds.{form_of, is_refused_word, kind_by_word, line_form_view, name_end, operator_of};
+ghost use Rattle.kt_syntax.specs.Kinds.{form_of, is_refused_word, kind_by_word, name_end, operator_of};
+ghost use Rattle.kt_syntax.specs.views.Lines.{line_form_view, begins_comment};
 ghost use Rattle.kt_syntax.specs.Kinds.{line_form, worded};
-ghost use Rattle.kt_syntax.specs.Comments.{begins_comment};
 ghost use Rattle.kt_syntax.specs.inner.Leading.{may_be_word};
 ghost use Rattle.kt_syntax.specs.Mask.{mask_of};
 ghost use Rattle.kt_syntax.specs.inner.Places.{ArePartsAt, IsBetween, StandsWithin, first_symbols};
@@ -34,7 +34,7 @@ pub fn classify<'t>(line: &'t LineText<'_>, tab: bool) -> Form<'t>
 }
 
 /// The kind of a text whose continuations are condensed, as that of a line is.
-#[tactic(auto, using(crate::proofs::BlankLemmas::comment_is_blank))]
+#[tactic(auto, using(crate::proofs::lemmas::BlankLemmas::comment_is_blank))]
 pub fn classify_text(text: &[u8], tab: bool) -> Form<'_>
     ensures { line_form_view result ≡ form_of text.now tab }
 {
@@ -50,7 +50,7 @@ pub fn classify_text(text: &[u8], tab: bool) -> Form<'_>
 /// Whether a line is empty or begins with its comment, before which not even a blank stands: such a line is blank.
 ///
 /// Few other lines are, and it takes one look. GNU make manual, "What Makefiles Contain".
-#[tactic(auto, using(crate::proofs::BlankLemmas::comment_line))]
+#[tactic(auto, using(crate::proofs::lemmas::BlankLemmas::comment_line))]
 pub fn begins_comment(line: &[u8]) -> bool
     ensures value { result ≡ begins_comment line.now }
     ensures kind { result ≡ true → line_form line.now false ≡ blank }
@@ -97,7 +97,7 @@ pub(crate) struct Parts {
 }
 
 // The parts of the assignment whose name begins at a place. Each operator ends in an equals sign.
-#[tactic(auto, using(crate::proofs::Unsigned::no_assignment))]
+#[tactic(auto, using(crate::proofs::lemmas::Unsigned::no_assignment))]
 pub(crate) fn assignment(text: &[u8], begin: usize, end: usize) -> Option<Parts>
     requires order { begin ≤ end }
     requires within { end ≤ length text.now }
@@ -170,7 +170,7 @@ fn ends_name(symbol: &Symbol, text: &[u8]) -> bool
 // Whether the first byte is one that operators begin with: few are, and the test is a quick one.
 #[tactic(auto, unfolding(crate::specs::Kinds::operator_of))]
 fn may_begin_operator(text: &[u8]) -> bool
-    ensures { is_some (operator_of text.now) ≡ true → result ≡ true }
+    ensures quick { is_some (operator_of text.now) ≡ true → result ≡ true }
 {
     matches!(text, [b'=' | b':' | b'?' | b'+' | b'!', ..])
 }
@@ -194,7 +194,7 @@ pub(crate) fn operator_of(text: &[u8]) -> Option<(Operator, usize)>
 }
 
 // The kind of a line by its first word.
-#[tactic(auto, using(crate::proofs::Kinding::worded_by), unfolding(crate::specs::Kinds::worded))]
+#[tactic(auto, using(crate::proofs::lemmas::Kinding::worded_by), unfolding(crate::specs::Kinds::worded))]
 fn worded(text: &[u8], begin: usize, end: usize, tab: bool) -> Form<'_>
     requires order { begin ≤ end }
     requires within { end ≤ length text.now }
@@ -206,7 +206,7 @@ fn worded(text: &[u8], begin: usize, end: usize, tab: bool) -> Form<'_>
 }
 
 // As `worded`, by the first word and the text after it.
-#[tactic(auto, using(crate::proofs::LeadingForms::no_word))]
+#[tactic(auto, using(crate::proofs::lemmas::LeadingForms::no_word))]
 pub(crate) fn form_by_word<'a>(tab: bool, word: &'a [u8], rest: &'a [u8]) -> Form<'a>
     ensures { line_form_view result ≡ kind_by_word (directive_of tab word.now) word.now rest.now }
 {

@@ -9,9 +9,9 @@ use crate::form::Directive;
 use kt_text::{is_blank, trim_start};
 
 // The directive of a line that has no tab, and the text after it; `None` where that takes a look at the whole line.
-#[tactic(auto, using(crate::proofs::LeadingWords::leading_kind))]
+#[tactic(auto, using(crate::proofs::lemmas::LeadingWords::leading_kind))]
 pub(crate) fn leading_directive(text: &[u8]) -> Option<(Directive, &[u8])>
-    ensures { IfSome result (λ found. directive found.0 found.1.now ≡ form_of text.now false) }
+    ensures quick { IfSome result (λ found. directive found.0 found.1.now ≡ form_of text.now false) }
 {
     let (word, after) = leading_word(text)?;
     let rest = trim_start(after);
@@ -23,9 +23,9 @@ pub(crate) fn leading_directive(text: &[u8]) -> Option<(Directive, &[u8])>
 
 // The word of blocks that a text begins with, if a blank or nothing comes after it; `None` where that takes a look at
 // the whole text, too.
-#[tactic(auto, using(crate::proofs::LeadingWords::leading_first))]
+#[tactic(auto, using(crate::proofs::lemmas::LeadingWords::leading_first))]
 pub(crate) fn leading_block_word(text: &[u8]) -> Option<Directive>
-    ensures { IfSome result (λ word. block_word (first_word text.now) ≡ Some word) }
+    ensures quick { IfSome result (λ word. block_word (first_word text.now) ≡ Some word) }
 {
     let (word, after) = leading_word(text)?;
     if is_apart(after) { Some(word) } else { None }
@@ -34,7 +34,7 @@ pub(crate) fn leading_block_word(text: &[u8]) -> Option<Directive>
 // The word of blocks at the begin of a text, and what comes after it.
 #[tactic(auto, unfolding(crate::specs::Kinds::block_word))]
 fn leading_word(text: &[u8]) -> Option<(Directive, &[u8])>
-    ensures { IfSome result (λ found. IsLed found.0 text.now found.1.now) }
+    ensures quick { IfSome result (λ found. IsLed found.0 text.now found.1.now) }
 {
     match text {
         [b'i', b'f', rest @ ..] => word_after_if(rest),
@@ -47,7 +47,7 @@ fn leading_word(text: &[u8]) -> Option<(Directive, &[u8])>
 // As `leading_word`, for a text with `if` before it, and for one with an `e`.
 #[tactic(auto, unfolding(crate::specs::Kinds::block_word))]
 fn word_after_if(rest: &[u8]) -> Option<(Directive, &[u8])>
-    ensures { IfSome result (λ found. IsLed found.0 (105 ∷ 102 ∷ rest.now) found.1.now) }
+    ensures quick { IfSome result (λ found. IsLed found.0 (105 ∷ 102 ∷ rest.now) found.1.now) }
 {
     match rest {
         [b'e', b'q', after @ ..] => Some((Directive::Ifeq, after)),
@@ -60,7 +60,7 @@ fn word_after_if(rest: &[u8]) -> Option<(Directive, &[u8])>
 
 #[tactic(auto, unfolding(crate::specs::Kinds::block_word))]
 fn word_after_e(rest: &[u8]) -> Option<(Directive, &[u8])>
-    ensures { IfSome result (λ found. IsLed found.0 (101 ∷ rest.now) found.1.now) }
+    ensures quick { IfSome result (λ found. IsLed found.0 (101 ∷ rest.now) found.1.now) }
 {
     match rest {
         [b'l', b's', b'e', after @ ..] => Some((Directive::Else, after)),

@@ -33,7 +33,7 @@ impl<'a> Model for LineText<'a> {
 
 impl<'a> LineText<'a> {
     /// A line with its text.
-    #[tactic(auto, using(kt_text::proofs::CondensedLemmas::without_newline))]
+    #[tactic(auto, using(kt_text::proofs::lemmas::CondensedLemmas::without_newline))]
     pub fn new(alloc: Global, line: &'a [u8]) -> Result<LineText<'a>, AllocError>
         ensures { IfOk result (λ l. l ≡ line.now) }
     {
@@ -59,8 +59,8 @@ impl<'a> LineText<'a> {
 
     // The line, where it is its own text.
     pub(crate) fn own_text(&self) -> Option<&[u8]>
-        ensures value { IfSome result (λ text. text.now ≡ self.now) }
-        ensures own { IfSome result (λ text. condensed_of self.now ≡ self.now) }
+        ensures quick_value { IfSome result (λ text. text.now ≡ self.now) }
+        ensures quick_own { IfSome result (λ text. condensed_of self.now ≡ self.now) }
     {
         match &self.condensed {
             None => Some(self.line),

@@ -45,7 +45,7 @@ impl<'a> Mask<'a> {
     }
 
     // The symbols of a line from a place up to another.
-    #[tactic(auto, using(crate::proofs::Masking::one_taken))]
+    #[tactic(auto, using(crate::proofs::lemmas::Masking::one_taken))]
     pub(crate) fn between(text: &'a [u8], from: usize, end: usize) -> Mask<'a>
         ensures value { result ≡ drop from (take end (mask_of text.now)) }
         ensures size { from ≤ end → end ≤ length text.now → from + length result ≡ end }
@@ -61,7 +61,7 @@ impl<'a> Mask<'a> {
 
     // The symbol after a given number of others, or that of a zero byte past the end; those are
     // taken.
-    #[tactic(auto, using(crate::proofs::Masking::symbol_at, crate::proofs::Masking::one_taken))]
+    #[tactic(auto, using(crate::proofs::lemmas::Masking::symbol_at, crate::proofs::lemmas::Masking::one_taken))]
     pub(crate) fn symbol_after(&mut self, count: usize) -> Symbol
         ensures symbol { result ≡ slice_index self.old count }
         ensures rest { self.new ≡ drop (count + 1) self.old }
@@ -89,7 +89,7 @@ impl<'a> Mask<'a> {
     }
 
     // Takes the symbols, up to a number of them, that are bytes of their own, without a look at each.
-    #[tactic(auto, using(crate::proofs::OwnSymbols::own_passed))]
+    #[tactic(auto, using(crate::proofs::lemmas::OwnSymbols::own_passed))]
     fn pass_own(&mut self, most: usize) -> usize
         ensures rest { self.new ≡ drop result self.old }
         ensures bound { result ≤ most }
@@ -113,7 +113,7 @@ impl<'a> Iterator for Mask<'a> {
 
     // A loop over bytes that are their own symbols has no call then.
     #[inline(always)]
-    #[tactic(auto, using(crate::proofs::Masking::mask_ends))]
+    #[tactic(auto, using(crate::proofs::lemmas::Masking::mask_ends))]
     fn next(&mut self) -> Option<Symbol> {
         if self.left == 0 {
             return None;
@@ -204,7 +204,7 @@ fn mask_byte(byte: u8, more: usize) -> Symbol
 }
 
 // How many of the first bytes of a line, up to a place, stand before its first dollar and backslash.
-#[tactic(auto, using(kt_text::proofs::PlaceLemmas::first_byte_place, std::proofs::lemmas::List::take_min))]
+#[tactic(auto, using(kt_text::proofs::lemmas::PlaceLemmas::first_byte_place, std::proofs::lemmas::List::take_min))]
 pub(crate) fn own_length(text: &[u8], most: usize) -> usize
     ensures value { result ≡ position_or_len is_mark (take most text.now) }
     ensures small { result ≤ most }

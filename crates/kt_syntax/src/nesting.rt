@@ -1,10 +1,11 @@
 //! The blocks of a text found, by one pass over its lines and one back over their parts.
 ghost use Rattle.std.specs.Prelude.{◌≡◌, ◌≤◌, ◌<◌, ◌^◌, length, IfOk};
-ghost use Rattle.kt_text.specs.Lines.{AreInOrder};
+ghost use Rattle.kt_text.specs.views.Lines.{AreInOrder};
 ghost use Rattle.kt_syntax.specs.Blocks.{blocks_of, tree_of};
-ghost use Rattle.kt_syntax.specs.Grammar.{IsTreeOf};
-ghost use Rattle.kt_syntax.specs.Parts.{after, block_part, block_parts, depth_of, missing_end};
-ghost use Rattle.kt_syntax.specs.Reading.{left_at};
+ghost use Rattle.kt_syntax.specs.views.Grammar.{IsTreeOf};
+ghost use Rattle.kt_syntax.specs.Parts.{after, block_part, block_parts, missing_end};
+ghost use Rattle.kt_syntax.specs.inner.Blocks.{depth_of};
+ghost use Rattle.kt_syntax.specs.views.Reading.{left_at};
 ghost use Rattle.kt_syntax.specs.Roles.{heads_of, numbered_role};
 ghost use Rattle.kt_syntax.specs.Steps.{steps_from};
 
@@ -42,7 +43,7 @@ fn marks_of(alloc: Global, lines: &[Line]) -> Result<Vec<LineMark>, AllocError>
 }
 
 /// As `blocks`, by the marks of these lines, as `line_marks` gives them.
-#[tactic(auto, using(crate::proofs::Sound::tree_is_of, crate::proofs::WholeTree::whole_tree_is_left))]
+#[tactic(auto, using(crate::proofs::lemmas::Sound::tree_is_of, crate::proofs::lemmas::WholeTree::whole_tree_is_left))]
 pub fn marked_blocks(alloc: Global, text: &[u8], lines: &[LineMark]) -> Result<Blocks, AllocError>
     requires { AreInOrder (length text.now) lines.now }
     ensures flat { IfOk result (λ blocks. blocks ≡ blocks_of (heads_of text.now lines.now)) }
@@ -96,7 +97,7 @@ fn next_part(
 }
 
 // The steps of lines with these parts, found from the last line to the first.
-#[tactic(auto, using(crate::proofs::StepListLemmas::ordinary_before))]
+#[tactic(auto, using(crate::proofs::lemmas::StepListLemmas::ordinary_before))]
 fn steps(alloc: Global, mut parts: Vec<BlockPart>) -> Result<StepList, AllocError>
     ensures { IfOk result (λ steps. steps ≡ steps_from 0 parts.items) }
 {

@@ -1,13 +1,14 @@
 //! The first term of a text.
 ghost use Rattle.std.specs.Prelude.{◌≡◌, ◌==◌, ◌+◌, ◌^◌, ◌∷◌, ◌<◌, ◌≤◌, [], length, MatchOption, IfSome};
 ghost use Rattle.std.specs.List.{position_or_len};
-ghost use Rattle.kt_syntax.specs.Terms.{after_dollar, closing, dropped, first_term, token_of, reference_of, terms_of};
+ghost use Rattle.kt_syntax.specs.Terms.{after_dollar, closing, dropped, first_term, reference_of, terms_of};
+ghost use Rattle.kt_syntax.specs.views.Terms.{token_of};
 
 use crate::term::{Mark, Term, Unterminated};
 use memchr::memchr;
 
 /// The first term, and what stands after it.
-#[tactic(auto, using(crate::proofs::Splitting::text_first, std::proofs::lemmas::List::take_rest))]
+#[tactic(auto, using(crate::proofs::lemmas::Splitting::text_first, std::proofs::lemmas::List::take_rest))]
 pub(crate) fn next_term(text: &[u8]) -> Option<(Result<Term<'_>, Unterminated>, &[u8])>
     ensures { MatchOption result (terms_of text.now ≡ [])
         (λ cut. terms_of text.now ≡ token_of cut.0 ∷ terms_of cut.1.now) }

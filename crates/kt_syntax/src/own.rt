@@ -14,12 +14,12 @@ use kt_text::is_blank;
 use memchr::memchr;
 
 // The first place from a place on where no blank stands, or the end; `None` where that takes a look at symbols.
-#[tactic(auto, using(crate::proofs::OwnRuns::blanks_passed))]
+#[tactic(auto, using(crate::proofs::lemmas::OwnRuns::blanks_passed))]
 pub(crate) fn past_own_blanks(text: &[u8], from: usize, end: usize) -> Option<usize>
     requires order { from ≤ end }
     requires within { end ≤ length text.now }
-    ensures value { IfSome result (λ place. place ≡ past_blanks from (first_symbols end text.now)) }
-    ensures bounds { IfSome result (IsBetween from end) }
+    ensures quick_value { IfSome result (λ place. place ≡ past_blanks from (first_symbols end text.now)) }
+    ensures quick_bounds { IfSome result (IsBetween from end) }
 {
     if has_mark(text, from) {
         return None;
@@ -33,12 +33,12 @@ pub(crate) fn past_own_blanks(text: &[u8], from: usize, end: usize) -> Option<us
 }
 
 // The first place from a place on where a blank stands, or the end; `None` where that takes a look at symbols.
-#[tactic(auto, using(crate::proofs::OwnRuns::word_passed))]
+#[tactic(auto, using(crate::proofs::lemmas::OwnRuns::word_passed))]
 pub(crate) fn past_own_word(text: &[u8], from: usize, end: usize) -> Option<usize>
     requires order { from ≤ end }
     requires within { end ≤ length text.now }
-    ensures value { IfSome result (λ place. place ≡ past_word from (first_symbols end text.now)) }
-    ensures bounds { IfSome result (IsBetween from end) }
+    ensures quick_value { IfSome result (λ place. place ≡ past_word from (first_symbols end text.now)) }
+    ensures quick_bounds { IfSome result (IsBetween from end) }
 {
     if has_mark(text, from) {
         return None;
@@ -52,7 +52,7 @@ pub(crate) fn past_own_word(text: &[u8], from: usize, end: usize) -> Option<usiz
 }
 
 // A place in the name of an assignment up to which nothing can end it.
-#[tactic(auto, using(crate::proofs::OwnRuns::name_passed, crate::proofs::OwnRuns::name_passed))]
+#[tactic(auto, using(crate::proofs::lemmas::OwnRuns::name_passed, crate::proofs::lemmas::OwnRuns::name_passed))]
 pub(crate) fn past_own_name(text: &[u8], begin: usize, end: usize) -> usize
     requires order { begin ≤ end }
     requires within { end ≤ length text.now }
@@ -71,9 +71,9 @@ pub(crate) fn past_own_name(text: &[u8], begin: usize, end: usize) -> usize
 pub(crate) fn own_place(text: &[u8], byte: u8, end: usize) -> Option<usize>
     requires unmarked { is_mark byte ≡ false }
     requires within { end ≤ length text.now }
-    ensures value { IfSome result (λ place. place
+    ensures quick_value { IfSome result (λ place. place
         ≡ position_or_len (λ symbol. symbol == byte) (first_symbols end text.now)) }
-    ensures bound { IfSome result (λ place. place ≤ end) }
+    ensures quick_bound { IfSome result (λ place. place ≤ end) }
 {
     let place = first_place(byte, &text[..end]);
     if has_mark(text, place) {
@@ -83,11 +83,11 @@ pub(crate) fn own_place(text: &[u8], byte: u8, end: usize) -> Option<usize>
 }
 
 // Where the comment of a line begins, or the line's end; `None` where that takes a look at symbols.
-#[tactic(auto, using(crate::proofs::OwnPlaces::sign_found, crate::proofs::OwnPlaces::sign_kept))]
+#[tactic(auto, using(crate::proofs::lemmas::OwnPlaces::sign_found, crate::proofs::lemmas::OwnPlaces::sign_kept))]
 pub(crate) fn own_sign_place(text: &[u8]) -> Option<usize>
-    ensures value { IfSome result (λ place. place ≡ comment_place text.now) }
-    ensures kept { IfSome result (λ place. take place text.now ≡ uncommented_of text.now) }
-    ensures bound { IfSome result (λ place. place ≤ length text.now) }
+    ensures quick_value { IfSome result (λ place. place ≡ comment_place text.now) }
+    ensures quick_kept { IfSome result (λ place. take place text.now ≡ uncommented_of text.now) }
+    ensures quick_bound { IfSome result (λ place. place ≤ length text.now) }
 {
     let place = first_place(b'#', text);
     if has_mark(text, place) {
@@ -97,7 +97,7 @@ pub(crate) fn own_sign_place(text: &[u8]) -> Option<usize>
 }
 
 // The first place where a byte stands, or the text's end.
-#[tactic(auto, using(kt_text::proofs::PlaceLemmas::first_byte_place))]
+#[tactic(auto, using(kt_text::proofs::lemmas::PlaceLemmas::first_byte_place))]
 fn first_place(byte: u8, text: &[u8]) -> usize
     ensures value { result ≡ position_or_len (λ other. other == byte) text.now }
     ensures bound { result ≤ length text.now }
@@ -108,7 +108,7 @@ fn first_place(byte: u8, text: &[u8]) -> usize
 // Whether a dollar or a backslash stands before a place of a line.
 fn has_mark(text: &[u8], place: usize) -> bool
     requires { place ≤ length text.now }
-    ensures { result ≡ false → position_or_len is_mark (take place text.now) ≡ place }
+    ensures quick { result ≡ false → position_or_len is_mark (take place text.now) ≡ place }
 {
     own_length(text, place) < place
 }

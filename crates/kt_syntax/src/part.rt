@@ -1,6 +1,7 @@
 //! The parts of lines in blocks, found from the first line to the last.
 ghost use Rattle.std.specs.Prelude.{◌≡◌, ◌≤◌, ◌<◌, ◌^◌, ℕ, None, IfOk};
-ghost use Rattle.kt_syntax.specs.Parts.{after, after_else, body_part, define_after, depth_of, else_part, missing_in};
+ghost use Rattle.kt_syntax.specs.Parts.{after, after_else, body_part, define_after, else_part, missing_in};
+ghost use Rattle.kt_syntax.specs.inner.Blocks.{depth_of};
 ghost use Rattle.kt_syntax.specs.Parts.{block_part, nothing_open};
 ghost use Rattle.kt_syntax.specs.declared.role.Role.TheVariants as role;
 

@@ -52,7 +52,7 @@ fn masked_sign_place(text: &[u8]) -> usize
 }
 
 // The first place where no blank stands, or the end.
-#[tactic(auto, using(crate::proofs::Masking::no_blanks_left))]
+#[tactic(auto, using(crate::proofs::lemmas::Masking::no_blanks_left))]
 pub(crate) fn past_blanks(text: &[u8], from: usize, end: usize) -> usize
     requires order { from ≤ end }
     requires within { end ≤ length text.now }
@@ -87,7 +87,7 @@ fn past_masked_blanks(text: &[u8], from: usize, end: usize) -> usize
 }
 
 // The first place where no blank stands in the whole line, or its end.
-#[tactic(auto, using(crate::proofs::Masking::whole_mask))]
+#[tactic(auto, using(crate::proofs::lemmas::Masking::whole_mask))]
 pub(crate) fn past_line_blanks(text: &[u8], from: usize) -> usize
     requires { from ≤ length text.now }
     ensures value { result ≡ past_blanks from (mask_of text.now) }

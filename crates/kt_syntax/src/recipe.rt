@@ -31,7 +31,7 @@ pub enum Joint {
 /// blanks round them are one space. A carriage return before a newline is dropped, and a backslash
 /// at the end of the text stays. GNU make manual, "Splitting Recipe Lines". A text without a newline
 /// stays as it is, and is borrowed.
-#[tactic(auto, using(crate::proofs::RecipeLemmas::line_stays))]
+#[tactic(auto, using(crate::proofs::lemmas::RecipeLemmas::line_stays))]
 pub fn recipe_text(alloc: Global, text: &[u8]) -> Result<CowSlice<'_, u8>, AllocError>
     ensures { IfOk result (λ recipe. cow_slice_items recipe ≡ recipe_of text.now) }
 {

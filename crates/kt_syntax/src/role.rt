@@ -3,7 +3,8 @@ ghost use Rattle.std.specs.Prelude.{◌≡◌, ◌≤◌, false, length, true, I
 ghost use Rattle.std.specs.List.{slice_range};
 ghost use Rattle.kt_syntax.specs.declared.role.Role.TheVariants as role;
 ghost use Rattle.kt_syntax.specs.Kinds.{block_word, form_of, line_form};
-ghost use Rattle.kt_syntax.specs.Roles.{first_word, line_text, may_open, numbered_role, opens_conditional};
+ghost use Rattle.kt_syntax.specs.Roles.{first_word, line_text, numbered_role, opens_conditional};
+ghost use Rattle.kt_syntax.specs.inner.Leading.{may_open};
 ghost use Rattle.kt_syntax.specs.Roles.{role_by_word, role_of, starts_condition};
 
 use crate::form::{Directive, Form};
@@ -60,10 +61,11 @@ fn line_text<'a>(text: &'a [u8], line: &Line) -> &'a [u8]
 
 // Whether a line has no role, as its first byte tells of most: one that begins with a tab has none, whatever stands on
 // it, and few others begin as those do that have one.
+// Idle: whether it begins with a tab.
 pub(crate) fn opens_nothing(text: &[u8], line: &Line) -> bool
     requires order { line.now.span.start ≤ line.now.span.end }
     requires within { line.now.span.end ≤ length text.now }
-    ensures role { result ≡ true → (numbered_role text.now line.now).role ≡ role.Ordinary }
+    ensures quick_role { result ≡ true → (numbered_role text.now line.now).role ≡ role.Ordinary }
     ensures tab { result ≡ false → line.now.tab ≡ false }
 {
     if line.tab {
@@ -87,7 +89,7 @@ fn line_role(alloc: Global, line: &[u8]) -> Result<Role, AllocError>
 }
 
 // The role of a text that begins with no tab. Behind its blanks it begins as the whole line has to.
-#[tactic(auto, using(crate::proofs::RoleLemmas::text_role))]
+#[tactic(auto, using(crate::proofs::lemmas::RoleLemmas::text_role))]
 fn role_of(text: &[u8]) -> Role
     ensures { result ≡ role_of (form_of text.now false) }
 {
@@ -141,7 +143,7 @@ fn role_by_word(word: Directive, rest: &[u8]) -> Role
 }
 
 // Whether the text after an `else` is that of a condition, by its first word alone.
-#[tactic(auto, using(crate::proofs::LeadingWords::nothing_starts), unfolding(crate::specs::Roles::starts_condition))]
+#[tactic(auto, using(crate::proofs::lemmas::LeadingWords::nothing_starts), unfolding(crate::specs::Roles::starts_condition))]
 fn starts_condition(rest: &[u8]) -> bool
     ensures { result ≡ starts_condition rest.now }
 {

@@ -32,7 +32,7 @@ impl Model for StepList {
 
 impl StepList {
     // The steps of so many ordinary lines.
-    #[tactic(auto, using(crate::proofs::StepListLemmas::none_held))]
+    #[tactic(auto, using(crate::proofs::lemmas::StepListLemmas::none_held))]
     pub(crate) fn ordinary(alloc: Global, count: usize) -> Result<StepList, AllocError>
         ensures { IfOk result (λ list. list ≡ replicate count step.Line) }
     {
@@ -44,7 +44,7 @@ impl StepList {
 
     // Puts a step in the place of an ordinary line's. Places beyond 4,294,967,295, or more such steps, are refused as
     // if memory were.
-    #[tactic(auto, using(crate::proofs::StepListLemmas::stays_ordinary))]
+    #[tactic(auto, using(crate::proofs::lemmas::StepListLemmas::stays_ordinary))]
     pub(crate) fn put(&mut self, place: usize, found: BlockStep) -> Result<(), AllocError>
         requires within { place < length self.old }
         requires ordinary { slice_get self.old place ≡ Some step.Line }
@@ -56,7 +56,7 @@ impl StepList {
         self.hold(place, ShortStep::of(found)?)
     }
 
-    #[tactic(auto, using(crate::proofs::StepListLemmas::held_more))]
+    #[tactic(auto, using(crate::proofs::lemmas::StepListLemmas::held_more))]
     fn hold(&mut self, place: usize, step: ShortStep) -> Result<(), AllocError>
         requires { place < length self.old }
         ensures { IfOk result (λ _. self.new ≡ slice_set self.old place step) }
@@ -69,7 +69,7 @@ impl StepList {
 
     // Whether that of a place is told to be an ordinary line's by its number alone, as each is that was never put.
     pub(crate) fn is_unput(&self, place: usize) -> bool
-        ensures { result ≡ true → slice_get self.now place ≡ Some step.Line }
+        ensures quick { result ≡ true → slice_get self.now place ≡ Some step.Line }
     {
         match self.numbers.get(place) {
             Some(number) => *number == 0,

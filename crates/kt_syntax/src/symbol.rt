@@ -1,6 +1,7 @@
 //! What stands at a place of a masked line.
 ghost use Rattle.std.specs.Prelude.{◌≡◌, ◌==◌, ℕ};
-ghost use Rattle.kt_syntax.specs.Mask.{inside, symbol_view};
+ghost use Rattle.kt_syntax.specs.Mask.{inside};
+ghost use Rattle.kt_syntax.specs.inner.Symbols.{symbol_view};
 
 use std::marker::Model;
 

@@ -1,7 +1,8 @@
 //! The terms of a text, one after another.
 ghost use Rattle.std.specs.Prelude.{◌≡◌, List};
 ghost use Rattle.std.specs.Iterator.{YieldsFirstBy, item_count};
-ghost use Rattle.kt_syntax.specs.Terms.{Term as TermSeen, token_of, terms_of};
+ghost use Rattle.kt_syntax.specs.Terms.{Term as TermSeen, terms_of};
+ghost use Rattle.kt_syntax.specs.views.Terms.{token_of};
 
 use crate::next_term::next_term;
 use crate::term::{Term, Unterminated};

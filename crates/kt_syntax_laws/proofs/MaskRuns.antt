@@ -3,7 +3,7 @@ use Rattle.std.proofs.Common.{◌≡◌, ◌==◌, ◌≤◌, ◌<◌, ◌-◌, 
 use Rattle.kt_syntax.proofs.Common.{cases_Bool, cases_lt, Decides-eqb, drop_more, drop_at, drop-drop, get_or-drop, get_or-replicate, get_or_append_left, length-replicate, suffix_len-take_yes, suffix_len-take_no, starts_is, starts_with, suffix_len, Text, is_continued_text, kept, unit_length, goes_odd, mask_byte, more_masked, mask_from}
 use Rattle.kt_text_laws.proofs.Numbers.{one_more_odd}
 use Rattle.kt_syntax_laws.specs.Masked.{IsContinued, IsSymbol}
-use Rattle.kt_syntax.proofs.Masking.{step-inside, step-outside}
+use Rattle.kt_syntax.proofs.lemmas.Masking.{step-inside, step-outside}
 
 -- ---- numbers compared
 

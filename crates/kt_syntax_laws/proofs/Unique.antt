@@ -9,10 +9,10 @@ use Rattle.kt_syntax.specs.declared.role.Role.TheVariants as role
 use Rattle.kt_syntax.specs.Parts.{Scan, after, block_part, open_at_end, parts_from}
 use Rattle.kt_syntax.specs.Steps.{ahead_of, places_after, step_of, steps_from}
 use Rattle.kt_syntax.specs.Blocks.{Items, Branches, Level, none, line, fault, definition, conditional, no_branch, branch, late, blocks_of, innermost_level, levels_from, outer, tree_of}
-use Rattle.kt_syntax.specs.Grammar.{IsTreeOf, Rests, TakesBody, TakesBranches, TakesEndif, TakesItems, or_missing}
-use Rattle.kt_syntax.specs.Reading.{append}
-use Rattle.kt_syntax.proofs.Sound.{levels_at, missing_from}
-use Rattle.kt_syntax.proofs.ItemLemmas.{append-none}
+use Rattle.kt_syntax.specs.views.Grammar.{IsTreeOf, Rests, TakesBody, TakesBranches, TakesEndif, TakesItems, or_missing}
+use Rattle.kt_syntax.specs.views.Reading.{append}
+use Rattle.kt_syntax.proofs.lemmas.Sound.{levels_at, missing_from}
+use Rattle.kt_syntax.proofs.lemmas.ItemLemmas.{append-none}
 
 -- outside defines
 abbrev outside : List OpenConditional → Scan

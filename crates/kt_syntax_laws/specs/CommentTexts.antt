@@ -1,7 +1,9 @@
 -- What is left of a text without its comment, as cuts of the text (GNU make manual, "What Makefiles Contain"; runs of
 -- backslashes before a number sign are kati's own).
 use Rattle.std.specs.Prelude.{◌≡◌, ◌≢◌, ℕ, ◌+◌, ◌/◌, ◌%◌, ◌==◌, Bool, true, not, List, [], ◌∷◌, ◌++◌, length}
-use Rattle.kt_syntax.specs.Prelude.{list_all, Text, mask_of, comment_place}
+use Rattle.std.specs.List.{list_all}
+use Rattle.kt_syntax.specs.Prelude.{Text, mask_of}
+use Rattle.kt_syntax.specs.Kinds.{comment_place}
 use Rattle.kt_syntax.specs.Comments.{backslashes, uncommented_of}
 
 -- none of these symbols is a number sign

@@ -1,7 +1,9 @@
 -- The text of a recipe line, as cuts of its physical lines with their mask beside them (GNU make manual, "Splitting
 -- Recipe Lines"; that a continuation goes outside references, too, and carriage returns are kati's own).
 use Rattle.std.specs.Prelude.{◌≡◌, ◌≢◌, ◌⊎◌, ℕ, ◌-◌, true, false, List, [], ◌∷◌, ◌++◌, length, drop, slice_index}
-use Rattle.kt_syntax.specs.Prelude.{flat_map, list_any, Text, is_continued_text, newline_pieces, inside, mask_of}
+use Rattle.std.specs.List.{flat_map, list_any}
+use Rattle.kt_syntax.specs.Prelude.{Text, inside, mask_of}
+use Rattle.kt_text.specs.Lines.{is_continued_text, newline_pieces}
 use Rattle.kt_text_laws.specs.Condensing.{FirstStands, HasNoNewline, IsNewline, Spacing, StandsAfter, is_continuation, spelled}
 use Rattle.kt_syntax.specs.declared.recipe.Joint.TheVariants.{Edge}
 use Rattle.kt_syntax.specs.Recipes.{recipe_lines, recipe_of}

@@ -7,7 +7,7 @@ ghost use Rattle.kt_syntax_laws.specs.BlockRows.{RowsOfBlocks};
 ghost use Rattle.kt_syntax.specs.Blocks.{Items, blocks_of, tree_of};
 ghost use Rattle.kt_syntax_laws.specs.CommentTexts.{CommentLaw};
 ghost use Rattle.kt_syntax_laws.specs.Condensed.{LineLaw, SemicolonLaw};
-ghost use Rattle.kt_syntax.specs.Grammar.{IsTreeOf};
+ghost use Rattle.kt_syntax.specs.views.Grammar.{IsTreeOf};
 ghost use Rattle.kt_syntax_laws.specs.Masked.{MaskLaw};
 ghost use Rattle.kt_syntax_laws.specs.Modifiers.{ModifierLaw};
 ghost use Rattle.kt_syntax_laws.specs.RecipeCuts.{SplicingLaw};

@@ -2,11 +2,13 @@
 pub use Rattle.bstr.proofs.lemmas.LineLemmas.{line_len-at, line_len-bounds, line_len-none, lines-nil, lines-step}
 pub use Rattle.bstr.specs.Text.{no_cr}
 unfoldable pub use Rattle.bstr.specs.Text.{line_len}
-pub use Rattle.kt_text.specs.Functions.{dir_part, matches_held, matches_some, name_part, name_place, occurs, suffix_place, word_at}
+pub use Rattle.kt_text.specs.Functions.{dir_part, matches_some, name_part, name_place, occurs, suffix_place, word_at}
+pub use Rattle.kt_text.specs.inner.Patterns.{matches_held}
 unfoldable pub use Rattle.kt_text.specs.Functions.{basename_of, dir_of, findstring_of, join_of, joined_pairs, matches_word, number_of, patsubst_of, patsubst_word, sort_of, subst_of, word_of, word_set, wordlist_of, words_count_of}
-pub use Rattle.kt_text.specs.Lines.{AreInOrder, before_backslash, is_continued_text, space_before, trimmed_line}
+pub use Rattle.kt_text.specs.views.Lines.{AreInOrder}
+pub use Rattle.kt_text.specs.Lines.{before_backslash, is_continued_text, space_before, trimmed_line}
 unfoldable pub use Rattle.kt_text.specs.Lines.{condensed_group, condensed_line, condensed_of, condensed_rest, groups, is_continued, is_ended, kept_length, kept_of_last, lines_from, logical_lines_of, newline_pieces, nul_line}
-pub use Rattle.kt_text.specs.Words.{put_word}
+pub use Rattle.kt_text.specs.views.Words.{put_word}
 unfoldable pub use Rattle.kt_text.specs.Words.{is_blank, is_separator, list_text, words_of}
 pub use Rattle.memchr.specs.Find.{FindsNeedle, IsFirstByte, IsLastByte, is_byte, matches}
 unfoldable pub use Rattle.memchr.specs.Find.{first_of}
@@ -24,4 +26,5 @@ pub use Rattle.std.specs.List.{concat, dedup, join_with_byte, onto_first, positi
 pub use Rattle.std.specs.Ordering.{MatchOrdering, is_eq, match_ordering, ordering_reverse, ordering_then}
 pub use Rattle.std.specs.declared.cmp.Ordering.{Ordering}
 pub use Rattle.std.specs.declared.cmp.Ordering.TheVariants.{Equal, Greater, Less}
-pub use Rattle.kt_text.specs.Prelude.{All, Contains, Line, Text, before_first, ends_with, flat_map, is_nonempty, lines_of, list_any, nat_cmp, slice_get, slice_range, starts_with, suffix_len, trimmed_end, trimmed_start, without_terminator}
+pub use Rattle.std.specs.List.{All, Contains, flat_map}
+pub use Rattle.kt_text.specs.Prelude.{Line, Text, before_first, ends_with, is_nonempty, lines_of, list_any, nat_cmp, slice_get, slice_range, starts_with, suffix_len, trimmed_end, trimmed_start, without_terminator}

@@ -1,15 +1,2 @@
 pub mod Common
-pub mod BegunLemmas
-pub mod CondensedLemmas
-pub mod GroupLemmas
-pub mod ListLemmas
-pub mod LogicalLemmas
-pub mod MatchLemmas
-pub mod NameLemmas
-pub mod OrderLemmas
-pub mod PatternLemmas
-pub mod PhysicalLemmas
-pub mod PlaceLemmas
-pub mod SortLemmas
-pub mod SureLemmas
-pub mod WordLemmas
+pub mod lemmas

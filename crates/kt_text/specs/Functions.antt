@@ -2,9 +2,8 @@
 -- Each is called as in the GNU make manual, "Functions for String Substitution and Analysis" and, from `dir` on,
 -- "Functions for File Names". That results without bytes are left out of a list is kati's own.
 -- Notes of the form [Section] name that manual's section.
-use Rattle.std.specs.Prelude.{◌≡◌, ℕ, ◌-◌, Bool, true, ◌||◌, ◌&&◌, ◌==◌, nat_le, not, List, [], ◌∷◌, ◌++◌, length, map}
-use Rattle.std.specs.Prelude.{filter, fold, take, drop, Option, Some, None, Result, unwrap_or, is_some, MatchResult}
-use Rattle.std.specs.Prelude.{if◌then◌else◌}
+use Rattle.std.specs.Prelude.{ℕ, ◌-◌, Bool, ◌||◌, ◌&&◌, ◌==◌, nat_le, not, List, [], ◌∷◌, ◌++◌, length, map, filter}
+use Rattle.std.specs.Prelude.{fold, take, drop, Option, Some, None, unwrap_or, is_some, if◌then◌else◌}
 use Rattle.kt_text.specs.Prelude.{list_any, list_all, slice_get, slice_range, suffix_len, bytes_eq, nat_cmp, slice_cmp}
 use Rattle.kt_text.specs.Prelude.{replaced_at, Text, is_nonempty, words_of, list_text, trimmed_start, trimmed_end}
 use Rattle.std.specs.Option.{option_and_then}
@@ -12,22 +11,8 @@ use Rattle.std.specs.Char.{is_ascii_digit}
 use Rattle.std.specs.Str.Parse.{digits_value}
 use Rattle.std.specs.Fmt.{decimal}
 use Rattle.std.specs.BTreeSet.{insert_key}
-use Rattle.std.specs.Borrow.{Bor}
-use Rattle.std.specs.declared.vec.Vec.{Vec}
-use Rattle.std.specs.declared.alloc.Global.{Global}
 use Rattle.memchr.specs.Find.{matches}
-use Rattle.kt_text.specs.declared.fault.TextFault.{TextFault}
-use Rattle.kt_text.specs.declared.fault.TextFault.TheVariants.{BadArgument, Memory}
 use Rattle.kt_text.specs.Match.{has_percent, pattern_front, pattern_back, stem_span}
-
--- a fault says that there is no text, or that memory was refused for one
-abbrev pub Refuses : Option Text → TextFault → Type 0
-Refuses expected BadArgument = expected ≡ None
-Refuses expected Memory = is_some expected ≡ true
-
--- the call returns the text that is expected, or `BadArgument` exactly where none is
-abbrev pub Answers : Result (Vec ℕ Global) TextFault → Option Text → Type 0
-Answers result expected = MatchResult result (λ text. expected ≡ Some text.items) (Refuses expected)
 
 -- whether the needle stands somewhere in the text
 abbrev pub occurs : Text → Text → Bool
@@ -82,12 +67,6 @@ matches_word pattern word =
 -- whether one of the patterns matches the word
 abbrev pub matches_some : List Text → Text → Bool
 matches_some patterns word = list_any (λ pattern. matches_word pattern word) patterns
-
--- whether one of the patterns does, of which those without percent sign stand in a set
-abbrev pub matches_held : List (Bor Text) → List (Bor Text) → Text → Bool
-matches_held literals wildcards word =
-    list_any (λ literal. bytes_eq word literal.now) literals || list_any
-    (λ pattern. is_some (stem_span pattern.now word)) wildcards
 
 -- `filter`, which refuses `\%` [Functions for String Substitution and Analysis]
 unfoldable pub filter_of : Text → Text → Option Text

@@ -1,11 +1,10 @@
 pub mod Prelude
 pub mod Words
-pub mod Begun
 pub mod Match
 pub mod Lines
 pub mod Functions
 pub mod TextFunctions
-pub mod Sorted
+pub mod views
 pub mod inner
 pub use Rattle.memchr.specs.Find
 pub use Rattle.bstr.specs.Text

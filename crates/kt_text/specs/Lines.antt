@@ -1,10 +1,8 @@
 -- The logical lines of a text (POSIX.1-2024 make, "Makefile Syntax"; GNU make manual, "Splitting Long Lines").
-use Rattle.std.specs.Prelude.{◌≡◌, ◌⊎◌, ◌<◌, ◌≤◌, ℕ, ◌+◌, ◌-◌, ◌%◌, Bool, true, false, ◌==◌, List, [], ◌∷◌, ◌++◌, length, take}
-use Rattle.std.specs.Prelude.{count_by, Option, Some, None, slice_index, if◌then◌else◌}
-use Rattle.std.specs.List.{All, AllAdjacentBelow, list_any, before_first, suffix_len, onto_first, flat_map, concat}
+use Rattle.std.specs.Prelude.{ℕ, ◌+◌, ◌-◌, ◌%◌, Bool, true, false, ◌==◌, List, [], ◌∷◌, ◌++◌, length, take, count_by}
+use Rattle.std.specs.Prelude.{Option, Some, None, slice_index, if◌then◌else◌}
+use Rattle.std.specs.List.{list_any, before_first, suffix_len, onto_first, flat_map, concat}
 use Rattle.kt_text.specs.Prelude.{lines_of, without_terminator, Line, Text, trimmed_start, trimmed_end}
-use Rattle.kt_text.specs.declared.line.LineFault.{LineFault}
-use Rattle.kt_text.specs.declared.line.LineFault.TheVariants.{Nul, Memory}
 
 -- whether the text ends in an odd number of backslashes
 abbrev pub is_continued_text : Text → Bool
@@ -49,11 +47,6 @@ lines_from start number (group ∷ later) =
 -- the logical lines of a text without NUL
 unfoldable pub logical_lines_of : Text → List Line
 logical_lines_of text = lines_from 0 1 (groups (lines_of text))
-
--- lines that stand in a text of this size, each after the one before it
-pub record AreInOrder (size : ℕ) (lines : List Line) : Type 0 where
-  pub within : All (λ line. (line.span.start ≤ line.span.end) × (line.span.end ≤ size)) lines
-  pub ordered : AllAdjacentBelow (λ line next. line.span.end ≤ next.span.start) lines (length lines)
 
 -- the number of the physical line of the first NUL, if there is one (kati's own)
 unfoldable pub nul_line : Text → Option ℕ
@@ -122,14 +115,3 @@ condensed_group (line ∷ next ∷ lines) = condensed_line false true line ++ co
 -- go. A continuation at the end of the text is one too: an empty piece follows it (kati's own)
 unfoldable pub condensed_of : Text → Text
 condensed_of text = flat_map condensed_group (groups (newline_pieces text))
-
--- a line for which there is no mark: beyond the numbers of 32 bits, or it ends before its begin, or at it in spite of
--- its tab
-abbrev pub HasNoMark : Line → Type 0
-HasNoMark line = (4294967295 < line.span.start) ⊎ (4294967295 < line.span.end) ⊎ (4294967295 < line.number)
-    ⊎ (line.span.end < line.span.start) ⊎ ((line.tab ≡ true) × (line.span.end ≡ line.span.start))
-
--- the fault of a text with a NUL has that line; of one without, it is out of memory
-abbrev pub NulFault : Option ℕ → LineFault → Type 0
-NulFault line (Nul number) = line ≡ Some number
-NulFault line Memory = line ≡ None

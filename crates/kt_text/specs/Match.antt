@@ -1,20 +1,11 @@
 -- Patterns with a percent sign (GNU make manual, "Introduction to Pattern Rules"; "Functions for String Substitution
 -- and Analysis", on `patsubst`). Only the first percent sign of a pattern counts.
-use Rattle.std.specs.Prelude.{◌≡◌, ℕ, ◌+◌, ◌-◌, Bool, false, ◌&&◌, ◌==◌, nat_eq, nat_le, ◌∷◌, ◌++◌, length, All, Option}
-use Rattle.std.specs.Prelude.{Some, None, if◌then◌else◌}
+use Rattle.std.specs.Prelude.{ℕ, ◌+◌, ◌-◌, Bool, ◌&&◌, ◌==◌, nat_eq, nat_le, length, Option, Some, None, if◌then◌else◌}
 use Rattle.kt_text.specs.Prelude.{list_any, before_first, after_first, starts_with, ends_with, Text}
 
 -- the byte that stands for any text [Introduction to Pattern Rules]
 unfoldable pub is_percent : ℕ → Bool
 is_percent byte = byte == 37
-
--- the pattern is `front`, its first percent sign and `back`; the word is `front`, the stem and `back`
-pub record Match (pattern word stem : Text) : Type 0 where
-  pub front : Text
-  pub back : Text
-  pub first : All (λ byte. is_percent byte ≡ false) front
-  pub cut : pattern ≡ front ++ 37 ∷ back
-  pub covers : word ≡ front ++ (stem ++ back)
 
 -- whether the pattern has a percent sign
 unfoldable pub has_percent : Text → Bool

@@ -1,6 +1,6 @@
 -- The words of a text (GNU make manual, "Functions for String Substitution and Analysis": words separated by
 -- whitespace).
-use Rattle.std.specs.Prelude.{ℕ, Bool, true, false, ◌||◌, ◌==◌, List, [], ◌∷◌, ◌++◌, filter, drop, take, length, ◌-◌}
+use Rattle.std.specs.Prelude.{ℕ, Bool, true, false, ◌||◌, ◌==◌, List, [], ◌∷◌, filter, drop, take, length, ◌-◌}
 use Rattle.std.specs.List.{slice_split, join_with_byte, prefix_len, suffix_len}
 
 -- bytes, as the language takes its texts
@@ -55,9 +55,3 @@ words_of text = filter is_nonempty (slice_split is_separator text)
 -- a list of words as a text: empty words are left out, the others are joined by one space
 unfoldable pub list_text : List Text → Text
 list_text texts = join_with_byte 32 (filter is_nonempty texts)
-
--- one more word after a list of words as a text
-abbrev pub put_word : Text → Text → Text
-put_word list [] = list
-put_word [] (byte ∷ word) = byte ∷ word
-put_word (first ∷ list) (byte ∷ word) = (first ∷ list) ++ (32 ∷ byte ∷ word)

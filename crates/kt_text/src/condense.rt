@@ -24,7 +24,7 @@ pub fn joined<'a>(alloc: Global, text: &'a [u8]) -> Result<CowSlice<'a, u8>, All
 /// Continuations with only blanks between them are one. One at the end of the text is a space too.
 /// A carriage return before a newline is dropped. A backslash at the end of the text, with no
 /// newline after it, stays. GNU make manual, "Splitting Long Lines".
-#[tactic(auto, using(crate::proofs::CondensedLemmas::condensed_steps))]
+#[tactic(auto, using(crate::proofs::lemmas::CondensedLemmas::condensed_steps))]
 pub fn condensed(alloc: Global, text: &[u8]) -> Result<Vec<u8>, AllocError>
     ensures { IfOk result (λ condensed. condensed.items ≡ condensed_of text.now) }
 {

@@ -7,7 +7,7 @@ use crate::word_runs::Words;
 /// The words of `text`, cut at spaces, tabs and newlines.
 ///
 /// Takes no memory. GNU make manual, "Functions for String Substitution and Analysis".
-#[tactic(auto, using(crate::proofs::WordLemmas::word_count_bound))]
+#[tactic(auto, using(crate::proofs::lemmas::WordLemmas::word_count_bound))]
 pub fn words(text: &[u8]) -> Words<'_>
     ensures value { result ≡ words_of text.now }
     ensures count { length result ≤ length text.now }

@@ -1,7 +1,8 @@
 //! A text cut into logical lines.
 ghost use Rattle.std.specs.Prelude.{◌≡◌, ◌+◌, ◌==◌, None, Some, MatchResult, IfOk, count_by, if◌then◌else◌, ◌≤◌};
 ghost use Rattle.std.specs.Prelude.{length};
-ghost use Rattle.kt_text.specs.Lines.{AreInOrder, NulFault, logical_lines_of, nul_line};
+ghost use Rattle.kt_text.specs.views.Lines.{AreInOrder, NulFault};
+ghost use Rattle.kt_text.specs.Lines.{logical_lines_of, nul_line};
 
 use crate::line::{Line, LineFault};
 use crate::mark::LineMark;
@@ -47,7 +48,7 @@ pub fn line_marks(alloc: Global, text: &[u8]) -> Result<Vec<LineMark>, LineFault
 }
 
 /// The number of the physical line with the first NUL, from 1, if there is one.
-#[tactic(auto, using(crate::proofs::PhysicalLemmas::nul_places), unfolding(crate::specs::Lines::nul_line))]
+#[tactic(auto, using(crate::proofs::lemmas::PhysicalLemmas::nul_places), unfolding(crate::specs::Lines::nul_line))]
 pub fn nul_line(text: &[u8]) -> Option<u64>
     ensures { result ≡ nul_line text.now }
 {

@@ -1,6 +1,6 @@
 //! Logical lines as a text's reader holds them: in less than half the room of a `Line`.
 ghost use Rattle.std.specs.Prelude.{◌≡◌, ◌<◌, ◌≤◌, false, true, IfOk, OnErr};
-ghost use Rattle.kt_text.specs.Lines.{HasNoMark};
+ghost use Rattle.kt_text.specs.views.Lines.{HasNoMark};
 
 use crate::line::Line;
 use kt_list::narrow;

@@ -1,7 +1,7 @@
 //! A list of words that is written one after another.
 ghost use Rattle.std.specs.Prelude.{◌≡◌, ◌++◌, OnOk, Some};
-ghost use Rattle.kt_text.specs.Functions.{Answers};
-ghost use Rattle.kt_text.specs.Words.{put_word};
+ghost use Rattle.kt_text.specs.views.Functions.{Answers};
+ghost use Rattle.kt_text.specs.views.Words.{put_word};
 
 use crate::fault::TextFault;
 use std::alloc::{AllocError, Global};

@@ -3,10 +3,12 @@ ghost use Rattle.std.specs.Prelude.{◌≡◌, ◌++◌, ◌+◌, ◌-◌, ◌�
 ghost use Rattle.std.specs.Prelude.{OnErr, OnOk, option_map};
 ghost use Rattle.std.specs.List.{slice_range};
 ghost use Rattle.kt_text.specs.Functions.{with_stem};
-ghost use Rattle.kt_text.specs.Begun.{HasBegun};
+ghost use Rattle.kt_text.specs.views.Begun.{HasBegun};
 ghost use Rattle.kt_text.specs.Words.{Text};
-ghost use Rattle.kt_text.specs.Match.{Match, has_percent, is_between, pattern_back, pattern_front, stem_span};
+ghost use Rattle.kt_text.specs.views.Match.{Match};
+ghost use Rattle.kt_text.specs.Match.{has_percent, is_between, pattern_back, pattern_front, stem_span};
 
+use crate::byte::has_byte;
 use memchr::memchr;
 use std::alloc::AllocError;
 use std::ops::Range;
@@ -15,7 +17,7 @@ use std::ops::Range;
 ///
 /// A pattern without `%` matches no word here. Takes no memory. GNU make manual, "Introduction
 /// to Pattern Rules".
-#[tactic(auto, using(crate::proofs::MatchLemmas::match_facts))]
+#[tactic(auto, using(crate::proofs::lemmas::MatchLemmas::match_facts))]
 pub fn match_pattern(pattern: &[u8], word: &[u8]) -> Option<Range<usize>>
     ensures place { option_map (λ stem. (stem.start, stem.end)) result ≡ stem_span pattern.now word.now }
     ensures bounds { IfSome result (λ stem. (stem.start ≤ stem.end) × (stem.end ≤ length word.now)) }
@@ -42,7 +44,7 @@ fn stem_place(front: &[u8], back: &[u8], word: &[u8]) -> Option<Range<usize>>
 }
 
 // What stands before the first percent sign and after it.
-#[tactic(auto, using(crate::proofs::MatchLemmas::match_facts, crate::proofs::MatchLemmas::no_percent_found))]
+#[tactic(auto, using(crate::proofs::lemmas::MatchLemmas::match_facts, crate::proofs::lemmas::MatchLemmas::no_percent_found))]
 pub(crate) fn cut_pattern(pattern: &[u8]) -> Option<(&[u8], &[u8])>
     ensures { MatchOption result (has_percent pattern.now ≡ false)
         (λ parts. (has_percent pattern.now ≡ true) × (parts.0.now ≡ pattern_front pattern.now)
@@ -52,11 +54,12 @@ pub(crate) fn cut_pattern(pattern: &[u8]) -> Option<(&[u8], &[u8])>
     Some((&pattern[..percent], &pattern[percent + 1..]))
 }
 
-/// Whether there is a percent sign. Takes no memory.
+/// Whether there is a percent sign, which is a quick look where the text is short. Takes no memory.
+#[tactic(auto, unfolding(crate::specs::Match::has_percent, crate::specs::Match::is_percent))]
 pub fn has_percent(pattern: &[u8]) -> bool
     ensures { result ≡ has_percent pattern.now }
 {
-    cut_pattern(pattern).is_some()
+    has_byte(pattern, b'%')
 }
 
 /// Appends the pattern with the stem in place of its first percent sign; a pattern without one is

@@ -8,7 +8,7 @@ ghost use Rattle.kt_text.specs.Lines.{is_continued, is_continued_text, is_ended,
 use memchr::memchr;
 
 // The first physical line, with its newline, and the rest of the text.
-#[tactic(auto, using(crate::proofs::PhysicalLemmas::line_sizes))]
+#[tactic(auto, using(crate::proofs::lemmas::PhysicalLemmas::line_sizes))]
 pub(crate) fn first_line(text: &[u8]) -> (&[u8], &[u8])
     requires { 0 < length text.now }
     ensures cut { lines_of text.now ≡ result.0.now ∷ lines_of result.1.now }
@@ -34,7 +34,7 @@ fn line_size(text: &[u8]) -> usize
     }
 }
 
-#[tactic(auto, using(crate::proofs::PhysicalLemmas::line_sizes))]
+#[tactic(auto, using(crate::proofs::lemmas::PhysicalLemmas::line_sizes))]
 fn searched_size(text: &[u8]) -> usize
     ensures value { result ≡ line_len text.now }
     ensures some { 0 < length text.now → 0 < result }

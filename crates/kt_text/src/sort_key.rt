@@ -6,7 +6,8 @@ ghost use Rattle.std.specs.Ordering.{nat_cmp};
 ghost use Rattle.std.specs.Cmp.{partial_equiv_from_equiv};
 ghost use Rattle.std.specs.Cmp.Lexicographic.{slice_cmp, pointwise, nat_list_cmp_total, nat_list_eq_equiv, texts_po};
 ghost use Rattle.std.specs.Cmp.Lexicographic.{texts_ties};
-ghost use Rattle.kt_text.specs.Sorted.{IsHead, front_number};
+ghost use Rattle.kt_text.specs.inner.Sorted.{IsHead};
+ghost use Rattle.kt_text.specs.views.Sorted.{front_number};
 
 use std::cmp::Ordering;
 use std::marker::Model;

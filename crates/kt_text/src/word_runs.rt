@@ -46,7 +46,7 @@ impl<'a> Iterator for Words<'a> {
 }
 
 // The first word and what stands after it.
-#[tactic(auto, using(crate::proofs::WordLemmas::no_first_word, std::proofs::lemmas::Bool::Decides::nat_tests))]
+#[tactic(auto, using(crate::proofs::lemmas::WordLemmas::no_first_word, std::proofs::lemmas::Bool::Decides::nat_tests))]
 fn first_word(text: &[u8]) -> Option<(&[u8], &[u8])>
     ensures { MatchOption result (words_of text.now ≡ [])
         (λ cut. words_of text.now ≡ cut.0.now ∷ words_of cut.1.now) }

@@ -2,10 +2,10 @@
 use Rattle.std.proofs.Common.{◌≡◌, ◌<◌, ◌-◌, ◌==◌, ℕ, Bool, true, false, List, [], ◌∷◌, ◌++◌, length, take, refl, sym, ap, subst, arith, append-nil, cond, ⊎_elim}
 use Rattle.kt_text.proofs.Common.{cases_Bool, eqb-true, false_from_ne_true, onto_first, no_cr, without_terminator, Text, trimmed_start, trimmed_end, is_continued, is_ended, groups, newline_pieces, before_backslash, trimmed_line, space_before, condensed_line, condensed_rest, condensed_group, condensed_of}
 use Rattle.kt_text_laws.specs.Condensing.{IsLine}
-use Rattle.kt_text.proofs.CondensedLemmas.{condensed_alone, one_group}
+use Rattle.kt_text.proofs.lemmas.CondensedLemmas.{condensed_alone, one_group}
 use Rattle.kt_text_laws.proofs.NewlineLemmas.{IsFree, free_append, free_take, free_drop, free_space, free_nil, free_at}
 use Rattle.kt_text_laws.proofs.LineTextLemmas.{content_ended}
-use Rattle.kt_text.proofs.GroupLemmas.{groups-ended, groups-continued, groups-begins}
+use Rattle.kt_text.proofs.lemmas.GroupLemmas.{groups-ended, groups-continued, groups-begins}
 use Rattle.kt_text_laws.proofs.GroupLemmas.{length-onto}
 
 -- ---- the pieces of a text

@@ -2,7 +2,7 @@
 use Rattle.std.proofs.Common.{◌≡◌, ◌≢◌, ◌⊎◌, ◌-◌, ◌==◌, ◌&&◌, ℕ, Bool, true, false, not, List, [], ◌∷◌, ◌++◌, length, take, refl, sym, ap, ap₂, subst, ◌∙◌, arith, append_assoc, append-nil, length-append, cond, if◌then◌else◌, inl, inr, ⊎_elim, nat_lt, slice_index}
 use Rattle.kt_text.proofs.Common.{cases_Bool, eq-eqb, eqb-true, false≢true, lt-ltb, ne_eqb, reverse-append, take_at, get_or-append_seam, no_cr, without_terminator, Text, trimmed_end, trimmed_start, condensed_line, condensed_of, groups, is_continued, is_continued_text, is_ended, newline_pieces, space_before}
 use Rattle.kt_text_laws.specs.Condensing.{IsNewline, Spacing, is_continuation, space, spelled, tab, continuation, returned}
-use Rattle.kt_text.proofs.CondensedLemmas.{condensed_of-start, left_text, left_text-alone, left_text-step, one_group, one_piece}
+use Rattle.kt_text.proofs.lemmas.CondensedLemmas.{condensed_of-start, left_text, left_text-alone, left_text-step, one_group, one_piece}
 use Rattle.kt_text_laws.proofs.CondensingLemmas.{no_end}
 use Rattle.kt_text_laws.proofs.LineTextLemmas.{content_ended, pieces_after}
 use Rattle.kt_text_laws.proofs.NewlineLemmas.{IsFree, free_append, free_at, free_front}

@@ -2,7 +2,7 @@
 use Rattle.std.proofs.Common.{rules, ◌≡◌, ◌≢◌, ◌⊎◌, ◌≤◌, ◌-◌, ◌+◌, ◌==◌, ◌||◌, ℕ, zero, suc, Bool, true, false, List, [], ◌∷◌, ◌++◌, length, refl, sym, ap, ap₂, subst, ◌∙◌, arith, append_assoc, append-nil, length-append, ⊎_elim, slice_index}
 use Rattle.kt_text.proofs.Common.{eq-eqb, eqb-true, false≢true, get_or-append-add, flat_map, list_any, Text, is_blank, trimmed_end, trimmed_start, condensed_of, is_continued_text, space_before}
 use Rattle.kt_text_laws.specs.Condensing.{Condenses, IsGap, IsNewline, FirstStands, Spacing, StandsAfter, is_continuation, spelled, space, tab, continuation, returned}
-use Rattle.kt_text.proofs.CondensedLemmas.{condensed_alone}
+use Rattle.kt_text.proofs.lemmas.CondensedLemmas.{condensed_alone}
 use Rattle.kt_text_laws.proofs.CuttingLemmas.{FirstNewline, condensed_from, condensed_from-start, first_newline, from_continued, from_ended, from_free, kept_part, part, no_newline, first_continued, first_ended}
 use Rattle.kt_text_laws.proofs.NewlineLemmas.{IsFree, free_append}
 use Rattle.kt_text_laws.proofs.TrimLemmas.{AllBlank, EndsPlain, end_blanks, end_first, even_blank, even_blanks, even_past, free_blanks, start_blank, start_plain, started}

@@ -3,11 +3,11 @@ use Rattle.std.proofs.Common.{◌≡◌, ◌⊎◌, ◌<◌, ◌≤◌, ◌+◌,
 use Rattle.kt_text.proofs.Common.{cases_Bool, eqb-true, eq-eqb, lt-ltb, take_at, drop_at, take-append-le, get_or-append_seam, take-append-add, All, onto_first, concat, flat_map, line_len, lines_of, no_cr, without_terminator, line_len-bounds, lines-nil, lines-step, Text, is_continued, groups, newline_pieces, kept_of_last, kept_length, lines_from, logical_lines_of}
 use Rattle.kt_text.specs.declared.line.Line.{Line}
 use Rattle.kt_text_laws.specs.Condensing.{IsLine}
-use Rattle.kt_text.proofs.CondensedLemmas.{one_piece, one_group}
-use Rattle.kt_text.proofs.GroupLemmas.{groups-ended, groups-continued, groups-begins}
+use Rattle.kt_text.proofs.lemmas.CondensedLemmas.{one_piece, one_group}
+use Rattle.kt_text.proofs.lemmas.GroupLemmas.{groups-ended, groups-continued, groups-begins}
 use Rattle.kt_text_laws.proofs.GroupLemmas.{length-onto}
 use Rattle.kt_text_laws.proofs.NewlineLemmas.{IsFree, free_take, free_at}
-use Rattle.kt_text.proofs.OrderLemmas.{kept_within}
+use Rattle.kt_text.proofs.lemmas.OrderLemmas.{kept_within}
 
 -- ---- the physical lines of a text
 

@@ -2,7 +2,7 @@
 use Rattle.std.specs.Prelude.{◌≡◌, List}
 use Rattle.kt_text.specs.Prelude.{Text}
 use Rattle.kt_text.specs.Functions.{word_set}
-use Rattle.kt_text.specs.Sorted.{IsSorting}
+use Rattle.kt_text.specs.views.Sorted.{IsSorting}
 
 -- the list after `sort` is such a one, and there is no other
 pub record SortLaw : Type 0 where

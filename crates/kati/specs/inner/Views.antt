@@ -1,6 +1,7 @@
 -- The code's own types as those of the definitions (kati's own).
-use Rattle.kati.specs.Prelude.{ℕ, Bool, true, false, List, Obstacle, bad_name, bad_command, Text, Plan, Store, Makefile}
-use Rattle.kati.specs.Prelude.{Trace, read_of, StepEnd, Args, known_names}
+use Rattle.kati.specs.Prelude.{ℕ, Text, Plan, Store, Makefile}
+use Rattle.kati.specs.inner.Prelude.{Bool, true, false, List, Obstacle, bad_name, bad_command, StepEnd}
+use Rattle.kati.specs.Prelude.{Trace, read_of, Args, known_names}
 use Rattle.kati.specs.Meaning.{Means, MeansGoals, WantedGoals, meaning_of}
 use Rattle.kt_eval.specs.declared.macros.scope.Makefile.{Makefile as HeldMakefile}
 use Rattle.kati.specs.declared.translating.ReadSources.{ReadSources}

@@ -9,7 +9,7 @@ use Rattle.kt_rules.specs.Names.{is_among, without_repeats}
 use Rattle.kt_rules.specs.Book.{is_phony}
 use Rattle.kt_eval.specs.Outcome.{StepOver, ◌>>=◌, done, stop_at}
 use Rattle.kt_recipe.specs.Shell.{shell_of}
-use Rattle.kt_ninja.specs.View.{made_by}
+use Rattle.kt_ninja.specs.Plan.{made_by}
 use Rattle.kt_ninja.specs.declared.plan.Made.TheVariants.{Phony}
 use Rattle.kt_ninja.specs.Writable.{Obstacle, is_empty, no_output, bad_name, bad_command, repeated, not_an_output}
 use Rattle.kati.specs.Steps.{fault_nowhere}

@@ -2,7 +2,8 @@
 //! Fast: no plan is built to be written: its names are those of the graph's nodes, and all commands are one text.
 //! Spares the plan.
 ghost use Rattle.std.specs.Prelude.{◌≡◌, None, option_map, slice_get};
-ghost use Rattle.kt_ninja.specs.View.{made_at, made_by as made_seen, statement_names};
+ghost use Rattle.kt_ninja.specs.views.View.{made_at, statement_names};
+ghost use Rattle.kt_ninja.specs.Plan.{made_by as made_seen};
 ghost use Rattle.kati.specs.inner.plan.Drawn.{inputs_drawn, order_only_drawn, statements_drawn};
 ghost use Rattle.kati.specs.inner.plan.Shown.{name_list_view, plan_part_view, plan_view};
 
@@ -166,7 +167,7 @@ impl<'a, 'g: 'a> PlanView<'a> for GraphPlan<'g> {
     type Names = NameList<'a, 'g>;
 
     ghost use Rattle.std.specs.Prelude.{◌≡◌, ◌<◌, Some, option_map, slice_get};
-    ghost use Rattle.kt_ninja.specs.View.{made_at};
+    ghost use Rattle.kt_ninja.specs.views.View.{made_at};
     ghost use Rattle.kati.specs.inner.plan.Shown.{plan_view};
 
     ghost plan = { plan_view };

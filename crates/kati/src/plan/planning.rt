@@ -8,10 +8,12 @@ ghost use Rattle.kt_text.specs.Words.{Text};
 ghost use Rattle.kt_eval.specs.declared.fault.Fault.{Fault as FaultType};
 ghost use Rattle.kt_graph.specs.faults.Faults.{IsSoundGraph};
 ghost use Rattle.kt_graph.specs.nodes.Groups.{groups_of};
-ghost use Rattle.kt_recipe.specs.Views.{command_in};
-ghost use Rattle.kt_ninja.specs.View.{made_by};
-ghost use Rattle.kt_ninja.specs.Writable.{HasWritableTexts, IsWritable, is_name, is_writable_making, told_obstacle};
-ghost use Rattle.kt_eval.specs.Outcome.{AsksNothing, Gives, done, then_do};
+ghost use Rattle.kt_recipe.specs.views.Commands.{command_in};
+ghost use Rattle.kt_ninja.specs.Plan.{made_by};
+ghost use Rattle.kt_ninja.specs.Writable.{HasWritableTexts, IsWritable, is_name, is_writable_making};
+ghost use Rattle.kt_ninja.specs.views.Writable.{told_obstacle};
+ghost use Rattle.kt_eval.specs.views.Outcome.{AsksNothing, Gives};
+ghost use Rattle.kt_eval.specs.Outcome.{done, then_do};
 ghost use Rattle.kati.specs.plan.Planning.{command_for, least_output, plan_groups, plan_of, planned, text_fault};
 ghost use Rattle.kati.specs.plan.Planning.{unwritable_in, written};
 ghost use Rattle.kati.specs.inner.plan.Drawn.{AlwaysFirst, MayShare, drawn_of, statements_drawn};
@@ -160,13 +162,14 @@ impl<'m> Planner<'m> {
 }
 
 // The next group, if one remains, and whether its members are told to share their inputs.
+// Idle: `shares` is false.
 fn next_group<'g>(
     left: &mut Groups<'g>,
     group: &mut Vec<Node<'g>>,
     shares: &mut bool,
 ) -> Result<bool, AllocError>
     ensures next { IfOk result (λ some. left.old ≡ (if some then group.new.items ∷ left.new else [])) }
-    ensures shares { IfOk result (λ some. some ≡ true → MayShare group.new.items shares.new) }
+    ensures quick_shares { IfOk result (λ some. some ≡ true → MayShare group.new.items shares.new) }
 {
     *shares = left.next_shares_inputs();
     left.next_into(group)
@@ -174,7 +177,7 @@ fn next_group<'g>(
 
 // Whether each name of the graph and each command can be written. A name that many need is looked at once.
 fn has_writable_texts(graph: &Graph, sketch: &Sketch) -> bool
-    ensures { result ≡ true → (list_all (λ node. is_name node.name) graph.now ≡ true)
+    ensures quick { result ≡ true → (list_all (λ node. is_name node.name) graph.now ≡ true)
         × (list_all (λ drawn. is_writable_making (made_by drawn.command)) sketch.now ≡ true) }
 {
     sketch.has_writable_commands() && has_writable_names(graph)

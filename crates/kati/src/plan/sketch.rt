@@ -5,8 +5,8 @@ ghost use Rattle.std.specs.Prelude.{◌≡◌, ◌++◌, ◌∷◌, [], OnOk, fa
 ghost use Rattle.std.specs.List.{list_all, list_any};
 ghost use Rattle.std.specs.Option.{option_to_list};
 ghost use Rattle.kt_ninja.specs.Writable.{is_writable_making};
-ghost use Rattle.kt_recipe.specs.Views.{command_in};
-ghost use Rattle.kt_ninja.specs.View.{made_by};
+ghost use Rattle.kt_recipe.specs.views.Commands.{command_in};
+ghost use Rattle.kt_ninja.specs.Plan.{made_by};
 ghost use Rattle.kati.specs.inner.plan.Drawn.{first_joined, joined_view, no_drawn};
 
 use kt_list::Rows;
@@ -76,7 +76,7 @@ impl Sketch {
 
     /// Whether each command can be written. Nothing is promised where it isn't known that all can.
     pub(crate) fn has_writable_commands(&self) -> bool
-        ensures { result ≡ true → list_all (λ drawn. is_writable_making (made_by drawn.command)) self.now ≡ true }
+        ensures quick { result ≡ true → list_all (λ drawn. is_writable_making (made_by drawn.command)) self.now ≡ true }
     {
         self.writable
     }

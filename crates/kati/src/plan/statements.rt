@@ -5,7 +5,7 @@ ghost use Rattle.std.specs.Prelude.{◌≡◌, ◌&&◌, ◌++◌, ◌∷◌, []
 ghost use Rattle.std.specs.Prelude.{IfOk, OnOk};
 ghost use Rattle.kt_rules.specs.Names.{is_among, with_name, without_repeats};
 ghost use Rattle.kt_graph.specs.nodes.Node.{order_only_of};
-ghost use Rattle.kt_recipe.specs.Views.{command_in};
+ghost use Rattle.kt_recipe.specs.views.Commands.{command_in};
 ghost use Rattle.kati.specs.plan.Planning.{has_phony, joined_inputs, joined_order_only};
 ghost use Rattle.kati.specs.inner.plan.Drawn.{MayShare, joined_of, joined_view};
 
@@ -74,7 +74,7 @@ fn has_phony(book: &Book, group: &[Node]) -> bool
 }
 
 // The inputs of all, each once.
-#[tactic(auto, unfolding(kt_rules::specs::Names::without_repeats))]
+#[tactic(auto, unfolding(kt_list::specs::Names::without_repeats))]
 fn joined_inputs(alloc: Global, group: &[Node]) -> Result<Names, AllocError>
     ensures { IfOk result (λ inputs. inputs ≡ joined_inputs group.now) }
 {
@@ -94,7 +94,7 @@ fn joined_order_only(alloc: Global, group: &[Node], inputs: &Names) -> Result<Ve
     others(alloc, &names, inputs)
 }
 
-#[tactic(auto, unfolding(kt_rules::specs::Names::without_repeats))]
+#[tactic(auto, unfolding(kt_list::specs::Names::without_repeats))]
 fn all_order_only(alloc: Global, group: &[Node]) -> Result<Names, AllocError>
     ensures { IfOk result (λ names. names ≡ without_repeats (flat_map order_only_of group.now)) }
 {

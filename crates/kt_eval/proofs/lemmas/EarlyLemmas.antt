@@ -4,7 +4,8 @@ use Rattle.kt_eval.proofs.Common.{slice_get, Text, words_of, stripped, Items, Br
 use Rattle.kt_syntax.specs.declared.step.BlockStep.{BlockStep as Found}
 use Rattle.kt_syntax.specs.declared.step.BlockStep.TheVariants as step
 use Rattle.kt_eval.specs.declared.stop.Stop.TheVariants as stops
-use Rattle.kt_eval.specs.Step.{Blames, Evaluation, files_of}
+use Rattle.kt_eval.specs.views.Outcome.{Blames}
+use Rattle.kt_eval.specs.inner.Evaluation.{Evaluation, files_of}
 use Rattle.kt_eval.specs.inner.Doing.{DoesIn, ReadsUpTo, reading_from}
 use Rattle.kt_eval.specs.reading.Conditions.{ComparedTexts}
 use Rattle.kt_eval.specs.reading.Conditionals.{are_equal}

@@ -1,8 +1,8 @@
 -- What a text has of a fault line if appending it failed halfway.
 use Rattle.std.proofs.Common.{◌≡◌, ◌++◌, ◌∙◌, ℕ, Bool, true, false, [], Result, Ok, Err, OnErr, refl, codes, decimal, is_ok, nat_lt, if◌then◌else◌}
-use Rattle.kt_text.specs.Begun.{HasBegun}
+use Rattle.kt_text.specs.views.Begun.{HasBegun}
 use Rattle.kt_eval.proofs.Common.{Text, Fault, message_place}
-use Rattle.kt_text.proofs.BegunLemmas.{begun_after, begun_front}
+use Rattle.kt_text.proofs.lemmas.BegunLemmas.{begun_after, begun_front}
 use Rattle.kt_eval.specs.Faults.{fault_line, two_digits}
 
 -- the line from its number on, from the bracket before that, from its message and from the mark before that

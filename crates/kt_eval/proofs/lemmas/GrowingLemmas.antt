@@ -8,7 +8,7 @@ use Rattle.kt_text.specs.declared.functions.text_function.TextFunction.{TextFunc
 use Rattle.kt_eval.specs.expanding.TextFunctions.{text_result}
 use Rattle.kt_eval.specs.reading.Conditions.{trimmed}
 use Rattle.kt_eval.specs.macros.Assignments.{assign, is_bad_name, assign_named, assign_line, define}
-use Rattle.kt_eval.specs.Growing.{Grows, IsTooDeep}
+use Rattle.kt_eval.specs.views.Growing.{Grows, IsTooDeep}
 use Rattle.kt_eval.specs.inner.Plain.{with_term}
 
 pub front_same : {A : Type 0} (xs : List A) → IsPrefix xs xs

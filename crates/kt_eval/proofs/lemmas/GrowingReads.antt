@@ -13,7 +13,7 @@ use Rattle.kt_eval.specs.reading.Conditions.{ComparedTexts, compared_of}
 use Rattle.kt_eval.specs.reading.Conditionals.{is_set, is_defined, are_equal, holds, word_before_blank, text_after_word, worded_holds, text_holds, else_holds, line_holds}
 use Rattle.kt_eval.specs.files.Including.{is_shell_pattern, include_named, each_include, include_line}
 use Rattle.kt_eval.specs.reading.Rules.{rule_place, entered, enter_rule, close, close_rule, opened, open_rule, rule_of_parts, rule_line, recipe_line}
-use Rattle.kt_eval.specs.Growing.{Grows, TakesNothingBack, IsTooDeep, StaysOneDeeper}
+use Rattle.kt_eval.specs.views.Growing.{Grows, TakesNothingBack, IsTooDeep, StaysOneDeeper}
 use Rattle.kt_eval.proofs.lemmas.GrowingLemmas.{front_same, front_more, still, further, Agree, Relates, plain_step, related_then, related_after, related_cond, Related, apply_related, expanded_related, assign_line_related, define_related}
 
 module _ (e e' : Evaluator) (h : Related e e') where

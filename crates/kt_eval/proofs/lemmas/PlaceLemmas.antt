@@ -2,8 +2,8 @@
 use Rattle.std.proofs.Common.{◌≡◌, ℕ, ◌+◌, true, false, List, None, Some, length, take, drop, ap, ◌∙◌, arith, nat_eq}
 use Rattle.kt_eval.proofs.Common.{position_or_len, list_any, before_first, after_first, le-ltb, lt-ltb}
 use Rattle.memchr.specs.Find.{IsFirstByte, is_byte}
-use Rattle.kt_text.proofs.PlaceLemmas.{first_byte_place}
-use Rattle.kt_text.proofs.MatchLemmas.{list_any-place}
+use Rattle.kt_text.proofs.lemmas.PlaceLemmas.{first_byte_place}
+use Rattle.kt_text.proofs.lemmas.MatchLemmas.{list_any-place}
 
 -- where the byte was found
 pub byte_found : (wanted : ℕ) (text : List ℕ) (place : ℕ) → IsFirstByte (is_byte wanted) text (Some place)

@@ -1,7 +1,7 @@
 -- That a list begins with another one, by how many texts don't stand at their place in it.
 use Rattle.std.proofs.Common.{◌≡◌, ℕ, zero, suc, ◌≤◌, List, [], ◌∷◌, ◌++◌, length, take, refl, arith}
 use Rattle.kt_eval.proofs.Common.{Text, IsPrefix, World, StepEnd, left_of, GoesOn, told, asked_for, astray, bytes_eq-Decides}
-use Rattle.kt_eval.specs.Growing.{Grows}
+use Rattle.kt_eval.specs.views.Growing.{Grows}
 use Rattle.kt_eval.proofs.lemmas.GrowingLemmas.{front_more}
 
 tail_front : (x y : Text) (xs ys : List Text) → IsPrefix (x ∷ xs) (y ∷ ys) → IsPrefix xs ys

@@ -1,14 +1,12 @@
 -- What a reference asks for (GNU make manual, "Basics of Variable References", "Substitution References" and
 -- "Function Call Syntax").
-use Rattle.std.specs.Prelude.{ℕ, zero, suc, ◌+◌, ◌-◌, Bool, true, false, not, ◌==◌, ◌&&◌, ◌||◌, List, [], ◌∷◌, ◌++◌}
-use Rattle.std.specs.Prelude.{length, map, take, drop, Option, Some, None, codes, bytes_eq, is_some, if◌then◌else◌}
-use Rattle.std.specs.List.{position_or_len, before_first, after_first, list_all, list_any}
+use Rattle.std.specs.Prelude.{ℕ, zero, suc, ◌+◌, ◌-◌, Bool, true, false, ◌==◌, ◌&&◌, ◌||◌, List, [], ◌∷◌, ◌++◌, length}
+use Rattle.std.specs.Prelude.{take, drop, Option, Some, None, codes, bytes_eq, is_some, if◌then◌else◌}
+use Rattle.std.specs.List.{position_or_len, before_first, after_first, list_any}
 use Rattle.kt_text.specs.Words.{Text, is_separator, stripped_start, is_colon, is_equals}
 use Rattle.kt_text.specs.Match.{has_percent}
 use Rattle.kt_eval.specs.Prelude.{Mark, Byte, Parentheses, Braces, Function, TextFunction, arity, text_function}
 use Rattle.kt_eval.specs.declared.expanding.function.Function.TheVariants as function
-use Rattle.kt_eval.specs.declared.expanding.calls.Request.{Request as RequestType}
-use Rattle.kt_eval.specs.declared.expanding.calls.Request.TheVariants as asked
 
 -- the functions that expand by themselves, bind names, read text or report
 unfoldable pub other_function : Text → Option Function
@@ -122,21 +120,6 @@ unfoldable pub request_by_mark : Mark → Text → Request
 request_by_mark Byte body = refers (byte_name body)
 request_by_mark Parentheses body = asked_of Parentheses body
 request_by_mark Braces body = asked_of Braces body
-
--- what is asked for, in the code's own type
-abbrev pub asked_view : RequestType → Request
-asked_view (asked.Calls function arguments) = calls function (map (λ argument. argument.now) arguments.items)
-asked_view (asked.Refuses name) = refuses name.now
-asked_view (asked.Refers body) = refers body.now
-
--- whether a body is just a name: it has no dollar, colon or separator
-unfoldable pub is_name_byte : ℕ → Bool
-is_name_byte byte = not (byte == 36) && (not (byte == 58) && not (is_separator byte))
-
-unfoldable pub names_plainly : Mark → Text → Bool
-names_plainly Byte body = length body == 1 && list_all is_name_byte body
-names_plainly Parentheses body = list_all is_name_byte body
-names_plainly Braces body = list_all is_name_byte body
 
 -- the name of a function, refused or not
 abbrev pub is_function_name : Text → Bool

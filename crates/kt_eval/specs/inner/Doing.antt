@@ -1,10 +1,12 @@
 -- What each method of an evaluation that expands or reads promises (kati's own).
 use Rattle.std.specs.Prelude.{◌≡◌, ◌<◌, ◌≤◌, ℕ, Bool, IfErr, IfOk, List, Result, Some, length}
 use Rattle.std.specs.List.{slice_get}
-use Rattle.kt_syntax.specs.Reading.{IsAhead, ReadsOn, left_at}
+use Rattle.kt_syntax.specs.views.Reading.{IsAhead, ReadsOn, left_at}
 use Rattle.kt_syntax.specs.declared.step.BlockStep.{BlockStep}
-use Rattle.kt_eval.specs.Prelude.{Stop, World, Gives, IfCut, left_of, Blames, GoesOn, Keeps, Evaluation, Step, files_of}
-use Rattle.kt_eval.specs.Outcome.{Fails}
+use Rattle.kt_eval.specs.views.Prelude.{Stop, Gives, IfCut, left_of}
+use Rattle.kt_eval.specs.Prelude.{World, Step}
+use Rattle.kt_eval.specs.inner.Prelude.{Blames, GoesOn, Keeps, Evaluation, files_of}
+use Rattle.kt_eval.specs.views.Outcome.{Fails}
 use Rattle.kt_eval.specs.expanding.Expansion.{Evaluator}
 use Rattle.kt_eval.specs.files.Files.{AgreeWith, Store}
 use Rattle.kt_eval.specs.expanding.Levels.{evaluator}

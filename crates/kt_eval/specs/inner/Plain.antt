@@ -7,7 +7,7 @@ use Rattle.kt_eval.specs.declared.state.TermRest.{TermRest}
 use Rattle.kt_eval.specs.declared.state.TermRest.TheVariants.{Nothing, Value, Whole}
 use Rattle.kt_eval.specs.State.{World, lookup}
 use Rattle.kt_eval.specs.Outcome.{◌>>=◌, done}
-use Rattle.kt_eval.specs.expanding.Calls.{names_plainly}
+use Rattle.kt_eval.specs.views.expanding.Calls.{names_plainly}
 use Rattle.kt_eval.specs.expanding.Expansion.{Evaluator, term_of}
 
 -- whether a value expands to itself: it isn't expanded again, or a level is left and it has no dollar

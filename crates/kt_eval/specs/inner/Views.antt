@@ -1,13 +1,11 @@
 -- The code's own types as those of the definitions, without their places in memory.
 use Rattle.std.specs.Prelude.{[], ◌++◌, Option, None, Some, codes}
-use Rattle.kt_eval.specs.Prelude.{Text, Stop, fault_at, Assigning, keeps, defers, expands, escapes}
-use Rattle.kt_rules.specs.declared.fault.RuleFault.{RuleFault}
-use Rattle.kt_rules.specs.declared.fault.RuleFault.TheVariants.{Memory, Refused}
+use Rattle.kt_eval.specs.Prelude.{Text}
+use Rattle.kt_eval.specs.inner.Prelude.{Assigning, keeps, defers, expands, escapes}
 use Rattle.kt_eval.specs.declared.macros.assigning.Assigning.{Assigning as AssigningType}
 use Rattle.kt_eval.specs.declared.macros.assigning.Assigning.TheVariants as does
 use Rattle.kt_eval.specs.declared.reading.conditions.ComparedTexts.{ComparedTexts as ComparedType}
 use Rattle.kt_eval.specs.declared.reading.page.RawLine.{RawLine as HeldRawLine}
-use Rattle.kt_eval.specs.declared.stop.Stop.TheVariants as stops
 use Rattle.kt_eval.specs.reading.Conditions.{ComparedTexts}
 use Rattle.kt_eval.specs.reading.Reading.{RawLine}
 use Rattle.kt_eval.specs.expanding.Calls.{Naming, plainly, substituting}
@@ -33,11 +31,6 @@ raw_view line = record { number = line.number; tab = line.tab; text = line.text.
 -- two texts that are compared
 abbrev pub compared_view : ComparedType → ComparedTexts
 compared_view compared = record { first = compared.first.now; second = compared.second.now }
-
--- why a rule is refused
-abbrev pub rule_stop : RuleFault → Stop
-rule_stop (Refused number place words) = stops.Fault (fault_at (Some place) number words)
-rule_stop Memory = stops.Memory
 
 -- what is named
 abbrev pub naming_view : NamingType → Naming

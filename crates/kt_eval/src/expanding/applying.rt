@@ -2,9 +2,10 @@
 ghost use Rattle.std.specs.Prelude.{◌≡◌, ◌==◌, [], map, option_map, true};
 ghost use Rattle.kt_text.specs.Words.{words_of};
 ghost use Rattle.kt_eval.specs.inner.Doing.{Does};
-ghost use Rattle.kt_eval.specs.Outcome.{Gives, IfCut, left_of};
+ghost use Rattle.kt_eval.specs.views.Outcome.{Gives, IfCut, Blames};
+ghost use Rattle.kt_eval.specs.Outcome.{left_of};
 ghost use Rattle.kt_eval.specs.files.Files.{AgreeWith, Store};
-ghost use Rattle.kt_eval.specs.Step.{Blames, GoesOn, Keeps, files_of};
+ghost use Rattle.kt_eval.specs.inner.Evaluation.{GoesOn, Keeps, files_of};
 ghost use Rattle.kt_eval.specs.expanding.Levels.{evaluator};
 ghost use Rattle.kt_eval.specs.expanding.Expansion.{apply, apply_and, apply_call, apply_error, apply_eval};
 ghost use Rattle.kt_eval.specs.expanding.Expansion.{apply_foreach, apply_if, apply_info, apply_or, apply_text};

@@ -4,9 +4,10 @@ ghost use Rattle.std.specs.Prelude.{Some, MatchOption, true, false, ◌<◌, ◌
 ghost use Rattle.std.specs.List.{after_first, before_first, list_all, list_any, position_or_len};
 ghost use Rattle.std.specs.Str.{bytes_eq};
 ghost use Rattle.kt_text.specs.Words.{is_separator};
-ghost use Rattle.kt_eval.specs.expanding.Calls.{arguments_of, asked_of, asked_view, byte_name, closer, request_by_mark};
-ghost use Rattle.kt_eval.specs.expanding.Calls.{commas, cuts_arguments, function_of, is_function_name, is_name_byte};
-ghost use Rattle.kt_eval.specs.expanding.Calls.{is_refused_function, may_cut, names_plainly, naming_of, nested, one_less};
+ghost use Rattle.kt_eval.specs.expanding.Calls.{arguments_of, asked_of, byte_name, closer, request_by_mark};
+ghost use Rattle.kt_eval.specs.views.expanding.Calls.{asked_view, is_name_byte, names_plainly};
+ghost use Rattle.kt_eval.specs.expanding.Calls.{commas, cuts_arguments, function_of, is_function_name};
+ghost use Rattle.kt_eval.specs.expanding.Calls.{is_refused_function, may_cut, naming_of, nested, one_less};
 ghost use Rattle.kt_eval.specs.expanding.Calls.{opener, other_function};
 ghost use Rattle.kt_eval.specs.inner.Views.{naming_view};
 
@@ -77,7 +78,7 @@ fn asked_of(alloc: Global, mark: Mark, body: &[u8]) -> Result<Request<'_>, Alloc
 
 /// Whether the body of a reference is just the name of a macro, without a reference in it. A body with a colon may be a
 /// substitution reference, and isn't taken for a name.
-#[tactic(auto, unfolding(crate::specs::expanding::Calls::names_plainly))]
+#[tactic(auto, unfolding(crate::specs::views::expanding::Calls::names_plainly))]
 pub fn names_plainly(mark: Mark, body: &[u8]) -> bool
     ensures { result ≡ names_plainly mark body.now }
 {
@@ -94,7 +95,7 @@ fn is_plain_name(body: &[u8]) -> bool
 }
 
 // Neither a dollar, nor a colon, nor a separator.
-#[tactic(auto, unfolding(crate::specs::expanding::Calls::is_name_byte))]
+#[tactic(auto, unfolding(crate::specs::views::expanding::Calls::is_name_byte))]
 fn is_name_byte(byte: u8) -> bool
     ensures { result ≡ is_name_byte byte }
 {

@@ -5,11 +5,12 @@
 //! once, 3 to 12 a unit.
 ghost use Rattle.std.specs.Prelude.{◌==◌};
 ghost use Rattle.std.specs.Cow.{cow_slice_items};
-ghost use Rattle.kt_syntax.specs.Terms.{token_of};
+ghost use Rattle.kt_syntax.specs.views.Terms.{token_of};
 ghost use Rattle.kt_eval.specs.State.{lookup};
 ghost use Rattle.kt_eval.specs.inner.Doing.{Does};
 ghost use Rattle.kt_eval.specs.inner.Plain.{with_term};
-ghost use Rattle.kt_eval.specs.expanding.Calls.{asked_view, naming_of};
+ghost use Rattle.kt_eval.specs.views.expanding.Calls.{asked_view};
+ghost use Rattle.kt_eval.specs.expanding.Calls.{naming_of};
 ghost use Rattle.kt_eval.specs.expanding.Expansion.{expanded, referred, term_of, value_named, value_of};
 
 use crate::evaluation::Evaluation;

@@ -1,6 +1,7 @@
 //! Expands texts after all reading, such as recipes.
 ghost use Rattle.std.specs.Prelude.{◌≡◌, ◌++◌, ◌∷◌, [], OnErr, OnOk, map, string_bytes};
-ghost use Rattle.kt_eval.specs.expanding.Pure.{Says, expanded_pure};
+ghost use Rattle.kt_eval.specs.views.expanding.Pure.{Says};
+ghost use Rattle.kt_eval.specs.expanding.Pure.{expanded_pure};
 
 use crate::evaluation::Evaluation;
 use crate::files::{FileFault, Files};
@@ -77,7 +78,7 @@ struct NoFiles {
 
 impl Files for NoFiles {
     ghost use Rattle.std.specs.Prelude.{map, string_bytes};
-    ghost use Rattle.kt_eval.specs.files.Files.{absent};
+    ghost use Rattle.kt_eval.specs.inner.Answers.{absent};
 
     ghost seen = { λ s. record {
       answers = absent (map string_bytes s.asked.items);

@@ -8,7 +8,7 @@ ghost use Rattle.kt_eval.specs.Outcome.{Gave};
 ghost use Rattle.kt_eval.specs.expanding.Levels.{evaluator};
 ghost use Rattle.kt_eval.specs.files.Files.{Store};
 ghost use Rattle.kt_eval.specs.inner.Plain.{put_of, still_deferred};
-ghost use Rattle.kt_eval.specs.expanding.Calls.{names_plainly};
+ghost use Rattle.kt_eval.specs.views.expanding.Calls.{names_plainly};
 ghost use Rattle.kt_eval.specs.inner.Views.{compared_view};
 ghost use Rattle.kt_eval.specs.reading.Conditionals.{are_equal};
 
@@ -23,7 +23,7 @@ use kt_syntax::{Term, terms};
 
 // The name of a macro, if the text is just a reference to it.
 fn sole_name(text: &[u8]) -> Option<&[u8]>
-    ensures { IfSome result (λ name. (mark : Mark) × (terms_of text.now ≡ reference mark name.now ∷ [])
+    ensures quick { IfSome result (λ name. (mark : Mark) × (terms_of text.now ≡ reference mark name.now ∷ [])
         × (names_plainly mark name.now ≡ true)) }
 {
     let mut pieces = terms(text);
@@ -41,8 +41,8 @@ fn sole_name(text: &[u8]) -> Option<&[u8]>
 // Whether what was found for a name is this text; `None` where it has to be expanded first.
 #[tactic(auto, unfolding(crate::proofs::Steps::value_open))]
 fn is_found(below: u64, found: Option<FoundValue>, text: &[u8]) -> Option<bool>
-    ensures plain { IfSome result (λ _. None ≡ still_deferred below found) }
-    ensures same { IfSome result (λ same. same ≡ bytes_eq (put_of below found) text.now) }
+    ensures quick_plain { IfSome result (λ _. None ≡ still_deferred below found) }
+    ensures quick_same { IfSome result (λ same. same ≡ bytes_eq (put_of below found) text.now) }
 {
     match found {
         None => Some(text.is_empty()),
@@ -59,8 +59,8 @@ fn is_found(below: u64, found: Option<FoundValue>, text: &[u8]) -> Option<bool>
 impl<'a, M: MacroScope, F: Files> Evaluation<'a, M, F> {
     // Whether the value of a name is this text; `None` where it has to be expanded first, or was refused.
     fn has_value(&self, below: u64, name: &[u8], text: &[u8]) -> Option<bool>
-        ensures plain { IfSome result (λ _. None ≡ still_deferred below (lookup name.now self.now.world)) }
-        ensures same { IfSome result (λ same. same
+        ensures quick_plain { IfSome result (λ _. None ≡ still_deferred below (lookup name.now self.now.world)) }
+        ensures quick_same { IfSome result (λ same. same
             ≡ bytes_eq (put_of below (lookup name.now self.now.world)) text.now) }
     {
         match self.lookup(name) {
@@ -76,7 +76,7 @@ impl<'a, M: MacroScope, F: Files> Evaluation<'a, M, F> {
         below: u64,
         compared: Option<ComparedTexts<'_>>,
     ) -> Option<bool>
-        ensures { IfSome result (λ same. (reads : Bool) → (store : Store)
+        ensures quick { IfSome result (λ same. (reads : Bool) → (store : Store)
             → are_equal (evaluator reads store below) (option_map compared_view compared.entry) self.now.world
             ≡ Gave self.now.world same) }
     {

@@ -1,6 +1,6 @@
 //! The arguments of text functions.
 ghost use Rattle.std.specs.Prelude.{◌≡◌};
-ghost use Rattle.kt_text.specs.Functions.{Answers};
+ghost use Rattle.kt_text.specs.views.Functions.{Answers};
 ghost use Rattle.kt_eval.specs.expanding.TextFunctions.{argument, text_result};
 
 use crate::value::Value;

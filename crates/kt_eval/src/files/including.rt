@@ -8,8 +8,9 @@ ghost use Rattle.kt_eval.specs.files.Files.{AgreeWith, Store};
 ghost use Rattle.kt_eval.specs.reading.Reading.{included, read_file, read_first, read_included};
 ghost use Rattle.kt_eval.specs.inner.Doing.{Does, DoesIn};
 ghost use Rattle.kt_eval.specs.expanding.Levels.{evaluator};
-ghost use Rattle.kt_eval.specs.Outcome.{Gives, IfCut, left_of};
-ghost use Rattle.kt_eval.specs.Step.{Blames, GoesOn, Keeps, files_of};
+ghost use Rattle.kt_eval.specs.views.Outcome.{Gives, IfCut, Blames};
+ghost use Rattle.kt_eval.specs.Outcome.{left_of};
+ghost use Rattle.kt_eval.specs.inner.Evaluation.{GoesOn, Keeps, files_of};
 
 use crate::evaluation::Evaluation;
 use crate::files::Files;

@@ -20,7 +20,7 @@ pub struct MemFiles {
 
 impl Model for MemFiles {
     ghost use Rattle.std.specs.Prelude.{map, string_bytes};
-    ghost use Rattle.kt_eval.specs.files.Memory.{MemFiles};
+    ghost use Rattle.kt_eval.specs.views.files.Memory.{MemFiles};
 
     ghost Value = { MemFiles };
 
@@ -79,8 +79,9 @@ fn find(
 
 impl Files for MemFiles {
     ghost use Rattle.std.specs.Prelude.{◌≡◌, ◌≤◌, ◌∷◌, ◌++◌, [], option_map, true, false, IfOk, IfErr, OnOk, OnErr};
-    ghost use Rattle.kt_eval.specs.files.Files.{AskedAfter, CountedAfter, IsDevice, IsMemory, look};
-    ghost use Rattle.kt_eval.specs.files.Memory.{after_read, fails_next, seen_of};
+    ghost use Rattle.kt_eval.specs.views.files.Files.{AskedAfter, CountedAfter, IsDevice, IsMemory};
+    ghost use Rattle.kt_eval.specs.files.Files.{look};
+    ghost use Rattle.kt_eval.specs.views.files.Memory.{after_read, fails_next, seen_of};
 
     ghost seen = { seen_of };
 

@@ -2,10 +2,10 @@
 ghost use Rattle.std.specs.Prelude.{◌≡◌, ◌==◌, ◌||◌, true};
 ghost use Rattle.std.specs.List.{list_any};
 ghost use Rattle.kt_text.specs.Words.{is_separator};
-ghost use Rattle.kt_syntax.specs.Kinds.{line_form_view};
+ghost use Rattle.kt_syntax.specs.views.Lines.{line_form_view};
 ghost use Rattle.kt_eval.specs.macros.Assignments.{assign, assign_line, assign_named, define, is_bad_name};
 ghost use Rattle.kt_eval.specs.inner.Doing.{Does};
-ghost use Rattle.kt_eval.specs.Step.{Keeps};
+ghost use Rattle.kt_eval.specs.inner.Evaluation.{Keeps};
 ghost use Rattle.kt_eval.specs.inner.Views.{assigning_view};
 
 use crate::evaluation::Evaluation;

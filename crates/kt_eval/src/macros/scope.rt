@@ -3,7 +3,7 @@ ghost use Rattle.std.specs.Prelude.{◌≡◌, ◌++◌, ◌∷◌, [], Bool, Li
 ghost use Rattle.std.specs.Prelude.{MatchOption, OnErr, OnOk};
 ghost use Rattle.kt_rules.specs.Book.{added, refusal_of};
 ghost use Rattle.kt_rules.specs.Entry.{Entry as EntrySeen};
-ghost use Rattle.kt_rules.specs.Refusals.{GivesExpected};
+ghost use Rattle.kt_rules.specs.views.Refusals.{GivesExpected};
 ghost use Rattle.kt_eval.specs.macros.Macros.{Macros as MacrosSeen, find, put, set_by_makefile};
 ghost use Rattle.kt_eval.specs.State.{unbound};
 ghost use Rattle.kt_eval.specs.files.Files.{Store};

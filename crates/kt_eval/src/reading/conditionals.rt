@@ -1,12 +1,13 @@
 //! Conditions of conditionals.
 ghost use Rattle.std.specs.Prelude.{◌≡◌, Bool, option_map, true};
 ghost use Rattle.kt_text.specs.Words.{words_of};
-ghost use Rattle.kt_syntax.specs.Kinds.{line_form_view};
+ghost use Rattle.kt_syntax.specs.views.Lines.{line_form_view};
 ghost use Rattle.kt_eval.specs.reading.Conditionals.{are_equal, bad_conditional, else_holds, holds, is_defined, is_set};
 ghost use Rattle.kt_eval.specs.reading.Conditionals.{line_holds, text_holds, worded_holds};
 ghost use Rattle.kt_eval.specs.inner.Doing.{Does};
-ghost use Rattle.kt_eval.specs.Outcome.{Gives, IfCut, left_of};
-ghost use Rattle.kt_eval.specs.Step.{Blames, GoesOn, files_of};
+ghost use Rattle.kt_eval.specs.views.Outcome.{Gives, IfCut, Blames};
+ghost use Rattle.kt_eval.specs.Outcome.{left_of};
+ghost use Rattle.kt_eval.specs.inner.Evaluation.{GoesOn, files_of};
 ghost use Rattle.kt_eval.specs.inner.Views.{compared_view};
 
 use crate::evaluation::Evaluation;

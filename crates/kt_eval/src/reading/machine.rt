@@ -1,12 +1,14 @@
 //! Reads makefiles to their end.
 
 ghost use Rattle.std.specs.Prelude.{◌≡◌, ◌≤◌, IfOk, None, OnOk, Some, map};
-ghost use Rattle.kt_eval.specs.files.Files.{AgreeWith, AnswersGrow, Store};
+ghost use Rattle.kt_eval.specs.files.Files.{AgreeWith, Store};
+ghost use Rattle.kt_eval.specs.views.files.Files.{AnswersGrow};
 ghost use Rattle.kt_list.specs.Prefixes.{IsPrefix};
-ghost use Rattle.kt_eval.specs.reading.Machine.{ComesBefore, IsCopy, Remembers, Repeats, new_machine, read_by};
-ghost use Rattle.kt_eval.specs.reading.Machine.{read_of, reading, reading_by, traced, traced_by, with_default};
-ghost use Rattle.kt_eval.specs.Outcome.{Gives, IfCut, left_of};
-ghost use Rattle.kt_eval.specs.Step.{Blames};
+ghost use Rattle.kt_eval.specs.views.reading.Machine.{ComesBefore, IsCopy, Remembers, Repeats, new_machine, read_by};
+ghost use Rattle.kt_eval.specs.views.reading.Machine.{reading_by, traced_by};
+ghost use Rattle.kt_eval.specs.reading.Machine.{read_of, reading, traced, with_default};
+ghost use Rattle.kt_eval.specs.views.Outcome.{Gives, IfCut, Blames};
+ghost use Rattle.kt_eval.specs.Outcome.{left_of};
 ghost use Rattle.kt_eval.specs.declared.stop.Stop.{Stop as StopType};
 
 use crate::evaluation::Evaluation;
@@ -44,7 +46,7 @@ pub struct Machine {
 }
 
 impl Model for Machine {
-    ghost use Rattle.kt_eval.specs.reading.Machine.{Machine};
+    ghost use Rattle.kt_eval.specs.views.reading.Machine.{Machine};
 
     ghost Value = { Machine };
 

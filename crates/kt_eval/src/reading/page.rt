@@ -3,12 +3,13 @@
 //! look a line.
 ghost use Rattle.std.specs.Prelude.{◌≡◌, ◌+◌, ◌<◌, ◌≤◌, ◌^◌, ℕ, Bool, false, length, map, true, IfOk, IfSome, None, Some};
 ghost use Rattle.std.specs.List.{slice_get, slice_range};
-ghost use Rattle.kt_syntax.specs.Reading.{ReadsOn, left_at};
+ghost use Rattle.kt_syntax.specs.views.Reading.{ReadsOn, left_at};
 ghost use Rattle.kt_syntax.specs.Blocks.{none, tree_of};
 ghost use Rattle.kt_syntax.specs.declared.step.BlockStep.TheVariants as step;
 ghost use Rattle.kt_syntax.specs.Kinds.{blank, line_form};
 ghost use Rattle.kt_syntax.specs.Roles.{line_text};
-ghost use Rattle.kt_text.specs.Lines.{AreInOrder, logical_lines_of};
+ghost use Rattle.kt_text.specs.views.Lines.{AreInOrder};
+ghost use Rattle.kt_text.specs.Lines.{logical_lines_of};
 ghost use Rattle.kt_eval.specs.macros.Assignments.{body_text};
 ghost use Rattle.kt_eval.specs.reading.Reading.{line_at, sheet_of};
 ghost use Rattle.kt_eval.specs.inner.Doing.{IsStepAt, ReadsAlike};
@@ -49,7 +50,7 @@ pub(crate) struct Page<'a> {
 impl<'a> Model for Page<'a> {
     ghost use Rattle.std.specs.Prelude.{◌≡◌, length, map};
     ghost use Rattle.kt_syntax.specs.Blocks.{tree_of};
-    ghost use Rattle.kt_syntax.specs.Reading.{left_at};
+    ghost use Rattle.kt_syntax.specs.views.Reading.{left_at};
     ghost use Rattle.kt_eval.specs.reading.Reading.{Page, raw_line};
 
     ghost Value = { Page };
@@ -113,11 +114,12 @@ impl<'a> Page<'a> {
 
     // The last of the lines, from one on, of which each but the last is blank at its first byte and comes before an
     // ordinary line: reading such a line only moves the place, and the next one moves it too.
+    // Idle: the given place.
     pub(crate) fn past_comments(&self, place: usize, step: BlockStep) -> usize
         requires step { IsStepAt self.now.blocks.steps place step }
         ensures step { IsStepAt self.now.blocks.steps result step }
         ensures after { place ≤ result }
-        ensures same { ReadsAlike self.now place result }
+        ensures quick_same { ReadsAlike self.now place result }
     {
         let mut at = place;
         while self.is_passed(at) {
@@ -128,13 +130,13 @@ impl<'a> Page<'a> {
 
     // Whether a line is blank at its first byte, and comes before an ordinary line.
     fn is_passed(&self, place: usize) -> bool
-        ensures within { result ≡ true → place + 1 < length self.now.blocks.steps }
-        ensures fits { result ≡ true → place + 1 < 2 ^ 64 }
-        ensures line { result ≡ true → slice_get self.now.blocks.steps place ≡ Some step.Line }
-        ensures next { result ≡ true → slice_get self.now.blocks.steps (place + 1) ≡ Some step.Line }
-        ensures reads { result ≡ true → ReadsOn self.now.blocks.steps (place + 1) step.Line }
-        ensures tab { result ≡ true → (line_at self.now.lines place).tab ≡ false }
-        ensures blank { result ≡ true → line_form (line_at self.now.lines place).text false ≡ blank }
+        ensures quick_within { result ≡ true → place + 1 < length self.now.blocks.steps }
+        ensures quick_fits { result ≡ true → place + 1 < 2 ^ 64 }
+        ensures quick_line { result ≡ true → slice_get self.now.blocks.steps place ≡ Some step.Line }
+        ensures quick_next { result ≡ true → slice_get self.now.blocks.steps (place + 1) ≡ Some step.Line }
+        ensures quick_reads { result ≡ true → ReadsOn self.now.blocks.steps (place + 1) step.Line }
+        ensures quick_tab { result ≡ true → (line_at self.now.lines place).tab ≡ false }
+        ensures quick_blank { result ≡ true → line_form (line_at self.now.lines place).text false ≡ blank }
     {
         place < self.lines.len()
             && self.begins_comment(place)
@@ -144,16 +146,16 @@ impl<'a> Page<'a> {
 
     // Whether the step of a line is to read it by itself.
     fn is_ordinary(&self, place: usize) -> bool
-        ensures within { result ≡ true → place < length self.now.blocks.steps }
-        ensures step { result ≡ true → slice_get self.now.blocks.steps place ≡ Some step.Line }
-        ensures reads { result ≡ true → ReadsOn self.now.blocks.steps place step.Line }
+        ensures quick_within { result ≡ true → place < length self.now.blocks.steps }
+        ensures quick_step { result ≡ true → slice_get self.now.blocks.steps place ≡ Some step.Line }
+        ensures quick_reads { result ≡ true → ReadsOn self.now.blocks.steps place step.Line }
     {
         self.blocks.is_ordinary(place)
     }
 
     fn begins_comment(&self, place: usize) -> bool
-        ensures tab { result ≡ true → (line_at self.now.lines place).tab ≡ false }
-        ensures kind { result ≡ true → line_form (line_at self.now.lines place).text false ≡ blank }
+        ensures quick_tab { result ≡ true → (line_at self.now.lines place).tab ≡ false }
+        ensures quick_kind { result ≡ true → line_form (line_at self.now.lines place).text false ≡ blank }
     {
         let line = self.line(place);
         !line.tab && begins_comment(line.text)

@@ -54,7 +54,7 @@ impl RecipeTexts {
 
     // The last text of the line with this number, if it is this one.
     fn remembered(&self, number: usize, text: &[u8]) -> Option<&Shared<u8>>
-        ensures { IfSome result (λ last. last.now ≡ text.now) }
+        ensures quick { IfSome result (λ last. last.now ≡ text.now) }
     {
         let last = self.last.get(number)?;
         if last.as_slice() == text {

@@ -1,8 +1,9 @@
 -- Marks for the ends of names.
 use Rattle.std.proofs.Common.{◌≡◌, ℕ, zero, suc, ◌+◌, ◌<◌, ◌≤◌, Bool, true, false, not, ◌&&◌, if◌then◌else◌, List, [], ◌∷◌, ◌++◌, length, get_or, fold, slice_get, slice_set, Option, Some, None, option_map, unwrap_or, refl, sym, ap, ◌∙◌, arith, ⊎_elim, true≢false, length-append, ◌==◌}
 use Rattle.kt_graph.proofs.Common.{cases_eq, cases_lt, eqb-true, ltb-false, append_assoc, drop_all, get_or_past, bytes_eq-Decides, and_nothing, or_first, or_second, place_of, number_found, Text, has_percent, pattern_back, pattern_front, list_any-place, after_dots, is_among, with_name, without_dots, IsFixedEnd, needed_name}
-use Rattle.kt_rules.proofs.BookLemmas.{among_fold}
-use Rattle.kt_graph.specs.inner.EndMarks.{AreMarked, AreMarkedTo, KeepsEnds, end_mark_place, has_marked_end, with_end, with_end_of}
+use Rattle.kt_rules.proofs.lemmas.book.BookLemmas.{among_fold}
+use Rattle.kt_graph.specs.inner.EndMarks.{AreMarked, AreMarkedTo, KeepsEnds, end_mark_place, has_marked_end, with_end}
+use Rattle.kt_graph.specs.inner.EndMarks.{with_end_of}
 
 -- ---- one more mark
 

@@ -9,3 +9,4 @@ pub mod ArrivalLemmas
 pub mod FileLemmas
 pub mod TroubleLemmas
 pub mod CyclicLemmas
+pub mod VertexLemmas

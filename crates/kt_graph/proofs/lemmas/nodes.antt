@@ -20,3 +20,5 @@ pub mod SharedLemmas
 pub mod LikeLemmas
 pub mod StemLemmas
 pub mod OfLemmas
+pub mod FoundLemmas
+pub mod BucketLemmas

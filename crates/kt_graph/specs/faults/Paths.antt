@@ -1,6 +1,6 @@
 -- Which names are names of one file (POSIX.1-2024, "Pathname Resolution", without looking at any file), and which name
 -- is reserved for kati (kati's own).
-use Rattle.std.specs.Prelude.{Bool, true, false, not, ◌||◌, ◌==◌, List, [], ◌∷◌, ◌++◌, fold, reverse, codes, bytes_eq}
+use Rattle.std.specs.Prelude.{Bool, true, false, ◌||◌, ◌==◌, List, [], ◌∷◌, ◌++◌, fold, reverse, codes, bytes_eq}
 use Rattle.std.specs.Prelude.{if◌then◌else◌}
 use Rattle.kt_graph.specs.Prelude.{slice_split, join_with_byte, Text}
 
@@ -20,11 +20,6 @@ is_rooted (byte ∷ name) = byte == 47
 -- a component that changes nothing
 abbrev pub is_idle : Text → Bool
 is_idle part = bytes_eq part [] || bytes_eq part here_name
-
--- whether the last component is a name; the last one comes first in the list
-abbrev pub ends_in_name : List Text → Bool
-ends_in_name [] = false
-ends_in_name (last ∷ parts) = not (bytes_eq last above_name)
 
 -- `..` after components, the last one first: it removes the one before it, unless that is `..`, too; without one before
 -- it, it stays, except directly under the root

@@ -1,6 +1,8 @@
 -- Marks for the ends of names, as the code holds them (kati's own).
 use Rattle.std.specs.Prelude.{◌≡◌, ℕ, ◌+◌, ◌-◌, ◌*◌, ◌%◌, ◌<◌, Bool, true, false, List, get_or, length}
-use Rattle.kt_graph.specs.Prelude.{Option, Some, None, slice_get, slice_set, Text, is_among}
+use Rattle.kt_graph.specs.inner.Prelude.{Option, Some, slice_get, slice_set}
+use Rattle.kt_graph.specs.Prelude.{None, Text}
+use Rattle.kt_graph.specs.views.Prelude.{is_among}
 
 -- the place of the mark for a text's last two bytes
 abbrev pub end_mark_place : Text → ℕ

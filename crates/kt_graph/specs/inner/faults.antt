@@ -2,3 +2,4 @@
 pub mod Edges
 pub mod Arrivals
 pub mod Files
+pub mod Troubles

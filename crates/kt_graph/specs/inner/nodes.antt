@@ -3,6 +3,7 @@ pub mod GraphBuilder
 pub mod Stems
 pub mod Inputs
 pub mod Stored
+pub mod Buckets
 pub mod Needed
 pub mod Numbering
 pub mod Reached
@@ -10,3 +11,4 @@ pub mod Inferring
 pub mod Graph
 pub mod Fronts
 pub mod Grouping
+pub mod NodeTable

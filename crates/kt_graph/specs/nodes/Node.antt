@@ -1,13 +1,13 @@
 -- What makes a name and what it needs (POSIX.1-2024 make, "Target Rules"; GNU make manual, "Multiple Rules for One
 -- Target", "Double-Colon Rules", "Using Implicit Rules", "Phony Targets").
 use Rattle.std.specs.Prelude.{ℕ, ◌-◌, Bool, true, false, not, nat_eq, nat_lt, List, [], ◌∷◌, ◌++◌, length, map, filter}
-use Rattle.std.specs.Prelude.{flat_map, find, take, Option, Some, None, option_map, slice_get, if◌then◌else◌}
+use Rattle.std.specs.Prelude.{flat_map, find, take, Option, Some, None, option_map, slice_get, if◌then◌else◌, unwrap_or}
 use Rattle.std.specs.List.{list_any, before_last, after_last, last_or, ends_with}
 use Rattle.std.specs.Option.{option_map_or, option_and_then}
 use Rattle.kt_text.specs.Words.{Text}
-use Rattle.kt_rules.specs.declared.entry.Needs.{Needs}
-use Rattle.kt_rules.specs.declared.entry.RecipeLine.{RecipeLine}
-use Rattle.kt_rules.specs.declared.entry.Target.{Target}
+use Rattle.kt_rules.specs.declared.line.entry.Needs.{Needs}
+use Rattle.kt_rules.specs.declared.line.entry.RecipeLine.{RecipeLine}
+use Rattle.kt_rules.specs.declared.line.entry.Target.{Target}
 use Rattle.kt_rules.specs.Names.{is_among, without_repeats}
 use Rattle.kt_rules.specs.Entry.{Entry, needs_for}
 use Rattle.kt_rules.specs.Suffixes.{suffixes_of}
@@ -192,3 +192,19 @@ order_only_of node =
 -- all prerequisites of a node, the order-only ones last
 abbrev pub all_inputs : Node → List Text
 all_inputs node = inputs_of node ++ order_only_of node
+
+-- the recipe of a part; none if there is no part
+abbrev pub part_lines : Option Part → Option (List RecipeLine)
+part_lines part = option_and_then (λ some. some.recipe) part
+
+-- the stem of a part; empty if there is no part
+abbrev pub part_stem : Option Part → Text
+part_stem part = unwrap_or (option_map (λ some. some.stem) part) []
+
+-- the prerequisites of a part; none if there is no part
+abbrev pub part_needed : Option Part → List Text
+part_needed part = unwrap_or (option_map (λ some. some.needs.prerequisites) part) []
+
+-- the order-only prerequisites of a part; none if there is no part
+abbrev pub part_order_only : Option Part → List Text
+part_order_only part = unwrap_or (option_map (λ some. some.needs.order_only) part) []

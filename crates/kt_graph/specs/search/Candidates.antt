@@ -8,12 +8,12 @@ use Rattle.std.specs.Option.{option_and_then}
 use Rattle.kt_text.specs.Words.{Text, is_nonempty}
 use Rattle.kt_text.specs.Match.{has_percent, stem_span}
 use Rattle.kt_text.specs.Functions.{name_part, name_place, with_stem}
-use Rattle.kt_rules.specs.declared.entry.Needs.{Needs}
-use Rattle.kt_rules.specs.declared.entry.Target.{Target}
+use Rattle.kt_rules.specs.declared.line.entry.Needs.{Needs}
+use Rattle.kt_rules.specs.declared.line.entry.Target.{Target}
 use Rattle.kt_rules.specs.Names.{without_dots}
 use Rattle.kt_rules.specs.Suffixes.{all_needs, percent}
 use Rattle.kt_rules.specs.Entry.{Entry}
-use Rattle.kt_rules.specs.Patterns.{is_terminal}
+use Rattle.kt_rules.specs.Book.{is_terminal}
 
 -- ---- a name and a pattern
 

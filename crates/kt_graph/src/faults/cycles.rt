@@ -155,13 +155,14 @@ fn is_none_left(counts: &[u32]) -> bool
 }
 
 // The vertices that remain in both directions.
+// Idle: all vertices.
 #[tactic(auto, using(crate::proofs::lemmas::faults::ArrivalLemmas::held_more))]
 fn left_in_both(
     alloc: Global,
     arrivals: &[u32],
     departures: &[u32],
 ) -> Result<Vec<bool>, AllocError>
-    ensures { IfOk result (λ held. (vertex : ℕ) → IsLeftIn arrivals.now vertex → IsLeftIn departures.now vertex
+    ensures quick { IfOk result (λ held. (vertex : ℕ) → IsLeftIn arrivals.now vertex → IsLeftIn departures.now vertex
         → holds_in held.items vertex ≡ true) }
 {
     let mut held = Vec::with_capacity(alloc, arrivals.len())?;

@@ -4,11 +4,13 @@
 ghost use Rattle.std.specs.Prelude.{◌≡◌, ◌++◌, [], IfOk, OnOk, true};
 ghost use Rattle.kt_graph.specs.inner.faults.Edges.{AddsNode, AreEdgesOf, AreMadeBelow, AreNeededBelow, AreReversed};
 ghost use Rattle.kt_graph.specs.inner.faults.Edges.{HaveEdges, IsRepeated, LeadToVertices, making_edges, vertex_count};
-ghost use Rattle.kt_graph.specs.inner.faults.Edges.{edge_row, listed_number, needed_numbers, next_of, numbers_after, rows_held};
-ghost use Rattle.kt_graph.specs.inner.faults.Edges.{makings_edges, with_edges};
+ghost use Rattle.kt_graph.specs.inner.faults.Edges.{edge_row, listed_number, next_of, numbers_after};
+ghost use Rattle.kt_graph.specs.inner.nodes.Stored.{needed_numbers};
+ghost use Rattle.kt_graph.specs.inner.faults.Edges.{makings_edges};
+ghost use Rattle.kt_graph.specs.inner.nodes.Buckets.{rows_held, with_edges};
 ghost use Rattle.kt_graph.specs.inner.nodes.Stored.{stored_at};
 
-use crate::faults::rows::{add_all, add_to, bare, row_at};
+use crate::nodes::buckets::{add_all, add_to, bare, row_at};
 use crate::nodes::stored::StoredNodes;
 use kt_list::{narrow, narrow_sum};
 use std::alloc::{AllocError, Global};
@@ -150,7 +152,7 @@ fn add_new(rows: &mut Vec<Vec<u32>>, nodes: &StoredNodes, number: usize) -> Resu
 
 // Whether a node has the making and the inputs of the one before.
 fn is_repeated(nodes: &StoredNodes, number: usize) -> bool
-    ensures { result ≡ true → IsRepeated nodes.now number }
+    ensures quick { result ≡ true → IsRepeated nodes.now number }
 {
     match number.checked_sub(1) {
         Some(before) => nodes.are_alike(before, number),

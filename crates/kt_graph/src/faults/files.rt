@@ -5,7 +5,9 @@ ghost use Rattle.std.specs.Prelude.{◌≡◌, ◌++◌, ◌∷◌, ◌&&◌, []
 ghost use Rattle.std.specs.Prelude.{not, option_map, unwrap_or, IfOk, OnOk, if◌then◌else◌};
 ghost use Rattle.std.specs.List.{list_any};
 ghost use Rattle.kt_text.specs.Words.{Text};
-ghost use Rattle.kt_graph.specs.inner.faults.Files.{HasFiles, held_for, is_repeated, made_names};
+ghost use Rattle.kt_graph.specs.inner.faults.Files.{HasFiles, held_for};
+ghost use Rattle.kt_graph.specs.views.faults.Files.{is_repeated};
+ghost use Rattle.kt_graph.specs.views.nodes.Groups.{made_names};
 ghost use Rattle.kt_graph.specs.nodes.Node.{is_leaf};
 ghost use Rattle.kt_graph.specs.faults.Paths.{canon_of, is_reserved};
 
@@ -20,8 +22,8 @@ use std::alloc::{AllocError, Global};
 
 /// Whether a name is the canonical spelling of its file, and not the name that is reserved for kati. Takes no memory.
 pub(crate) fn is_plain(name: &[u8]) -> bool
-    ensures canonical { result ≡ true → canon_of name.now ≡ name.now }
-    ensures unreserved { result ≡ true → is_reserved name.now ≡ false }
+    ensures quick_canonical { result ≡ true → canon_of name.now ≡ name.now }
+    ensures quick_unreserved { result ≡ true → is_reserved name.now ≡ false }
 {
     is_canonical(name) && !is_always(name)
 }
@@ -51,7 +53,7 @@ fn is_always_name(alloc: Global, name: &[u8]) -> Result<bool, AllocError>
 /// Whether each made name is the canonical spelling of its file, so that no two of them are names of one file. Takes no
 /// memory.
 pub(crate) fn are_canonical(nodes: Nodes<'_>) -> bool
-    ensures { result ≡ true → All (λ name. canon_of name ≡ name) (made_names nodes.entry) }
+    ensures quick { result ≡ true → All (λ name. canon_of name ≡ name) (made_names nodes.entry) }
 {
     for node in nodes {
         if !is_canonical_if_made(&node) {
@@ -62,7 +64,7 @@ pub(crate) fn are_canonical(nodes: Nodes<'_>) -> bool
 }
 
 fn is_canonical_if_made(node: &Node<'_>) -> bool
-    ensures { result ≡ true → All (λ name. canon_of name ≡ name) (made_names (node.now ∷ [])) }
+    ensures quick { result ≡ true → All (λ name. canon_of name ≡ name) (made_names (node.now ∷ [])) }
 {
     if !node.is_made() {
         return true;

@@ -2,7 +2,8 @@
 ghost use Rattle.std.specs.Prelude.{◌≡◌, ◌++◌, ◌∷◌, ◌==◌, [], bytes_eq, flat_map, map, reverse, IfOk, OnOk};
 ghost use Rattle.std.specs.Prelude.{if◌then◌else◌};
 ghost use Rattle.std.specs.List.{join_with_byte, slice_split};
-ghost use Rattle.kt_graph.specs.faults.Paths.{above_name, always_name, canon_of, ends_in_name, is_rooted, step_up};
+ghost use Rattle.kt_graph.specs.faults.Paths.{above_name, always_name, canon_of, is_rooted, step_up};
+ghost use Rattle.kt_graph.specs.inner.faults.Files.{ends_in_name};
 ghost use Rattle.kt_graph.specs.faults.Paths.{with_part};
 
 use crate::faults::spelling::is_canonical;

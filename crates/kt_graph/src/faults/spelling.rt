@@ -15,7 +15,7 @@ const LONG: usize = 32;
 /// Whether all components of a name are plain, so that it is the canonical spelling of its file. Takes no memory.
 #[tactic(auto, using(crate::proofs::lemmas::faults::SpellingLemmas::spelled_plainly))]
 pub(crate) fn is_canonical(name: &[u8]) -> bool
-    ensures { result ≡ true → canon_of name.now ≡ name.now }
+    ensures quick { result ≡ true → canon_of name.now ≡ name.now }
 {
     if is_rooted(name) {
         has_names_only(&name[1..])

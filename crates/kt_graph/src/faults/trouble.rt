@@ -1,6 +1,8 @@
 //! What is wrong with the names that goals need; a trouble needs no memory.
 ghost use Rattle.std.specs.Prelude.{◌≡◌};
-ghost use Rattle.kt_graph.specs.faults.Faults.{ReportsTrouble, trouble_kind_and_name, trouble_view};
+ghost use Rattle.kt_graph.specs.views.faults.Faults.{ReportsTrouble};
+ghost use Rattle.kt_graph.specs.faults.Faults.{trouble_kind_and_name};
+ghost use Rattle.kt_graph.specs.inner.faults.Troubles.{trouble_view};
 
 use crate::faults::fault::GraphFault;
 use kt_list::Sequence;

@@ -2,7 +2,8 @@
 //! Fast: a prerequisite that ends as no known name does is told by a mark, before it is spelled out. Spares a text and
 //! two hashes for each candidate of a pattern rule.
 ghost use Rattle.std.specs.Prelude.{◌≡◌, ◌-◌, ◌<◌, fold, get_or, length, slice_get, if◌then◌else◌};
-ghost use Rattle.kt_graph.specs.inner.EndMarks.{AreMarkedTo, KeepsEnds, end_mark_place, has_marked_end, with_end, with_end_of};
+ghost use Rattle.kt_graph.specs.inner.EndMarks.{AreMarkedTo, KeepsEnds, end_mark_place, has_marked_end, with_end};
+ghost use Rattle.kt_graph.specs.inner.EndMarks.{with_end_of};
 
 use kt_list::Names;
 use std::alloc::{AllocError, Global};

@@ -5,15 +5,14 @@ ghost use Rattle.std.specs.List.{list_any};
 ghost use Rattle.kt_text.specs.Words.{Text};
 ghost use Rattle.kt_rules.specs.Book.{has_recipe, is_double};
 ghost use Rattle.kt_rules.specs.Names.{with_name};
-ghost use Rattle.kt_rules.specs.Slots.{rule_view};
-ghost use Rattle.kt_rules.specs.Targets.{entry_view, targets_view};
+ghost use Rattle.kt_rules.specs.views.Targets.{rule_view, entry_view, targets_view};
 ghost use Rattle.kt_rules.specs.Suffixes.{all_needs, suffixes_of};
 ghost use Rattle.kt_graph.specs.inner.nodes.GraphBuilder.{AreOf, IsCut};
 ghost use Rattle.kt_graph.specs.inner.nodes.Needed.{needed_by_parts};
 ghost use Rattle.kt_graph.specs.inner.nodes.Numbering.{SayParts, SaysPart};
 ghost use Rattle.kt_graph.specs.inner.nodes.Stored.{part_held, parts_held};
 ghost use Rattle.kt_graph.specs.nodes.Node.{first_name, group_of, is_leaf, kind_without, own_part, used_rule};
-ghost use Rattle.kt_graph.specs.nodes.Views.{instance_view};
+ghost use Rattle.kt_graph.specs.views.nodes.Node.{instance_view};
 
 use crate::nodes::needing::Needing;
 use crate::nodes::node::{Instance, NodeKind};
@@ -108,7 +107,7 @@ fn is_double(rule: TargetRule) -> bool
 
 /// Whether a rule with one colon has a recipe and several targets.
 pub(crate) fn makes_several(rule: TargetRule) -> bool
-    ensures { IsTrue result → (has_recipe (rule_view rule.entry) ≡ true)
+    ensures quick { IsTrue result → (has_recipe (rule_view rule.entry) ≡ true)
         × (is_double (rule_view rule.entry).0.kind ≡ false) }
 {
     !is_double(rule) && rule.entry.recipe().is_some() && rule.entry.targets().len() > 1

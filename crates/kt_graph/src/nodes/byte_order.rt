@@ -1,9 +1,9 @@
 //! Names in byte order.
 //! Fast: names are put in byte order by their first eight bytes. Spares a look at where each name lies.
 ghost use Rattle.std.specs.Prelude.{◌≡◌, length, map, IfOk};
-ghost use Rattle.kt_graph.specs.inner.faults.Files.{IsByteOrder};
+ghost use Rattle.kt_graph.specs.inner.nodes.Graph.{IsByteOrder};
 ghost use Rattle.kt_graph.specs.inner.nodes.Fronts.{AreFronts, front_cmp};
-ghost use Rattle.kt_list.specs.Names.{name_at};
+ghost use Rattle.kt_list.specs.views.Names.{name_at};
 
 use crate::nodes::node::name_of;
 use crate::nodes::numbering::NameNumbers;

@@ -8,9 +8,9 @@ ghost use Rattle.std.specs.Prelude.{false, IfOk, IsTrue, OnOk};
 ghost use Rattle.kt_text.specs.Words.{Text};
 ghost use Rattle.kt_rules.specs.Book.{explicit_rules, is_phony};
 ghost use Rattle.kt_rules.specs.Entry.{Entry, needs_for};
-ghost use Rattle.kt_rules.specs.declared.entry.Target.{Target as HeldTarget};
+ghost use Rattle.kt_rules.specs.declared.line.entry.Target.{Target as HeldTarget};
 ghost use Rattle.kt_rules.specs.Names.{with_name};
-ghost use Rattle.kt_rules.specs.Slots.{rule_view};
+ghost use Rattle.kt_rules.specs.views.Targets.{rule_view};
 ghost use Rattle.kt_rules.specs.Suffixes.{suffixes_of};
 ghost use Rattle.kt_graph.specs.inner.nodes.Inferring.{Infers, InfersFrom, inferred_node};
 ghost use Rattle.kt_graph.specs.inner.nodes.Needed.{needing_view, single_node};
@@ -21,7 +21,7 @@ ghost use Rattle.kt_graph.specs.inner.nodes.GraphBuilder.{AreOf, AreTold, Builds
 ghost use Rattle.kt_graph.specs.inner.nodes.GraphBuilder.{HasLastNeeds, IsLikeLast, IsOver, NeedsAs, NeedsAsLast};
 ghost use Rattle.kt_graph.specs.inner.nodes.GraphBuilder.{ReachesMore, sole_node};
 ghost use Rattle.kt_graph.specs.inner.nodes.Reached.{reached_text};
-ghost use Rattle.kt_graph.specs.nodes.Views.{instance_view};
+ghost use Rattle.kt_graph.specs.views.nodes.Node.{instance_view};
 
 use crate::known::Known;
 use crate::nodes::building::{
@@ -155,7 +155,7 @@ impl<'a> GraphBuilder<'a> {
 
     // Whether the only rule of a name has a recipe, and gives it what the last node needs.
     fn is_like_last(&self, name: &ReachedName<'a>, rule: TargetRule<'a>) -> bool
-        ensures { IsTrue result → IsLikeLast self.now (reached_text name.now) (rule_view rule.entry) }
+        ensures quick { IsTrue result → IsLikeLast self.now (reached_text name.now) (rule_view rule.entry) }
     {
         match name {
             ReachedName::InTables(name, number) => {
@@ -167,7 +167,7 @@ impl<'a> GraphBuilder<'a> {
 
     // Whether the rules of a name need what those of the last name with a node do.
     fn needs_as_last(&self, name: &[u8], number: usize) -> bool
-        ensures { IsTrue result → NeedsAsLast self.now name.now }
+        ensures quick { IsTrue result → NeedsAsLast self.now name.now }
     {
         match self.nodes.len().checked_sub(1) {
             Some(last) => self.needs_as(name, number, last),
@@ -176,7 +176,7 @@ impl<'a> GraphBuilder<'a> {
     }
 
     fn needs_as(&self, name: &[u8], number: usize, other: usize) -> bool
-        ensures { IsTrue result → NeedsAs self.now name.now other }
+        ensures quick { IsTrue result → NeedsAs self.now name.now other }
     {
         let in_book = self.numbers.number_in_book(other);
         match self.numbers.get(other) {

@@ -1,14 +1,15 @@
 //! Groups the nodes of each making.
 ghost use Rattle.std.specs.Prelude.{◌≡◌, ◌∷◌, ◌++◌, ◌&&◌, [], false, true, if◌then◌else◌, not, IfOk, OnOk};
 ghost use Rattle.std.specs.List.{prefix_len};
-ghost use Rattle.kt_graph.specs.inner.faults.Edges.{rows_held};
+ghost use Rattle.kt_graph.specs.inner.nodes.Buckets.{rows_held};
 ghost use Rattle.kt_graph.specs.inner.nodes.Grouping.{AreAllAlike, HasMembers, is_first, is_made_at, leads_at};
 ghost use Rattle.kt_graph.specs.inner.nodes.Grouping.{leads_by, making_at, members_of, with_member};
-ghost use Rattle.kt_graph.specs.nodes.Groups.{FirstSharesInputs, groups_of};
-ghost use Rattle.kt_graph.specs.nodes.Views.{nodes_view};
+ghost use Rattle.kt_graph.specs.views.nodes.Groups.{FirstSharesInputs};
+ghost use Rattle.kt_graph.specs.nodes.Groups.{groups_of};
+ghost use Rattle.kt_graph.specs.inner.nodes.NodeTable.{nodes_view};
 ghost use Rattle.kt_graph.specs.inner.nodes.Graph.{IsWhole};
 
-use crate::faults::rows::{add, bare, row_at};
+use crate::nodes::buckets::{add, bare, row_at};
 use crate::nodes::node::{Node, NodeKind};
 use crate::nodes::node_table::NodeTable;
 use crate::nodes::stored::StoredNodes;
@@ -34,7 +35,7 @@ impl<'g> Model for Groups<'g> {
 
     ghost Value = { List (List Node) };
 
-    ghost use Rattle.kt_graph.specs.inner.faults.Edges.{rows_held};
+    ghost use Rattle.kt_graph.specs.inner.nodes.Buckets.{rows_held};
     ghost use Rattle.kt_graph.specs.inner.nodes.Grouping.{groups_left};
 
     ghost view = { λ groups. groups_left groups.table.now (rows_held groups.members.items) groups.numbers.now };
@@ -62,7 +63,7 @@ impl<'g> Groups<'g> {
     /// Whether the members of the next group hold their inputs together: those of one are then those of all. Nothing is
     /// promised where they don't. Takes no memory; looks for the group as `next_into` does.
     pub fn next_shares_inputs(&self) -> bool
-        ensures { result ≡ true → FirstSharesInputs self.now }
+        ensures quick { result ≡ true → FirstSharesInputs self.now }
     {
         let nodes = self.table.nodes();
         let numbers = self.numbers;
@@ -94,7 +95,7 @@ impl<'g> Groups<'g> {
 
 // Whether the nodes of the group that a number is in hold their inputs together.
 fn are_members_alike(nodes: &StoredNodes, members: &[Vec<u32>], number: usize) -> bool
-    ensures { result ≡ true → AreAllAlike nodes.now number (members_of nodes.now (rows_held members.now) number) }
+    ensures quick { result ≡ true → AreAllAlike nodes.now number (members_of nodes.now (rows_held members.now) number) }
 {
     match making_at(nodes, number) {
         Some(making) => are_all_alike(nodes, number, row_at(members, making)),
@@ -105,7 +106,7 @@ fn are_members_alike(nodes: &StoredNodes, members: &[Vec<u32>], number: usize) -
 // Whether these nodes hold their inputs together with one.
 #[tactic(auto, using(std::proofs::lemmas::List::take_all))]
 fn are_all_alike(nodes: &StoredNodes, one: usize, numbers: &[u32]) -> bool
-    ensures { result ≡ true → AreAllAlike nodes.now one numbers.now }
+    ensures quick { result ≡ true → AreAllAlike nodes.now one numbers.now }
 {
     for number in numbers {
         if !nodes.are_alike(one, *number as usize) {

@@ -1,7 +1,7 @@
 //! What a chosen pattern rule gives to a name.
 ghost use Rattle.std.specs.Prelude.{◌≡◌, ◌++◌, option_map, IfOk};
 ghost use Rattle.kt_graph.specs.inner.nodes.Inferring.{GivesChosen, pattern_making};
-ghost use Rattle.kt_graph.specs.nodes.Views.{instance_view};
+ghost use Rattle.kt_graph.specs.views.nodes.Node.{instance_view};
 
 use crate::nodes::node::Instance;
 use crate::nodes::stem::Stem;

@@ -21,7 +21,7 @@ pub(crate) fn has_own_inputs(
     rows: &Rows<u32>,
     part: &HeldPart,
 ) -> Result<bool, AllocError>
-    ensures { IfOk result (λ own. own ≡ true → HasOwnInputs rows.now part.now) }
+    ensures quick { IfOk result (λ own. own ≡ true → HasOwnInputs rows.now part.now) }
 {
     let order_only = rows.row_at(part.needs as usize + 1);
     if !order_only.is_empty() {
@@ -92,7 +92,7 @@ fn add_others(
 // than a set, and comparing a few with one another is cheaper than sorting. A source that was just reached may come
 // before headers that other nodes need, too.
 fn are_distinct(alloc: Global, numbers: &[u32]) -> Result<bool, AllocError>
-    ensures { IfOk result (λ distinct. distinct ≡ true → IsDistinct nat_eq numbers.now) }
+    ensures quick { IfOk result (λ distinct. distinct ≡ true → IsDistinct nat_eq numbers.now) }
 {
     if rise(numbers) {
         return Ok(true);

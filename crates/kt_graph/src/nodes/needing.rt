@@ -1,8 +1,7 @@
 //! What the rules of a name need together.
 ghost use Rattle.std.specs.Prelude.{◌≡◌, [], map};
 ghost use Rattle.kt_rules.specs.Entry.{no_needs};
-ghost use Rattle.kt_rules.specs.Slots.{rule_view};
-ghost use Rattle.kt_rules.specs.Targets.{names_view, needs_view};
+ghost use Rattle.kt_rules.specs.views.Targets.{rule_view, names_view, needs_view};
 ghost use Rattle.kt_graph.specs.inner.nodes.Needed.{joined_after, needed_as, needing_view};
 
 use kt_rules::{NeededNames, NeedsView, TargetRule};

@@ -2,10 +2,10 @@
 //! Fast: a node is handed out as a reference and a number. Spares 24 bytes.
 ghost use Rattle.std.specs.Prelude.{◌≡◌, length, not, option_map, slice_get};
 ghost use Rattle.std.specs.Iterator.{YieldsFirstRef, item_count};
-ghost use Rattle.kt_graph.specs.nodes.Node.{inputs_of, is_leaf, order_only_of};
-ghost use Rattle.kt_list.specs.Names.{name_at};
-ghost use Rattle.kt_graph.specs.nodes.Views.{instance_view, part_lines, part_needed, part_order_only};
-ghost use Rattle.kt_graph.specs.nodes.Views.{part_stem};
+ghost use Rattle.kt_graph.specs.nodes.Node.{inputs_of, is_leaf, order_only_of, part_lines, part_needed};
+ghost use Rattle.kt_graph.specs.nodes.Node.{part_order_only, part_stem};
+ghost use Rattle.kt_list.specs.views.Names.{name_at};
+ghost use Rattle.kt_graph.specs.views.nodes.Node.{instance_view};
 
 use crate::nodes::node_table::NodeTable;
 use crate::nodes::numbering::NameNumbers;
@@ -57,13 +57,13 @@ impl<'g> Model for Node<'g> {
 
     ghost Value = { Node };
 
-    ghost use Rattle.kt_graph.specs.nodes.Views.{node_numbered};
+    ghost use Rattle.kt_graph.specs.inner.nodes.NodeTable.{node_numbered};
 
     ghost view = { λ node. node_numbered node.table.now node.number };
 }
 
 impl<'g> Node<'g> {
-    ghost use Rattle.kt_graph.specs.nodes.Views.{node_numbered};
+    ghost use Rattle.kt_graph.specs.inner.nodes.NodeTable.{node_numbered};
 
     pub(crate) fn new(table: &'g NodeTable<'g>, number: usize) -> Node<'g>
         ensures { result ≡ node_numbered table.now number }
@@ -173,13 +173,13 @@ impl<'g> Model for Inputs<'g> {
 
     ghost Value = { List (List ℕ) };
 
-    ghost use Rattle.kt_list.specs.Names.{names_at};
+    ghost use Rattle.kt_list.specs.views.Names.{names_at};
 
     ghost view = { λ inputs. names_at inputs.names.now inputs.numbers.now };
 }
 
 impl<'g> Inputs<'g> {
-    ghost use Rattle.kt_list.specs.Names.{names_at};
+    ghost use Rattle.kt_list.specs.views.Names.{names_at};
 
     fn of(names: &'g NameNumbers<'g>, numbers: &'g [u32]) -> Inputs<'g>
         ensures { result ≡ names_at names.now numbers.now }

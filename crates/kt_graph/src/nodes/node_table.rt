@@ -20,7 +20,7 @@ pub(crate) struct NodeTable<'a> {
 }
 
 impl<'a> Model for NodeTable<'a> {
-    ghost use Rattle.kt_graph.specs.nodes.Views.{NodeTable};
+    ghost use Rattle.kt_graph.specs.inner.nodes.NodeTable.{NodeTable};
 
     ghost Value = { NodeTable };
 

@@ -2,15 +2,15 @@
 ghost use Rattle.std.specs.Prelude.{◌≡◌, ◌^◌, ◌+◌, ◌<◌, ◌++◌, [], Some, bytes_eq, fold, is_some};
 ghost use Rattle.std.specs.Prelude.{length, map, option_map, slice_get, IfOk, OnOk};
 ghost use Rattle.std.specs.List.{IsDistinct};
-ghost use Rattle.kt_list.specs.Names.{is_among, name_at, place_of};
+ghost use Rattle.kt_list.specs.Names.{is_among};
+ghost use Rattle.kt_list.specs.views.Names.{name_at, place_of};
 ghost use Rattle.kt_rules.specs.Names.{with_name};
-ghost use Rattle.kt_rules.specs.Slots.{rule_view};
+ghost use Rattle.kt_rules.specs.views.Targets.{rule_view, names_view, needed_view};
 ghost use Rattle.kt_rules.specs.Suffixes.{all_needs};
-ghost use Rattle.kt_rules.specs.Targets.{names_view, needed_view};
 ghost use Rattle.kt_graph.specs.inner.nodes.Needed.{first_needs, needing_as, needing_view, rules_needs};
 ghost use Rattle.kt_graph.specs.inner.nodes.Numbering.{AddsNumbers, SaysNeeds};
 ghost use Rattle.kt_graph.specs.inner.nodes.Reached.{reached_text};
-ghost use Rattle.kt_list.specs.Prefixes.{HasMore};
+ghost use Rattle.kt_list.specs.views.Prefixes.{HasMore};
 
 use crate::nodes::needing::{Needing, Sort, needed_as};
 use crate::nodes::part::NumberedNeeds;
@@ -41,7 +41,7 @@ impl<'a> Model for NameNumbers<'a> {
     ghost Value = { List (List ℕ) };
 
     ghost use Rattle.kt_graph.specs.inner.nodes.Reached.{IsPlaced};
-    ghost use Rattle.kt_list.specs.Names.{names_at};
+    ghost use Rattle.kt_list.specs.views.Names.{names_at};
 
     ghost view = { λ s. names_at (s.tables ++ s.others) s.reached.numbers.items };
 
@@ -307,7 +307,7 @@ fn note(tables: &Tables<'_>, others: &mut Names, name: &[u8]) -> Result<usize, A
     }
 }
 
-#[tactic(auto, using(kt_rules::proofs::NoteLemmas::place_at))]
+#[tactic(auto, using(kt_rules::proofs::lemmas::book::NoteLemmas::place_at))]
 fn note_after(tables: &Tables<'_>, others: &mut Names, name: &[u8]) -> Result<usize, AllocError>
     ensures noted { IfOk result (λ number. option_map (λ place. length tables.now + place)
         (place_of others.new name.now) ≡ Some number) }

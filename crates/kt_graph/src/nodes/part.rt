@@ -1,7 +1,7 @@
 //! What a node is made of before it is stored.
 ghost use Rattle.std.specs.Prelude.{◌≡◌, ◌<◌, [], IfOk, OnErr, None, is_some, unwrap_or};
-ghost use Rattle.kt_rules.specs.declared.entry.Needs.{Needs};
-ghost use Rattle.kt_rules.specs.Slots.{rule_view};
+ghost use Rattle.kt_rules.specs.declared.line.entry.Needs.{Needs};
+ghost use Rattle.kt_rules.specs.views.Targets.{rule_view};
 ghost use Rattle.kt_rules.specs.Suffixes.{suffixes_of};
 ghost use Rattle.kt_graph.specs.inner.nodes.Needed.{part_with};
 ghost use Rattle.kt_graph.specs.inner.nodes.Stems.{own};

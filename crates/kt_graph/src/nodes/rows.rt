@@ -3,20 +3,20 @@
 //! equal. Spares an allocation for each list, and equal lists of targets that stand together.
 ghost use Rattle.std.specs.Prelude.{◌≡◌, IfOk, Some, slice_get, true};
 ghost use Rattle.kt_graph.specs.inner.nodes.Stored.{AreRowsOf};
-ghost use Rattle.kt_list.specs.Prefixes.{HasMore};
+ghost use Rattle.kt_list.specs.views.Prefixes.{HasMore};
 
 use kt_list::{Rows, narrow};
 use std::alloc::AllocError;
 
 /// Whether these are the rows from a place on.
 pub(crate) fn are_rows(rows: &Rows<u32>, place: u32, first: &[u32], second: &[u32]) -> bool
-    ensures { result ≡ true → AreRowsOf rows.now first.now second.now place }
+    ensures quick { result ≡ true → AreRowsOf rows.now first.now second.now place }
 {
     is_row(rows, place as usize, first) && is_row(rows, place as usize + 1, second)
 }
 
 fn is_row(rows: &Rows<u32>, place: usize, numbers: &[u32]) -> bool
-    ensures { result ≡ true → slice_get rows.now place ≡ Some numbers.now }
+    ensures quick { result ≡ true → slice_get rows.now place ≡ Some numbers.now }
 {
     match rows.row(place) {
         Some(row) => row == numbers,

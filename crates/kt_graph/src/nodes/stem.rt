@@ -3,7 +3,7 @@
 //! 16 bytes, and a text for each part.
 ghost use Rattle.std.specs.Prelude.{◌≡◌, ◌<◌, ◌⊎◌, ◌++◌, drop, take, true, IfOk, IfSome, OnErr};
 ghost use Rattle.kt_text.specs.Words.{Text};
-ghost use Rattle.kt_rules.specs.Slots.{rule_view};
+ghost use Rattle.kt_rules.specs.views.Targets.{rule_view};
 ghost use Rattle.kt_rules.specs.Suffixes.{suffixes_of};
 ghost use Rattle.kt_graph.specs.inner.nodes.Stems.{Lies, own, stem_in};
 ghost use Rattle.kt_graph.specs.nodes.Node.{stem_for, suffix_stem};
@@ -123,7 +123,7 @@ fn up_to(name: &[u8], len: usize) -> &[u8]
 
 // A place in a name where the two texts lie together, if it is found: nothing is promised where it isn't.
 fn place_in(name: &[u8], front: &[u8], back: &[u8]) -> Option<usize>
-    ensures { IfSome result (Lies name.now front.now back.now) }
+    ensures quick { IfSome result (Lies name.now front.now back.now) }
 {
     if lie_at(name, 0, front, back) {
         return Some(0);
@@ -137,7 +137,7 @@ fn place_in(name: &[u8], front: &[u8], back: &[u8]) -> Option<usize>
 
 // Whether they lie together at this place.
 fn lie_at(name: &[u8], place: usize, front: &[u8], back: &[u8]) -> bool
-    ensures { result ≡ true → Lies name.now front.now back.now place }
+    ensures quick { result ≡ true → Lies name.now front.now back.now place }
 {
     let rest = after(name, place);
     if up_to(rest, front.len()) != front {

@@ -1,21 +1,21 @@
 //! Nodes as the graph holds them, in three lists, with numbers for names.
-ghost use Rattle.std.specs.Prelude.{◌≡◌, ◌++◌, ◌∷◌, ◌<◌, ◌≤◌, ◌^◌, ◌⊎◌, [], All, IfOk, OnErr, OnOk, drop, get_or, length};
+ghost use Rattle.std.specs.Prelude.{◌≡◌, ◌++◌, ◌∷◌, ◌<◌, ◌≤◌, ◌^◌, [], All, IfOk, OnOk, drop, length};
 ghost use Rattle.std.specs.Prelude.{option_map, option_to_list, slice_get, true, None, Some};
 ghost use Rattle.kt_graph.specs.declared.nodes.node.NodeKind.TheVariants.{DoubleColon};
-ghost use Rattle.kt_graph.specs.inner.nodes.Stored.{input_numbers, order_only_numbers};
+ghost use Rattle.kt_graph.specs.inner.nodes.Stored.{input_numbers, order_only_numbers, AreRowsOf, AreStored, Grew};
+ghost use Rattle.kt_graph.specs.inner.nodes.Stored.{HasOnePart, HaveOneMaking, IsHeadOf, IsLike, IsPartWithin};
+ghost use Rattle.kt_graph.specs.inner.nodes.Stored.{IsSpanWithin, node_like, nodes_stored, PutsParts, cut, stored_with};
+ghost use Rattle.kt_graph.specs.inner.nodes.Stored.{part_held, part_seen, parts_held, parts_stored, some_if, stored_at};
 ghost use Rattle.kt_graph.specs.declared.nodes.stored.NodeHead.{NodeHead};
-ghost use Rattle.kt_graph.specs.inner.nodes.Stored.{AreRowsOf, AreStored, Grew, HasOnePart, HaveOneMaking, IsHeadOf, IsLike};
-ghost use Rattle.kt_list.specs.Prefixes.{HasMore};
-ghost use Rattle.kt_graph.specs.inner.nodes.Stored.{IsPartWithin, IsSpanWithin, node_like, nodes_stored};
-ghost use Rattle.kt_graph.specs.inner.nodes.Stored.{PutsParts, cut, stored_with, part_held, part_seen};
-ghost use Rattle.kt_graph.specs.inner.nodes.Stored.{parts_held, parts_stored, some_if, stored_at};
+ghost use Rattle.kt_list.specs.views.Prefixes.{HasMore};
 
 use crate::nodes::inputs::{has_own_inputs, input_set, order_only_set};
 use crate::nodes::node::NodeKind;
 use crate::nodes::part::{Maker, NumberedNeeds, NumberedPart, PartRecipe};
 use crate::nodes::rows::{are_rows, put_rows};
+use crate::nodes::span::{Span, cut, span_of};
 use crate::nodes::stem::Stem;
-use kt_list::{Rows, narrow};
+use kt_list::Rows;
 use kt_rules::RecipeLine;
 use std::alloc::{AllocError, Global};
 use std::marker::Model;
@@ -52,13 +52,6 @@ pub(crate) struct HeldPart<'a> {
     // The first of the two rows of its prerequisites.
     pub(crate) needs: u32,
     has_recipe: bool,
-}
-
-/// The places of a list in a vector for all nodes.
-#[derive(Clone, Copy)]
-pub(crate) struct Span {
-    start: u32,
-    end: u32,
 }
 
 /// A part with its lists.
@@ -234,7 +227,7 @@ impl<'a> StoredNodes<'a> {
 
     /// Whether two nodes have one making and hold their inputs together. Nothing is promised of those that don't.
     pub(crate) fn are_alike(&self, one: usize, other: usize) -> bool
-        ensures { result ≡ true → HaveOneMaking (stored_at self.now one) (stored_at self.now other) }
+        ensures quick { result ≡ true → HaveOneMaking (stored_at self.now one) (stored_at self.now other) }
     {
         match (self.heads.get(one), self.heads.get(other)) {
             (Some(one), Some(other)) => {
@@ -298,14 +291,6 @@ fn head_at(heads: &[NodeHead], number: usize) -> Option<NodeHead>
         Some(head) => Some(*head),
         None => None,
     }
-}
-
-// A list in a vector for all nodes.
-fn cut<T>(items: &[T], span: Span) -> &[T]
-    requires { IsSpanWithin (length items.now) span }
-    ensures { result.now ≡ cut items.now span }
-{
-    &items[span.start as usize..span.end as usize]
 }
 
 // Adds the lists of a node with one part at the end of those of the others.
@@ -489,15 +474,4 @@ fn put_inputs(alloc: Global, held: &[HeldPart], rows: &mut Rows<u32>) -> Result<
     let inputs = input_set(alloc, rows, held)?;
     let order_only = order_only_set(alloc, rows, held, &inputs)?;
     put_rows(rows, inputs.as_slice(), order_only.as_slice())
-}
-
-// The span from one place to another. One beyond 4,294,967,295 is refused as if memory were.
-fn span_of(start: usize, end: usize) -> Result<Span, AllocError>
-    ensures span { IfOk result (λ span. (span.start ≡ start) × (span.end ≡ end)) }
-    ensures large { OnErr result ((4294967295 < start) ⊎ (4294967295 < end)) }
-{
-    Ok(Span {
-        start: narrow(start)?,
-        end: narrow(end)?,
-    })
 }

@@ -2,8 +2,8 @@
 //! Fast: names of the book and of the list of files are read where they are held. Spares a copy of each, and a place
 //! in a second table.
 ghost use Rattle.std.specs.Prelude.{◌≡◌, ◌^◌, ◌+◌, ◌<◌, ◌++◌, Some, length, option_map, IfOk, IfSome, OnErr};
-ghost use Rattle.kt_list.specs.Names.{name_at, place_of};
-ghost use Rattle.kt_rules.specs.Targets.{needed_view};
+ghost use Rattle.kt_list.specs.views.Names.{name_at, place_of};
+ghost use Rattle.kt_rules.specs.views.Targets.{needed_view};
 ghost use Rattle.kt_graph.specs.inner.nodes.Reached.{listed_in};
 
 use kt_list::{Names, narrow};
@@ -86,7 +86,7 @@ impl<'a> Tables<'a> {
 
     /// The number of a name that a rule of the book needs, found without hashing.
     pub(crate) fn needed(&self, name: NeededName<'_>) -> Option<usize>
-        ensures { IfSome result (λ number. place_of self.now (needed_view name.entry) ≡ Some number) }
+        ensures quick { IfSome result (λ number. place_of self.now (needed_view name.entry) ≡ Some number) }
     {
         let number = name.number_in(self.book)?;
         // The contract of `len` makes known that the names differ.

@@ -3,7 +3,7 @@ ghost use Rattle.std.specs.Prelude.{◌≡◌, ◌≤◌, drop, length, take, op
 ghost use Rattle.std.specs.List.{slice_range};
 ghost use Rattle.kt_text.specs.Functions.{name_place};
 ghost use Rattle.kt_graph.specs.search.Candidates.{fit_of, has_slash, left_out, matched_part};
-ghost use Rattle.kt_graph.specs.search.Views.{IsFitWithin, fit_view};
+ghost use Rattle.kt_graph.specs.inner.search.Candidates.{IsFitWithin, fit_view};
 
 use kt_text::match_pattern;
 use memchr::{memchr, memrchr};
@@ -88,7 +88,7 @@ pub(crate) fn has_slash(text: &[u8]) -> bool
 }
 
 // The number of bytes of a name up to its last slash and with it.
-#[tactic(auto, using(kt_text::proofs::NameLemmas::name_places))]
+#[tactic(auto, using(kt_text::proofs::lemmas::NameLemmas::name_places))]
 fn directory_len(name: &[u8]) -> usize
     ensures value { result ≡ name_place name.now }
     ensures bound { result ≤ length name.now }

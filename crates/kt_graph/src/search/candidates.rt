@@ -4,11 +4,12 @@ ghost use Rattle.std.specs.Prelude.{filter_map, length, IfOk, IfSome, OnOk};
 ghost use Rattle.std.specs.List.{list_any};
 ghost use Rattle.std.specs.List.Sorted.{IsPermutation};
 ghost use Rattle.kt_rules.specs.Entry.{Entry};
-ghost use Rattle.kt_rules.specs.Patterns.{is_terminal};
+ghost use Rattle.kt_rules.specs.Book.{is_terminal};
 ghost use Rattle.kt_graph.specs.search.Candidates.{candidate_by, candidate_of, candidates_for, matching_from, shortest};
 ghost use Rattle.kt_graph.specs.inner.search.Ends.{candidate_numbered, candidates_numbered};
-ghost use Rattle.kt_graph.specs.search.Views.{AreWithin, IsFitWithin, candidate_at, candidates_view, found_view};
-ghost use Rattle.kt_graph.specs.search.Views.{held_by_size, held_without_any, is_last_at, shorter_of, stays};
+ghost use Rattle.kt_graph.specs.inner.search.Candidates.{AreWithin, IsFitWithin, candidate_at, candidates_view};
+ghost use Rattle.kt_graph.specs.inner.search.Candidates.{found_view, held_by_size, held_without_any, is_last_at};
+ghost use Rattle.kt_graph.specs.inner.search.Candidates.{shorter_of, stays};
 
 use crate::search::candidate::{Candidate, fit_of};
 use crate::search::patterns::Patterns;

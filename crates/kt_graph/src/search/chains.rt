@@ -7,11 +7,13 @@ ghost use Rattle.kt_rules.specs.Suffixes.{all_needs};
 ghost use Rattle.kt_graph.specs.search.Candidates.{needed_names, needs_with};
 ghost use Rattle.kt_graph.specs.inner.search.Chains.{IsFound, IsRightFor, KeepsAnswers, HasAnswered, asked_besides};
 ghost use Rattle.kt_graph.specs.Known.{unknown_of};
-ghost use Rattle.kt_graph.specs.search.Search.{asking, chain_limit, questions_among, questions_by, questions_for, questions_inside};
+ghost use Rattle.kt_graph.specs.views.search.Search.{asking, questions_among, questions_by, questions_for};
+ghost use Rattle.kt_graph.specs.views.search.Search.{questions_inside, choice_view};
+ghost use Rattle.kt_graph.specs.search.Search.{chain_limit};
 ghost use Rattle.kt_graph.specs.search.Search.{choice_of, chosen_of, fitting, is_inferred, is_met, is_used};
 ghost use Rattle.kt_graph.specs.search.Search.{open_candidates, unknown_needs, with_rule};
-ghost use Rattle.kt_graph.specs.search.Views.{AreWithin, IsFitWithin, candidate_view, candidates_view, choice_view};
-ghost use Rattle.kt_graph.specs.search.Views.{fit_view};
+ghost use Rattle.kt_graph.specs.inner.search.Candidates.{AreWithin, IsFitWithin, candidate_view, candidates_view};
+ghost use Rattle.kt_graph.specs.inner.search.Candidates.{fit_view};
 
 use crate::known::Known;
 use crate::search::candidate::Candidate;

@@ -4,7 +4,7 @@
 ghost use Rattle.std.specs.Prelude.{◌≡◌, option_map, IfOk};
 ghost use Rattle.kt_rules.specs.Book.{patterns_of};
 ghost use Rattle.kt_graph.specs.search.Search.{choice_of};
-ghost use Rattle.kt_graph.specs.search.Views.{choice_view};
+ghost use Rattle.kt_graph.specs.views.search.Search.{choice_view};
 
 use crate::known::Known;
 use crate::search::chains::Chains;

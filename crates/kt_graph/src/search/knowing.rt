@@ -10,8 +10,9 @@ ghost use Rattle.kt_graph.specs.inner.search.Ends.{IsFixedEnd};
 use crate::known::Known;
 use crate::search::candidate::has_slash;
 use crate::search::ends::end_of;
-use crate::search::stemming::{Stemming, holds_percent};
+use crate::search::stemming::Stemming;
 use kt_rules::{Name, Needs};
+use kt_text::has_percent;
 use std::alloc::{AllocError, Global};
 
 /// Whether all of them are known. Stops at the first that isn't.
@@ -63,7 +64,7 @@ fn knows(
     if !may_be_known(known, name) {
         return Ok(false);
     }
-    if !holds_percent(name) {
+    if !has_percent(name) {
         return Ok(known.contains(name));
     }
     let needed = stemming.name(alloc, name)?;
@@ -73,7 +74,7 @@ fn knows(
 // Whether a prerequisite may be known, told by what stands after its percent sign.
 #[tactic(auto, using(crate::proofs::lemmas::EndMarkLemmas::unknown_need))]
 fn may_be_known(known: &Known<'_>, name: &[u8]) -> bool
-    ensures { result ≡ false
+    ensures quick { result ≡ false
         → (directory stem : Text) → is_among known.now (needed_name directory stem name.now) ≡ false }
 {
     match fixed_end(end_of(name)) {
@@ -84,7 +85,7 @@ fn may_be_known(known: &Known<'_>, name: &[u8]) -> bool
 
 // The last two bytes of a text, unless a slash is among them. They stay when a leading `./` is removed.
 fn fixed_end(text: &[u8]) -> Option<&[u8]>
-    ensures { IfSome result (λ end. IsFixedEnd text.now end.now) }
+    ensures quick { IfSome result (λ end. IsFixedEnd text.now end.now) }
 {
     if text.len() < 2 {
         return None;

@@ -2,15 +2,14 @@
 ghost use Rattle.std.specs.Prelude.{◌≡◌, ◌-◌, ◌^◌, ◌++◌, length, min, take, IfOk, nat_le};
 ghost use Rattle.std.specs.List.{list_all, slice_range};
 ghost use Rattle.kt_text.specs.Functions.{with_stem};
-ghost use Rattle.kt_text.specs.Match.{has_percent};
 ghost use Rattle.kt_graph.specs.search.Candidates.{are_short, name_limit, needed_name, needed_names, needs_with};
 ghost use Rattle.kt_graph.specs.search.Candidates.{spelled_out};
-ghost use Rattle.kt_graph.specs.search.Views.{IsFitWithin};
+ghost use Rattle.kt_graph.specs.inner.search.Candidates.{IsFitWithin};
 
 use crate::search::candidate::Fit;
 use kt_list::Sequence;
 use kt_rules::{Name, Needs, dotless};
-use kt_text::{has_byte, push_with_stem};
+use kt_text::{has_percent, push_with_stem};
 use memchr::memchr;
 use std::alloc::{AllocError, Global};
 
@@ -77,7 +76,7 @@ impl<'n> Stemming<'n> {
     pub(crate) fn name(self, alloc: Global, name: &[u8]) -> Result<Vec<u8>, AllocError>
         ensures { IfOk result (λ made. made.items ≡ needed_name self.entry.directory.now self.entry.stem.now name.now) }
     {
-        if !holds_percent(name) {
+        if !has_percent(name) {
             return Vec::from_slice(alloc, name);
         }
         dotless(alloc, self.spelled_out(alloc, name)?)
@@ -118,12 +117,4 @@ impl<'n> Stemming<'n> {
             order_only: Sequence::from(order_only),
         })
     }
-}
-
-// As `kt_text::has_percent`, but quicker for a short text, as most prerequisites of pattern rules are.
-#[tactic(auto, unfolding(kt_text::specs::Match::has_percent, kt_text::specs::Match::is_percent))]
-pub(crate) fn holds_percent(name: &[u8]) -> bool
-    ensures { result ≡ has_percent name.now }
-{
-    has_byte(name, b'%')
 }

@@ -2,8 +2,7 @@
 ghost use Rattle.std.specs.Prelude.{◌≡◌, [], None, length, map, take, slice_get, slice_set, unwrap_or, IfOk};
 ghost use Rattle.std.specs.List.{IsDistinct};
 ghost use Rattle.kt_graph.specs.inner.search.Chains.{IsAnswerPlaced, KeepsAnswers};
-ghost use Rattle.kt_graph.specs.search.Search.{question_eq};
-ghost use Rattle.kt_graph.specs.search.Views.{question_view};
+ghost use Rattle.kt_graph.specs.views.search.Search.{question_eq, question_view};
 
 use crate::search::candidate::Candidate;
 use crate::search::question::Question;

@@ -4,8 +4,9 @@ use Rattle.std.proofs.lemmas.Bool.Decides.{Decides-and}
 use Rattle.std.specs.Prelude.{Bool, IsTrue, ◌↔◌}
 use Rattle.std.specs.Bool.{Decides}
 use Rattle.std.specs.Cmp.{IsEquivalence, decided}
-use Rattle.kt_ninja.specs.Prelude.{pointwise, pointwise_decides, bytes_decides, Made, Command, Phony, Statement, Plan}
-use Rattle.kt_ninja.specs.Plan.{same_names, same_made, same_statement, same_plan}
+use Rattle.std.specs.Cmp.Lexicographic.{pointwise, pointwise_decides, bytes_decides}
+use Rattle.kt_ninja.specs.Prelude.{Made, Command, Phony, Statement, Plan}
+use Rattle.kt_ninja.specs.views.Plan.{same_names, same_made, same_statement, same_plan}
 
 names_same : (a b : List (List ℕ)) → Decides (same_names a b) (a ≡ b)
 names_same a b = pointwise_decides bytes_decides a b

@@ -1,11 +1,12 @@
 -- Pieces that are cut off a text one after another (the reader's own).
 use Rattle.std.specs.Prelude.{◌≡◌, ◌≤◌, ℕ, Bool, true, false, not, ◌==◌, ◌&&◌, List, [], ◌∷◌, ◌++◌, length, Option}
-use Rattle.kt_ninja_reader.specs.Prelude.{Some, None, option_map, Bytes, outside, pieces_from, list_any}
+use Rattle.kt_ninja_reader.specs.inner.Prelude.{Some, None, option_map, outside, pieces_from}
+use Rattle.kt_ninja_reader.specs.Prelude.{Bytes, list_any}
 use Rattle.kt_ninja_reader.specs.declared.spelling.DollarCut.{DollarCut}
 use Rattle.kt_ninja_reader.specs.declared.spelling.Dollar.{Dollar}
 use Rattle.kt_ninja_reader.specs.declared.spelling.Dollar.TheVariants.{Byte, Variable as Named}
 use Rattle.kt_ninja_reader.specs.Pieces.{Piece, Plain, Escaped, Variable, Where, in_name, is_long_name_byte}
-use Rattle.kt_ninja_reader.specs.Spellings.{name_goes_on}
+use Rattle.kt_ninja_reader.specs.views.Spellings.{name_goes_on}
 use Rattle.kt_ninja_reader.specs.inner.Spelled.{is_spelled, pieces_in}
 use Rattle.kt_ninja_reader.specs.Forms.{is_plain_byte}
 

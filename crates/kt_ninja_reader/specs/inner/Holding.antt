@@ -1,6 +1,7 @@
 -- What the reader holds, as the definitions have it (the reader's own).
 use Rattle.std.specs.Prelude.{◌≡◌, Bool, false, ◌||◌, List, [], Option, Some, None, is_some, if◌then◌else◌}
-use Rattle.kt_ninja_reader.specs.Prelude.{PartFault, NoReading, Memory, Made, Command, Phony, Bytes, is_empty}
+use Rattle.kt_ninja_reader.specs.inner.Prelude.{PartFault, NoReading, Memory}
+use Rattle.kt_ninja_reader.specs.Prelude.{Made, Command, Phony, Bytes, is_empty}
 use Rattle.kt_ninja_reader.specs.declared.pending_statement.More.{More}
 use Rattle.kt_ninja_reader.specs.declared.pending_statement.Making.{Making as HeldMaking}
 use Rattle.kt_ninja_reader.specs.declared.pending_statement.Making.TheVariants.{ByNothing, ByOwn, ByRule}

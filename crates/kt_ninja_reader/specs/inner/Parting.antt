@@ -3,7 +3,7 @@ use Rattle.std.specs.Prelude.{◌≡◌, ◌<◌, ◌≤◌, ℕ, List, [], ◌�
 use Rattle.kt_ninja_reader.specs.declared.ninja_read.PartLines.{PartLines}
 use Rattle.kt_ninja_reader.specs.JoinedLines.{JoinedLine}
 use Rattle.kt_ninja_reader.specs.NinjaRead.{cut_lines}
-use Rattle.kt_ninja_reader.specs.Reading.{file_part}
+use Rattle.kt_ninja_reader.specs.inner.Reading.{file_part}
 
 -- at this place begins this part, and after it the next
 pub record CutsPart (lines : List JoinedLine) (from : ℕ) (part : PartLines) : Type 0 where

@@ -1,6 +1,6 @@
 -- What a refusal within the reading says (the reader's own).
 use Rattle.std.specs.Prelude.{◌≡◌, Option, Result, Some, None, MatchResult}
-use Rattle.kt_ninja_reader.specs.Prelude.{PartFault, NoReading, Memory}
+use Rattle.kt_ninja_reader.specs.inner.Prelude.{PartFault, NoReading, Memory}
 
 -- there is no value, or memory was refused, which is always excused
 abbrev pub LacksReading : {X : Type 0} → Option X → PartFault → Type 0

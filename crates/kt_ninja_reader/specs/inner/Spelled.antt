@@ -1,5 +1,6 @@
 -- Texts that are paths or values, and their pieces (the reader's own).
-use Rattle.kt_ninja_reader.specs.Prelude.{Bool, List, [], is_some, unwrap_or, Bytes, Piece, pieces}
+use Rattle.kt_ninja_reader.specs.inner.Prelude.{Bool, List, [], is_some, unwrap_or, Piece}
+use Rattle.kt_ninja_reader.specs.Prelude.{Bytes, pieces}
 
 -- whether each dollar of the text begins an escape or a variable
 abbrev pub is_spelled : Bytes → Bool

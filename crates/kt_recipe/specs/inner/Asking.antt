@@ -1,7 +1,8 @@
 -- How the code finds the subject and form of an automatic macro by its name (the crate's own).
 use Rattle.std.specs.Prelude.{ℕ, Bool, ◌&&◌, ◌==◌, List, [], ◌∷◌, Option, Some, None, length, option_map, if◌then◌else◌}
 use Rattle.std.specs.Option.{option_and_then}
-use Rattle.kt_recipe.specs.Prelude.{Text, Node, NamePart, Subject, marks, has_parts, subject_names_in}
+use Rattle.kt_recipe.specs.Prelude.{Text, Node}
+use Rattle.kt_recipe.specs.inner.Prelude.{NamePart, Subject, marks, has_parts, subject_names_in}
 use Rattle.kt_recipe.specs.declared.forms.NamePart.TheVariants.{Whole, Directory, File}
 use Rattle.kt_recipe.specs.Forms.{names_text_in}
 

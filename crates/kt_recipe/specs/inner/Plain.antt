@@ -1,6 +1,7 @@
 -- A shell whose values expand to themselves.
 use Rattle.std.specs.Prelude.{ℕ, Bool, true, not, ◌&&◌, ◌==◌, ◌++◌, codes, Option, Some, None, if◌then◌else◌}
-use Rattle.kt_recipe.specs.Prelude.{list_any, Text, Macros, find}
+use Rattle.kt_recipe.specs.Prelude.{list_any, Text, Macros}
+use Rattle.kt_recipe.specs.inner.Prelude.{find}
 use Rattle.kt_eval.specs.declared.macros.Flavour.{Flavour}
 use Rattle.kt_eval.specs.declared.macros.Flavour.TheVariants.{Deferred, Immediate}
 use Rattle.kt_eval.specs.declared.macros.Macro.{Macro}

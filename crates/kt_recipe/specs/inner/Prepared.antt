@@ -1,7 +1,8 @@
 -- Texts of which all but the automatic macros is known before any node is, and lines that are kept with them (the
 -- crate's own).
 use Rattle.std.specs.Prelude.{◌≡◌, ℕ, false, List, [], ◌∷◌, ◌++◌, IfSome, Option, Some}
-use Rattle.kt_recipe.specs.Prelude.{Text, Place, Gave, Step, Macros, Node, NamePart, Subject, automatic_in, subject_names_in}
+use Rattle.kt_recipe.specs.Prelude.{Text, Place, Macros, Node, automatic_in}
+use Rattle.kt_recipe.specs.inner.Prelude.{Gave, Step, NamePart, Subject, subject_names_in}
 use Rattle.kt_eval.specs.State.{frozen_world}
 use Rattle.kt_eval.specs.expanding.Expansion.{expanded}
 use Rattle.kt_eval.specs.expanding.Levels.{evaluator}
@@ -11,7 +12,8 @@ use Rattle.kt_recipe.specs.declared.kept.KeptLine.{KeptLine}
 use Rattle.kt_recipe.specs.declared.prepared.Gap.{Gap}
 use Rattle.kt_recipe.specs.declared.prepared.PreparedText.{PreparedText}
 use Rattle.kt_recipe.specs.Forms.{names_text_in}
-use Rattle.kt_recipe.specs.Shell.{Commands, expansion, setting_of}
+use Rattle.kt_recipe.specs.views.Commands.{Commands}
+use Rattle.kt_recipe.specs.Shell.{expansion, setting_of}
 
 -- the automatic macros of a part of a node, each after the text before it
 unfoldable pub filled_gaps : Node → ℕ → List Gap → Text

@@ -1,9 +1,10 @@
 -- Rules that need the same, as the program tells them by their places (kati's own).
 use Rattle.std.specs.Prelude.{◌≡◌, Bool, false, List, Option, Some, None, is_some, map}
-use Rattle.kt_rules.specs.Prelude.{Spot, Kind, Needs, Target, Entry}
+use Rattle.kt_rules.specs.inner.Prelude.{Spot}
+use Rattle.kt_rules.specs.Prelude.{Kind, Needs, Target, Entry}
 use Rattle.kt_rules.specs.declared.book.row.Row.{Row}
-use Rattle.kt_rules.specs.Book.{rule_needs}
-use Rattle.kt_rules.specs.Slots.{explicit_left, spot_rule}
+use Rattle.kt_rules.specs.views.Book.{rule_needs}
+use Rattle.kt_rules.specs.inner.Slots.{explicit_left, spot_rule}
 use Rattle.kt_rules.specs.Suffixes.{is_bare}
 
 -- two rows have rules of one kind with the same prerequisites, and no static pattern

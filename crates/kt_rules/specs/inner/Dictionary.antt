@@ -1,8 +1,8 @@
 -- Names and lists of names by numbers, as a dictionary has them (kati's own).
 use Rattle.std.specs.Prelude.{◌≡◌, ℕ, ◌<◌, List, [], get_or, length, option_map, slice_get, Option, Some}
 use Rattle.kt_text.specs.Words.{Text}
-use Rattle.kt_list.specs.Names.{AreNumbersOf}
-use Rattle.kt_list.specs.Prefixes.{HasMore}
+use Rattle.kt_list.specs.views.Names.{AreNumbersOf}
+use Rattle.kt_list.specs.views.Prefixes.{HasMore}
 
 -- the number of a name, if there is one
 abbrev pub IsNumberOf : List Text → Option ℕ → Option Text → Type 0

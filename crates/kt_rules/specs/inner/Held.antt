@@ -1,17 +1,19 @@
 -- Rules as the program holds them, storing each name once (kati's own).
 use Rattle.std.specs.Prelude.{◌≡◌, ℕ, ◌≤◌, List, [], ◌∷◌, get_or, length}
 use Rattle.std.specs.Prelude.{Bool, true, Option, Some, None, if◌then◌else◌, option_map}
-use Rattle.kt_rules.specs.Prelude.{All, Text, BookRule, Spot, Kind, DoubleColon, Group, Needs}
-use Rattle.kt_rules.specs.Prelude.{Target, Entry, rule_by, target_of}
+use Rattle.kt_rules.specs.inner.Prelude.{All, Spot}
+use Rattle.kt_rules.specs.Prelude.{Text, Kind, DoubleColon, Group, Needs}
+use Rattle.kt_rules.specs.views.Prelude.{BookRule, rule_by, target_of}
+use Rattle.kt_rules.specs.Prelude.{Target, Entry}
 use Rattle.kt_rules.specs.declared.book.kinds.Kinds.{Kinds}
 use Rattle.kt_rules.specs.declared.book.row.NeedsNumbers.{NeedsNumbers}
 use Rattle.kt_rules.specs.declared.book.row.Row.{Row}
 use Rattle.kt_rules.specs.declared.book.row.RuleNumbers.{RuleNumbers}
 use Rattle.kt_rules.specs.declared.book.rules.LastNeeds.{LastNeeds}
-use Rattle.kt_rules.specs.declared.entry.RecipeLine.{RecipeLine}
-use Rattle.kt_rules.specs.Slots.{IsKept}
-use Rattle.kt_list.specs.Names.{name_at, names_at}
-use Rattle.kt_rules.specs.Targets.{line_needs, text_in}
+use Rattle.kt_rules.specs.declared.line.entry.RecipeLine.{RecipeLine}
+use Rattle.kt_rules.specs.inner.Slots.{IsKept}
+use Rattle.kt_list.specs.views.Names.{name_at, names_at}
+use Rattle.kt_rules.specs.views.Targets.{line_needs, text_in}
 use Rattle.kt_rules.specs.inner.Dictionary.{IsListOf, IsNumberOf}
 
 -- the prerequisites with these numbers

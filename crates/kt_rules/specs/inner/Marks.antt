@@ -1,9 +1,11 @@
 -- Names that are marked by number, or by name (kati's own).
 use Rattle.std.specs.Prelude.{◌≡◌, ℕ, Bool, false, true, Option, Some, None, List, get_or, length}
-use Rattle.kt_rules.specs.Prelude.{AreBelow, is_among, place_of, Text, BookRule}
+use Rattle.kt_rules.specs.inner.Prelude.{AreBelow, place_of}
+use Rattle.kt_rules.specs.Prelude.{is_among, Text}
+use Rattle.kt_rules.specs.views.Prelude.{BookRule}
 use Rattle.kt_rules.specs.declared.book.book_names.Marks.{Marks}
 use Rattle.kt_rules.specs.Suffixes.{all_needs}
-use Rattle.kt_rules.specs.Targets.{entry_view}
+use Rattle.kt_rules.specs.views.Targets.{entry_view}
 
 -- the mark of a name: at its number, if it has one, or else among the other names
 abbrev pub mark_at : Marks → Text → Option ℕ → Bool

@@ -1,8 +1,10 @@
 -- The prerequisites that a reader of rule lines remembers (kati's own).
 use Rattle.std.specs.Prelude.{◌≡◌, ◌||◌, Bool, false, None, Some, map}
-use Rattle.kt_rules.specs.Prelude.{list_any, has_percent, Text, words_of, is_colon, Needs, Single, is_nil, head_names}
-use Rattle.kt_rules.specs.Prelude.{tested_line, is_among, name_of, wait_name, without_repeats, written_words}
-use Rattle.kt_rules.specs.declared.reader.LongLine.{LongLine}
+use Rattle.kt_rules.specs.Prelude.{list_any, Text, words_of, Needs}
+use Rattle.kt_rules.specs.inner.Prelude.{has_percent, is_colon, Single, is_nil, head_names, tested_line, name_of}
+use Rattle.kt_rules.specs.inner.Prelude.{wait_name, without_repeats, written_words}
+use Rattle.kt_rules.specs.Prelude.{is_among}
+use Rattle.kt_rules.specs.declared.line.reader.LongLine.{LongLine}
 use Rattle.kt_rules.specs.RuleLine.{colon_cut, group_targets, needs_of}
 use Rattle.kt_rules.specs.inner.Telling.{Tells, is_telling}
 

@@ -1,9 +1,10 @@
 -- How the program finds suffixes in a name by their lengths alone (kati's own).
 use Rattle.std.specs.Prelude.{◌≡◌, ℕ, min, nat_eq, nat_lt, Bool, true, false, ◌&&◌, List, [], ◌∷◌, ◌++◌, length, find}
 use Rattle.std.specs.Prelude.{Option, Some, None, if◌then◌else◌, is_some}
-use Rattle.kt_rules.specs.Prelude.{ends_with, list_any, position_from, range_with_len, option_map_or, Text, Spot, Entry}
+use Rattle.kt_rules.specs.inner.Prelude.{ends_with, position_from, Spot}
+use Rattle.kt_rules.specs.Prelude.{list_any, range_with_len, option_map_or, Text, Entry}
 use Rattle.kt_rules.specs.Names.{is_among}
-use Rattle.kt_rules.specs.Slots.{spot_rule}
+use Rattle.kt_rules.specs.inner.Slots.{spot_rule}
 use Rattle.kt_rules.specs.Suffixes.{is_bare, is_cut_at, is_single, needs_nothing}
 
 -- ---- lengths

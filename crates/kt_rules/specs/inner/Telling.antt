@@ -1,7 +1,8 @@
 -- The bytes that tell of the names of a rule line (kati's own).
 use Rattle.std.specs.Prelude.{◌≡◌, ℕ, Bool, false, ◌==◌, ◌||◌, None}
-use Rattle.kt_rules.specs.Prelude.{list_any, has_percent, HeadNames, is_wildcard, Head, name_refusal, option_list}
-use Rattle.kt_rules.specs.declared.signs.Signs.{Signs}
+use Rattle.kt_rules.specs.Prelude.{list_any}
+use Rattle.kt_rules.specs.inner.Prelude.{has_percent, HeadNames, is_wildcard, Head, name_refusal, option_list}
+use Rattle.kt_rules.specs.declared.line.signs.Signs.{Signs}
 
 abbrev pub is_backslash : ℕ → Bool
 is_backslash byte = byte == 92

@@ -2,7 +2,7 @@
 //! Fast: that two names need the same is told by the numbers of lists, not by what is in them. Spares a look at each
 //! prerequisite of each member of a group.
 ghost use Rattle.std.specs.Prelude.{◌≡◌, IsTrue};
-ghost use Rattle.kt_rules.specs.Slots.{rule_view};
+ghost use Rattle.kt_rules.specs.views.Targets.{rule_view};
 ghost use Rattle.kt_rules.specs.inner.Alike.{AreAlike, IsCommon, NeedSame};
 
 use super::rules::Rules;
@@ -10,9 +10,9 @@ use super::spot::Spot;
 use super::target_rule::{TargetRule, is_bare, rule_at};
 
 /// Whether the explicit rules at spots need the same as those at others, told by the places of the rules.
-#[tactic(auto, using(crate::proofs::AlikeLemmas::alike_none))]
+#[tactic(auto, using(crate::proofs::lemmas::book::AlikeLemmas::alike_none))]
 pub(crate) fn need_same(rules: &Rules, spots: &[Spot], others: &[Spot]) -> bool
-    ensures { IsTrue result → NeedSame rules.now.1 spots.now others.now }
+    ensures quick { IsTrue result → NeedSame rules.now.1 spots.now others.now }
 {
     let mut left = spots;
     let mut others_left = others;
@@ -30,7 +30,7 @@ pub(crate) fn need_same(rules: &Rules, spots: &[Spot], others: &[Spot]) -> bool
 
 // Whether both spots are in rules that are explicit for any name, and give all their targets the same.
 fn are_alike(rules: &Rules, spot: Spot, other: Spot) -> bool
-    ensures { IsTrue result → AreAlike rules.now.1 spot other }
+    ensures quick { IsTrue result → AreAlike rules.now.1 spot other }
 {
     if !rules.say_same(spot.entry as usize, other.entry as usize) {
         return false;
@@ -46,7 +46,7 @@ fn are_alike(rules: &Rules, spot: Spot, other: Spot) -> bool
 
 // Whether a rule is explicit whatever name its target has, and the target needs what all of its targets need.
 fn is_common(rule: TargetRule) -> bool
-    ensures { IsTrue result → IsCommon (rule_view rule.entry) }
+    ensures quick { IsTrue result → IsCommon (rule_view rule.entry) }
 {
     !is_bare(rule) && rule.target.stem().is_none()
 }

@@ -3,12 +3,12 @@
 ghost use Rattle.std.specs.Prelude.{◌≡◌, ◌||◌, List, bytes_eq, codes, false, find, flat_map, get_or, length, ◌<◌};
 ghost use Rattle.std.specs.Prelude.{option_map, true, unwrap_or, IfOk, OnOk};
 ghost use Rattle.kt_text.specs.Words.{Text};
-ghost use Rattle.kt_list.specs.Names.{AreBelow, name_at, names_at, place_of};
+ghost use Rattle.kt_list.specs.views.Names.{AreBelow, name_at, names_at, place_of};
 ghost use Rattle.kt_rules.specs.Known.{named_by, named_with};
 ghost use Rattle.kt_rules.specs.Entry.{needs_for};
 ghost use Rattle.kt_rules.specs.Names.{is_among};
 ghost use Rattle.kt_rules.specs.Suffixes.{all_needs};
-ghost use Rattle.kt_rules.specs.Targets.{entry_view, names_view, needs_view, target_view};
+ghost use Rattle.kt_rules.specs.views.Targets.{entry_view, names_view, needs_view, target_view};
 ghost use Rattle.kt_rules.specs.inner.Held.{numbered_target};
 ghost use Rattle.kt_rules.specs.inner.Marks.{HasShared, IsOf, is_marked};
 
@@ -60,7 +60,7 @@ impl<'a> Model for BookNames<'a> {
 }
 
 impl<'a> BookNames<'a> {
-    #[tactic(auto, using(crate::proofs::MarkLemmas::marked_start))]
+    #[tactic(auto, using(crate::proofs::lemmas::book::MarkLemmas::marked_start))]
     pub(crate) fn of(
         alloc: Global,
         rules: &'a Rules,
@@ -165,7 +165,7 @@ impl Marks {
             ≡ (is_marked rule.entry.names.now self.old name || is_among (named_with suffixes.now (entry_view rule.entry)
             (numbered_target rule.entry number)) name)) }
         ensures many { length self.new.numbers.items ≡ length self.old.numbers.items }
-        ensures shared { IfOk result (λ shared. shared ≡ true → HasShared rule.entry self.new) }
+        ensures quick_shared { IfOk result (λ shared. shared ≡ true → HasShared rule.entry self.new) }
     {
         let target = rule.target(number);
         if !is_explicit(
@@ -194,7 +194,7 @@ impl Marks {
             ≡ (is_marked rule.entry.names.now self.old name
             || is_among (all_needs (needs_for (entry_view rule.entry) (target_view target.entry))) name)) }
         ensures many { length self.new.numbers.items ≡ length self.old.numbers.items }
-        ensures shared { IfOk result (λ shared. shared ≡ true → HasShared rule.entry self.new) }
+        ensures quick_shared { IfOk result (λ shared. shared ≡ true → HasShared rule.entry self.new) }
     {
         match target.stem() {
             Some(stem) => {
@@ -248,7 +248,7 @@ impl Marks {
         Ok(())
     }
 
-    #[tactic(auto, using(std::proofs::lemmas::Result::on_ok_weaker, crate::proofs::MarkLemmas::other_marked))]
+    #[tactic(auto, using(std::proofs::lemmas::Result::on_ok_weaker, crate::proofs::lemmas::book::MarkLemmas::other_marked))]
     fn mark_name(&mut self, names: &Names, name: &[u8]) -> Result<(), AllocError>
         requires { length self.old.numbers.items ≡ length names.now }
         ensures marked { OnOk result ((other : Text) → is_marked names.now self.new other

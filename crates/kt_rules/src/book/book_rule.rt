@@ -1,10 +1,11 @@
 //! A rule of a book.
 ghost use Rattle.std.specs.Prelude.{◌≡◌, option_map};
 ghost use Rattle.kt_rules.specs.Entry.{needs_for};
-ghost use Rattle.kt_rules.specs.Targets.{entry_view, line_needs, listed_needs, needs_view, target_view, targets_view};
+ghost use Rattle.kt_rules.specs.views.Targets.{entry_view, line_needs, listed_needs, needs_view, target_view};
+ghost use Rattle.kt_rules.specs.views.Targets.{targets_view};
 ghost use Rattle.kt_rules.specs.inner.Held.{numbered_target};
 
-use crate::entry::{Kind, RecipeLine};
+use crate::line::entry::{Kind, RecipeLine};
 use crate::listed::{AnyNames, ListedNeeds, NumberedNames};
 use crate::needs::{NeedsView, shared_needs};
 use crate::place::Place;

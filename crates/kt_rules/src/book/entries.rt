@@ -1,7 +1,7 @@
 //! The entries of a book, one after another.
 ghost use Rattle.std.specs.Prelude.{◌≡◌, ◌∷◌, [], MatchOption, drop};
 ghost use Rattle.std.specs.Iterator.{YieldsFirstBy, item_count};
-ghost use Rattle.kt_rules.specs.Targets.{entry_view};
+ghost use Rattle.kt_rules.specs.views.Targets.{entry_view};
 
 use super::book_rule::BookRule;
 use super::rules::Rules;

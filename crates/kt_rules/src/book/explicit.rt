@@ -2,7 +2,8 @@
 ghost use Rattle.std.specs.Prelude.{◌≡◌, ◌&&◌, ◌∷◌, [], MatchOption, is_some, option_map};
 ghost use Rattle.std.specs.Iterator.{YieldsFirstBy, item_count};
 ghost use Rattle.std.specs.List.{list_any};
-ghost use Rattle.kt_rules.specs.Slots.{explicit_left, explicit_rule, rule_view};
+ghost use Rattle.kt_rules.specs.inner.Slots.{explicit_left, explicit_rule};
+ghost use Rattle.kt_rules.specs.views.Targets.{rule_view};
 ghost use Rattle.kt_rules.specs.inner.SuffixCuts.{is_bare_at};
 ghost use Rattle.kt_rules.specs.Suffixes.{suffix_patterns};
 
@@ -25,11 +26,11 @@ pub struct Explicit<'a> {
 impl<'a> Model for Explicit<'a> {
     ghost use Rattle.std.specs.Prelude.{List};
     ghost use Rattle.kt_rules.specs.Entry.{Entry};
-    ghost use Rattle.kt_rules.specs.declared.entry.Target.{Target};
+    ghost use Rattle.kt_rules.specs.declared.line.entry.Target.{Target};
 
     ghost Value = { List (Entry × Target) };
 
-    ghost use Rattle.kt_rules.specs.Slots.{explicit_left};
+    ghost use Rattle.kt_rules.specs.inner.Slots.{explicit_left};
 
     ghost view = { λ left. explicit_left left.skips_bare left.rules.now.1 left.spots.now };
 }
@@ -70,7 +71,7 @@ pub(crate) fn skips_bare(suffixes: &Suffixes, rules: &Rules, spots: &[Spot], nam
 }
 
 // The first explicit rule at one of the spots, and the spots after it.
-#[tactic(auto, unfolding(crate::specs::Slots::explicit_left))]
+#[tactic(auto, unfolding(crate::specs::inner::Slots::explicit_left))]
 fn first_explicit<'a>(
     rules: &'a Rules,
     spots: &'a [Spot],

@@ -1,7 +1,7 @@
 //! Lists of spots, most of which have one spot.
 //! Fast: a single spot lies where a list would. Spares two allocations of a one-line rule.
 ghost use Rattle.std.specs.Prelude.{◌≡◌, ◌++◌, ◌∷◌, [], IfOk, OnErr, OnOk};
-ghost use Rattle.kt_rules.specs.Slots.{spots_before};
+ghost use Rattle.kt_rules.specs.inner.Slots.{spots_before};
 ghost use Rattle.kt_rules.specs.inner.Lists.{few_of};
 
 use super::spot::Spot;

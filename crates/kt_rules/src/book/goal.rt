@@ -1,9 +1,9 @@
 //! The default goal of the rules.
 ghost use Rattle.std.specs.Prelude.{◌≡◌, ◌&&◌, ◌==◌, not, option_map, find};
 ghost use Rattle.std.specs.List.{list_any};
-ghost use Rattle.kt_rules.specs.Book.{begins_with_dot, first_goal_by, goal_in, is_goal, may_be_goal};
-ghost use Rattle.kt_rules.specs.Slots.{rule_view};
-ghost use Rattle.kt_rules.specs.Targets.{entry_view};
+ghost use Rattle.kt_rules.specs.Book.{begins_with_dot, first_goal_by, is_goal, may_be_goal};
+ghost use Rattle.kt_rules.specs.inner.Goals.{goal_in};
+ghost use Rattle.kt_rules.specs.views.Targets.{rule_view, entry_view};
 
 use super::book_rule::BookRule;
 use super::entries::Entries;

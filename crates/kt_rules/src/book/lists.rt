@@ -1,6 +1,6 @@
 //! Lists of spots by number.
 ghost use Rattle.std.specs.Prelude.{◌≡◌, ◌++◌, ◌∷◌, [], ℕ, ◌<◌, ◌≤◌, OnErr, OnOk, length, nat_eq, if◌then◌else◌};
-ghost use Rattle.kt_rules.specs.Slots.{ForgotFrom};
+ghost use Rattle.kt_rules.specs.inner.Slots.{ForgotFrom};
 ghost use Rattle.kt_rules.specs.inner.Lists.{SameAt, list_at};
 
 use super::few::Few;

@@ -3,9 +3,9 @@
 ghost use Rattle.std.specs.Prelude.{◌≡◌, ◌++◌, ◌||◌, ◌∷◌, [], IfOk, OnOk, flat_map, option_map, if◌then◌else◌};
 ghost use Rattle.kt_rules.specs.Book.{pattern_rule, patterns_in, repeats, unrepeated};
 ghost use Rattle.kt_rules.specs.Entry.{Entry};
-ghost use Rattle.kt_rules.specs.Patterns.{form_view, has_pattern, stays_before, suffix_rules_at, suffix_rules_in};
+ghost use Rattle.kt_rules.specs.inner.Patterns.{form_view, has_pattern, stays_before, suffix_rules_at, suffix_rules_in};
 ghost use Rattle.kt_rules.specs.Suffixes.{percent, suffix_patterns};
-ghost use Rattle.kt_rules.specs.Targets.{entry_view, target_view};
+ghost use Rattle.kt_rules.specs.views.Targets.{entry_view, target_view};
 
 use super::book_rule::BookRule;
 use super::entries::Entries;
@@ -15,7 +15,7 @@ use super::rules::Rules;
 use super::suffixes::Suffixes;
 use super::target_rule::{TargetRule, is_bare, is_made, is_pattern, may_be_bare};
 use crate::copying::{copied_needs, copied_targets};
-use crate::entry::{Kind, Name, Needs, Target};
+use crate::line::entry::{Kind, Name, Needs, Target};
 use kt_list::Sequence;
 use std::alloc::{AllocError, Global};
 
@@ -166,7 +166,7 @@ fn with_percent(alloc: Global, suffix: &[u8]) -> Result<Vec<u8>, AllocError>
 }
 
 /// The pattern rules that have a recipe and that no later one repeats.
-#[tactic(auto, using(crate::proofs::PatternLemmas::sorted_more))]
+#[tactic(auto, using(crate::proofs::lemmas::book::PatternLemmas::sorted_more))]
 pub(crate) fn unrepeated<'a>(
     alloc: Global,
     patterns: Vec<Pattern<'a>>,

@@ -3,12 +3,12 @@ ghost use Rattle.std.specs.Prelude.{◌≡◌, ◌++◌, [], ◌<◌, ◌≤◌,
 ghost use Rattle.kt_text.specs.Words.{Text};
 ghost use Rattle.kt_rules.specs.Book.{phony_of};
 ghost use Rattle.kt_rules.specs.Names.{with_name};
-ghost use Rattle.kt_rules.specs.Slots.{GotRecipes, GotSpots, GrewIn, noted_messages, spots_at, target_spots};
+ghost use Rattle.kt_rules.specs.inner.Slots.{GotRecipes, GotSpots, GrewIn, noted_messages, spots_at, target_spots};
 ghost use Rattle.kt_rules.specs.Suffixes.{suffixes_after};
-ghost use Rattle.kt_rules.specs.Targets.{entry_view};
+ghost use Rattle.kt_rules.specs.views.Targets.{entry_view};
 ghost use Rattle.kt_rules.specs.Entry.{Entry};
 ghost use Rattle.kt_rules.specs.inner.Held.{numbered_target};
-ghost use Rattle.kt_list.specs.Names.{AreBelow};
+ghost use Rattle.kt_list.specs.views.Names.{AreBelow};
 
 use super::Warnings;
 use super::book_rule::BookRule;
@@ -94,7 +94,7 @@ fn learn_rule(
 }
 
 // Adds the prerequisites of the rule's special targets. If memory runs out, none is added.
-#[tactic(auto, using(crate::proofs::FindLemmas::take_grown))]
+#[tactic(auto, using(crate::proofs::lemmas::book::FindLemmas::take_grown))]
 fn learn_names(
     alloc: Global,
     phony: &mut Names,
@@ -141,7 +141,7 @@ fn note_targets(spots: &mut Spots, rule: BookRule<'_>, place: usize) -> Result<(
 }
 
 // Notes the target whose name has the number, if the rule makes it.
-#[tactic(auto, using(std::proofs::lemmas::Result::on_err_weaker, crate::proofs::NoteLemmas::grew_at_names))]
+#[tactic(auto, using(std::proofs::lemmas::Result::on_err_weaker, crate::proofs::lemmas::book::NoteLemmas::grew_at_names))]
 fn note_target(
     spots: &mut Spots,
     rule: BookRule<'_>,

@@ -1,11 +1,11 @@
 //! For each target, the numbers of the entries of its explicit rules.
 ghost use Rattle.std.specs.Prelude.{◌≡◌, ◌++◌, ◌&&◌, ◌∷◌, [], IfOk, OnOk, bytes_eq, if◌then◌else◌};
 ghost use Rattle.kt_text.specs.Words.{Text};
-ghost use Rattle.kt_rules.specs.Book.{explicit_numbers, is_explicit, numbers_in};
-ghost use Rattle.kt_rules.specs.Indexes.{noted_at};
-ghost use Rattle.kt_rules.specs.Slots.{rule_view};
+ghost use Rattle.kt_rules.specs.views.Book.{explicit_numbers, numbers_in};
+ghost use Rattle.kt_rules.specs.Book.{is_explicit};
+ghost use Rattle.kt_rules.specs.views.Indexes.{noted_at};
+ghost use Rattle.kt_rules.specs.views.Targets.{rule_view, entry_view};
 ghost use Rattle.kt_rules.specs.Suffixes.{suffixes_of};
-ghost use Rattle.kt_rules.specs.Targets.{entry_view};
 
 use super::book_rule::BookRule;
 use super::target_rule::TargetRule;

@@ -1,10 +1,10 @@
 //! The warnings on targets that get a second recipe.
 //! Fast: a rule's targets have numbers before it is told which of them have a recipe. Spares a hash a target.
 ghost use Rattle.std.specs.Prelude.{◌≡◌, ◌++◌, ◌∷◌, ◌&&◌, ◌<◌, [], IfOk, OnOk, is_some, length, map, if◌then◌else◌};
-ghost use Rattle.kt_list.specs.Names.{AreBelow, name_at};
+ghost use Rattle.kt_list.specs.views.Names.{AreBelow, name_at};
 ghost use Rattle.kt_rules.specs.Book.{is_made, override_message};
-ghost use Rattle.kt_rules.specs.Slots.{first_found, found_targets, noted_messages, spots_at};
-ghost use Rattle.kt_rules.specs.Targets.{entry_view};
+ghost use Rattle.kt_rules.specs.inner.Slots.{first_found, found_targets, noted_messages, spots_at};
+ghost use Rattle.kt_rules.specs.views.Targets.{entry_view};
 ghost use Rattle.kt_rules.specs.inner.Held.{numbered_target};
 
 use super::Warnings;

@@ -1,9 +1,9 @@
 //! Pattern rules, suffix rules among them.
 ghost use Rattle.std.specs.Prelude.{◌≡◌, option_map};
-ghost use Rattle.kt_rules.specs.Patterns.{is_terminal};
+ghost use Rattle.kt_rules.specs.Book.{is_terminal};
 
 use super::book_rule::BookRule;
-use crate::entry::{Kind, Needs, RecipeLine, Target};
+use crate::line::entry::{Kind, Needs, RecipeLine, Target};
 use crate::place::Place;
 use std::marker::Model;
 
@@ -29,8 +29,8 @@ impl<'a> Model for Pattern<'a> {
 
     ghost Value = { Entry };
 
-    ghost use Rattle.kt_rules.specs.Patterns.{form_view};
-    ghost use Rattle.kt_rules.specs.Targets.{entry_view};
+    ghost use Rattle.kt_rules.specs.inner.Patterns.{form_view};
+    ghost use Rattle.kt_rules.specs.views.Targets.{entry_view};
 
     ghost view = { λ pattern. form_view (entry_view pattern.entry) pattern.form };
 }

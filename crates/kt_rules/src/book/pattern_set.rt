@@ -2,10 +2,10 @@
 ghost use Rattle.std.specs.Prelude.{◌≡◌, ◌||◌, false, not, map, IfOk, OnOk};
 ghost use Rattle.kt_rules.specs.Book.{repeats};
 ghost use Rattle.kt_rules.specs.Entry.{Entry};
-ghost use Rattle.kt_rules.specs.Patterns.{IsKeyOf, has_pattern, held};
+ghost use Rattle.kt_rules.specs.inner.Patterns.{IsKeyOf, has_pattern, held};
 
 use super::pattern::Pattern;
-use crate::entry::{Name, Target};
+use crate::line::entry::{Name, Target};
 use indexmap::IndexSet;
 use std::alloc::{AllocError, Global};
 
@@ -35,7 +35,7 @@ impl PatternSet {
     }
 
     /// Adds a pattern rule, and returns whether it repeats none of the others.
-    #[tactic(auto, using(crate::proofs::PatternLemmas::key_added))]
+    #[tactic(auto, using(crate::proofs::lemmas::book::PatternLemmas::key_added))]
     pub(crate) fn insert(&mut self, pattern: &Pattern) -> Result<bool, AllocError>
         ensures told { IfOk result (λ is_new. is_new ≡ not (has_pattern self.old pattern.now)) }
         ensures added { OnOk result ((rule : Entry)

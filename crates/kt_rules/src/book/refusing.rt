@@ -3,14 +3,15 @@ ghost use Rattle.std.specs.Prelude.{◌≡◌, ◌||◌, option_map, is_none, �
 ghost use Rattle.std.specs.List.{list_any};
 ghost use Rattle.kt_rules.specs.Book.{beside_group_in, both_colons_in, differ_in_colons, is_beside_group, is_double};
 ghost use Rattle.kt_rules.specs.Book.{is_group, is_made, recipes_of, refusal_of, rules_of, two_recipes_in, xor};
-ghost use Rattle.kt_rules.specs.Refusals.{ReportsFault, rule_line_fault, refusal_view};
-ghost use Rattle.kt_rules.specs.Targets.{target_view};
+ghost use Rattle.kt_rules.specs.inner.Refusals.{ReportsFault, refusal_view};
+ghost use Rattle.kt_rules.specs.Refusals.{rule_line_fault};
+ghost use Rattle.kt_rules.specs.views.Targets.{target_view};
 
 use super::Book;
 use super::spots::spots_of;
 use super::target_rule::{first_rule, has_recipe, is_double, is_group, is_made};
-use crate::entry::{Entry, Kind};
 use crate::fault::RuleFault;
+use crate::line::entry::{Entry, Kind};
 use crate::place::Place;
 use crate::refusal::Refusal;
 use crate::target::TargetView;

@@ -1,7 +1,7 @@
 //! The rows of a book.
 //! Fast: a rule is a row of 40 bytes, with numbers in the place of its lists and of its static pattern. Spares 20
 //! bytes a list, and the list where another rule has it, too.
-use crate::entry::Kind;
+use crate::line::entry::Kind;
 use crate::place::Place;
 
 /// A row of a book: a rule by numbers of a dictionary.

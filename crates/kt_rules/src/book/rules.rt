@@ -6,12 +6,12 @@
 ghost use Rattle.std.specs.Prelude.{◌≡◌, ◌++◌, ◌∷◌, [], ℕ, All, List, Some, false, flat_map, length, take};
 ghost use Rattle.std.specs.Prelude.{None, option_map, slice_get, unwrap_or, if◌then◌else◌, IfOk, IfSome, IsTrue, OnErr, OnOk};
 ghost use Rattle.std.specs.List.{Contains};
-ghost use Rattle.kt_list.specs.Names.{AreBelow, place_of};
-ghost use Rattle.kt_list.specs.Prefixes.{HasMore};
+ghost use Rattle.kt_list.specs.views.Names.{AreBelow, place_of};
+ghost use Rattle.kt_list.specs.views.Prefixes.{HasMore};
 ghost use Rattle.kt_text.specs.Words.{Text};
 ghost use Rattle.kt_rules.specs.Book.{is_double, is_group};
-ghost use Rattle.kt_rules.specs.Known.{names_in};
-ghost use Rattle.kt_rules.specs.Targets.{entry_view};
+ghost use Rattle.kt_rules.specs.views.Known.{names_in};
+ghost use Rattle.kt_rules.specs.views.Targets.{entry_view};
 ghost use Rattle.kt_rules.specs.inner.Alike.{HaveSameNeeds, SaySame};
 ghost use Rattle.kt_rules.specs.inner.Dictionary.{GrowsDictionary, IsNumberOf};
 ghost use Rattle.kt_rules.specs.inner.Held.{AreNeeds, AreRuleNumbers, IsLast, rule_held};
@@ -20,9 +20,9 @@ use super::book_rule::BookRule;
 use super::kinds::Kinds;
 use super::row::{NeedsNumbers, Row, RuleNumbers};
 use crate::dictionary::Dictionary;
-use crate::entry::{Entry, Name, Needs, RecipeLine};
-use crate::held_needs::{HeldNeeds, PlainNeeds};
-use crate::static_pattern::StaticPattern;
+use crate::line::entry::{Entry, Name, Needs, RecipeLine};
+use crate::line::held_needs::{HeldNeeds, PlainNeeds};
+use crate::line::static_pattern::StaticPattern;
 use kt_list::{Names, Rows};
 use std::alloc::{AllocError, Global};
 use std::marker::Model;
@@ -76,7 +76,7 @@ impl Rules {
     }
 
     /// The number of rules.
-    #[tactic(auto, using(crate::proofs::HeldLemmas::rules_many))]
+    #[tactic(auto, using(crate::proofs::lemmas::book::HeldLemmas::rules_many))]
     pub(crate) fn len(&self) -> usize
         ensures { result ≡ length self.now.1 }
     {
@@ -107,21 +107,21 @@ impl Rules {
 
     /// Whether a name has this number, told without hashing.
     pub(crate) fn has_number(&self, name: &[u8], number: usize) -> bool
-        ensures { IsTrue result → place_of self.now.0 name.now ≡ Some number }
+        ensures quick { IsTrue result → place_of self.now.0 name.now ≡ Some number }
     {
         self.dictionary.has_number(name, number)
     }
 
     /// Whether there may be rules with two colons.
     pub(crate) fn may_have_double(&self) -> bool
-        ensures { result ≡ false → All (λ rule. is_double rule.kind ≡ false) self.now.1 }
+        ensures quick { result ≡ false → All (λ rule. is_double rule.kind ≡ false) self.now.1 }
     {
         self.kinds.double
     }
 
     /// Whether there may be groups.
     pub(crate) fn may_have_group(&self) -> bool
-        ensures { result ≡ false → All (λ rule. is_group rule.kind ≡ false) self.now.1 }
+        ensures quick { result ≡ false → All (λ rule. is_group rule.kind ≡ false) self.now.1 }
     {
         self.kinds.group
     }
@@ -141,7 +141,7 @@ impl Rules {
     /// Whether the rules at two places say the same of all their targets: they have the same lists of prerequisites,
     /// without a static pattern.
     pub(crate) fn say_same(&self, place: usize, other: usize) -> bool
-        ensures { IsTrue result → SaySame (slice_get self.now.1 place) (slice_get self.now.1 other) }
+        ensures quick { IsTrue result → SaySame (slice_get self.now.1 place) (slice_get self.now.1 other) }
     {
         let rows = self.rows.as_slice();
         match held_at(rows, place) {
@@ -198,7 +198,7 @@ impl Rules {
     }
 
     /// Takes all rules out again but the first ones. Their names stay.
-    #[tactic(auto, using(crate::proofs::HeldLemmas::rules_first))]
+    #[tactic(auto, using(crate::proofs::lemmas::book::HeldLemmas::rules_first))]
     pub(crate) fn truncate(&mut self, len: usize)
         ensures names { self.new.0 ≡ self.old.0 }
         ensures rules { self.new.1 ≡ take len self.old.1 }
@@ -245,7 +245,7 @@ fn lines_if(has_recipe: bool, lines: &[RecipeLine]) -> Option<&[RecipeLine]>
 
 // Whether both rows have rules that say the same of their targets, by numbers, and none has a static pattern.
 fn have_same_needs(row: &Row, other: &Row) -> bool
-    ensures { IsTrue result → HaveSameNeeds row.now other.now }
+    ensures quick { IsTrue result → HaveSameNeeds row.now other.now }
 {
     row.kind == other.kind
         && row.has_recipe == other.has_recipe
@@ -257,7 +257,7 @@ fn have_same_needs(row: &Row, other: &Row) -> bool
 
 // The numbers of the last prerequisites that several entries hold, where these have the same text.
 fn known_needs(last: &Option<LastNeeds>, needs: &HeldNeeds) -> Option<NeedsNumbers>
-    ensures { (dictionary : List Text × List (List ℕ)) → IsLast dictionary last.now
+    ensures quick { (dictionary : List Text × List (List ℕ)) → IsLast dictionary last.now
         → IfSome result (AreNeeds dictionary needs.now) }
 {
     match last {
@@ -270,8 +270,9 @@ fn known_needs(last: &Option<LastNeeds>, needs: &HeldNeeds) -> Option<NeedsNumbe
 }
 
 // Remembers the numbers of prerequisites that several entries may hold.
+// Idle: does nothing.
 fn remember(last: &mut Option<LastNeeds>, needs: HeldNeeds, numbers: NeedsNumbers)
-    ensures { (dictionary : List Text × List (List ℕ)) → IsLast dictionary last.old
+    ensures quick { (dictionary : List Text × List (List ℕ)) → IsLast dictionary last.old
         → AreNeeds dictionary needs numbers → IsLast dictionary last.new }
 {
     if let Some(needs) = needs.into_shared() {
@@ -330,7 +331,7 @@ fn number_needs(
     }
 }
 
-#[tactic(auto, using(crate::proofs::DictionaryLemmas::list_stays))]
+#[tactic(auto, using(crate::proofs::lemmas::DictionaryLemmas::list_stays))]
 fn number_lists(dictionary: &mut Dictionary, needs: &Needs) -> Result<NeedsNumbers, AllocError>
     ensures numbered { IfOk result (AreNeeds dictionary.new needs.now) }
     ensures grown { GrowsDictionary dictionary.old dictionary.new }

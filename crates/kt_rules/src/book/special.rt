@@ -6,7 +6,7 @@ ghost use Rattle.kt_text.specs.Words.{Text};
 ghost use Rattle.kt_rules.specs.Book.{phony_of};
 ghost use Rattle.kt_rules.specs.Names.{is_among, with_name};
 ghost use Rattle.kt_rules.specs.Suffixes.{all_needs, special_needs, start_suffixes, suffixes_after};
-ghost use Rattle.kt_rules.specs.Targets.{entry_view, names_view, needs_view, target_view};
+ghost use Rattle.kt_rules.specs.views.Targets.{entry_view, names_view, needs_view, target_view};
 
 use super::book_rule::BookRule;
 use super::suffixes::Suffixes;

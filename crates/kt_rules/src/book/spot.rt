@@ -1,6 +1,6 @@
 //! Where a target is in a book.
 ghost use Rattle.std.specs.Prelude.{◌≡◌, ◌<◌, ◌⊎◌, IfOk, OnErr};
-ghost use Rattle.kt_rules.specs.Slots.{spot_at};
+ghost use Rattle.kt_rules.specs.inner.Slots.{spot_at};
 
 use kt_list::narrow;
 use std::alloc::AllocError;

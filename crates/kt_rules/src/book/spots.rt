@@ -3,7 +3,7 @@
 //! three hashes of a one-line rule, and a hash for each name in the graph.
 ghost use Rattle.std.specs.Prelude.{◌≡◌, ◌++◌, ◌∷◌, [], ℕ, ◌≤◌, ◌<◌, OnErr, OnOk, if◌then◌else◌, length, nat_eq};
 ghost use Rattle.kt_rules.specs.inner.Lists.{list_at};
-ghost use Rattle.kt_rules.specs.Slots.{ForgotFrom, GrewAt, spots_at};
+ghost use Rattle.kt_rules.specs.inner.Slots.{ForgotFrom, GrewAt, spots_at};
 
 use super::lists::SpotLists;
 use super::rules::Rules;

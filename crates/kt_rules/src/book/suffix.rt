@@ -1,6 +1,7 @@
 //! Names of suffix rules, and suffixes at the end of names.
 ghost use Rattle.std.specs.Prelude.{◌≡◌, ◌≤◌, length, is_some};
-ghost use Rattle.kt_rules.specs.inner.SuffixCuts.{cut_after, earlier, end_of_length, first_cut, first_end, is_cut_inside};
+ghost use Rattle.kt_rules.specs.inner.SuffixCuts.{cut_after, earlier, end_of_length, first_cut, first_end};
+ghost use Rattle.kt_rules.specs.inner.SuffixCuts.{is_cut_inside};
 ghost use Rattle.kt_rules.specs.Suffixes.{is_cut_at, suffix_patterns};
 
 use super::suffixes::Suffixes;
@@ -14,7 +15,7 @@ pub(crate) fn is_suffix_name(suffixes: &Suffixes, name: &[u8]) -> bool
 }
 
 /// The first place at which the name is cut into two suffixes, the first having one of the lengths.
-#[tactic(auto, using(crate::proofs::SuffixLemmas::cut_at, crate::proofs::SuffixLemmas::cut_end))]
+#[tactic(auto, using(crate::proofs::lemmas::book::SuffixLemmas::cut_at, crate::proofs::lemmas::book::SuffixLemmas::cut_end))]
 pub(crate) fn first_cut(suffixes: &Names, lengths: &[usize], name: &[u8]) -> Option<usize>
     ensures { result ≡ first_cut suffixes.now lengths.now name.now }
 {
@@ -26,7 +27,7 @@ pub(crate) fn first_cut(suffixes: &Names, lengths: &[usize], name: &[u8]) -> Opt
 }
 
 // The place after a first suffix of this length, if the name is cut into two suffixes there.
-#[tactic(auto, using(crate::proofs::SuffixLemmas::cut_after_is))]
+#[tactic(auto, using(crate::proofs::lemmas::book::SuffixLemmas::cut_after_is))]
 fn cut_after(suffixes: &Names, name: &[u8], front: usize) -> Option<usize>
     ensures { result ≡ cut_after suffixes.now name.now front }
 {
@@ -52,7 +53,7 @@ fn is_cut_at(suffixes: &Names, name: &[u8], place: usize) -> bool
 }
 
 /// The number of the first suffix that the name ends with, among suffixes of the lengths.
-#[tactic(auto, using(crate::proofs::SuffixLemmas::end_at, crate::proofs::SuffixLemmas::end_end))]
+#[tactic(auto, using(crate::proofs::lemmas::book::SuffixLemmas::end_at, crate::proofs::lemmas::book::SuffixLemmas::end_end))]
 pub(crate) fn first_end(suffixes: &Names, lengths: &[usize], name: &[u8]) -> Option<usize>
     ensures { result ≡ first_end suffixes.now lengths.now name.now }
 {
@@ -64,7 +65,7 @@ pub(crate) fn first_end(suffixes: &Names, lengths: &[usize], name: &[u8]) -> Opt
 }
 
 // The number of the suffix of one length that the name ends with.
-#[tactic(auto, using(crate::proofs::SuffixLemmas::end_is))]
+#[tactic(auto, using(crate::proofs::lemmas::book::SuffixLemmas::end_is))]
 fn end_of_length(suffixes: &Names, name: &[u8], len: usize) -> Option<usize>
     ensures { result ≡ end_of_length suffixes.now name.now len }
 {

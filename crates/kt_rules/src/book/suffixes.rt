@@ -6,7 +6,7 @@ ghost use Rattle.std.specs.List.{ends_with};
 ghost use Rattle.kt_rules.specs.Names.{is_among, with_name};
 ghost use Rattle.kt_rules.specs.inner.SuffixCuts.{KeepLengths, lengths_with};
 ghost use Rattle.kt_rules.specs.Suffixes.{all_needs, start_suffixes, suffix_cut};
-ghost use Rattle.kt_rules.specs.Targets.{names_view, needs_view};
+ghost use Rattle.kt_rules.specs.views.Targets.{names_view, needs_view};
 
 use super::special::{add_needs, start_names};
 use super::suffix::{first_cut, first_end};
@@ -45,7 +45,7 @@ impl Model for Suffixes {
 
 impl Suffixes {
     /// The suffixes before any rule is read.
-    #[tactic(auto, using(crate::proofs::SuffixLemmas::own_lengths))]
+    #[tactic(auto, using(crate::proofs::lemmas::book::SuffixLemmas::own_lengths))]
     pub(crate) fn start(alloc: Global) -> Result<Suffixes, AllocError>
         ensures { IfOk result (λ suffixes. suffixes ≡ start_suffixes) }
     {
@@ -70,7 +70,7 @@ impl Suffixes {
     }
 
     /// The first place at which the name is cut into two suffixes.
-    #[tactic(auto, using(crate::proofs::SuffixLemmas::all_cuts))]
+    #[tactic(auto, using(crate::proofs::lemmas::book::SuffixLemmas::all_cuts))]
     pub(crate) fn cut(&self, name: &[u8]) -> Option<usize>
         ensures cut { result ≡ suffix_cut self.now name.now }
         ensures within { IfSome result (λ place. place ≤ length name.now) }
@@ -79,7 +79,7 @@ impl Suffixes {
     }
 
     /// The first suffix that the name ends with.
-    #[tactic(auto, using(crate::proofs::SuffixLemmas::all_ends))]
+    #[tactic(auto, using(crate::proofs::lemmas::book::SuffixLemmas::all_ends))]
     pub(crate) fn end_of(&self, name: &[u8]) -> Option<&[u8]>
         ensures { option_map (λ suffix. suffix.now) result ≡ find
             (λ suffix. ends_with nat_eq name.now suffix) self.now }
@@ -130,7 +130,7 @@ fn first_of<'s>(suffixes: &'s Names, name: &[u8]) -> Option<&'s [u8]>
 }
 
 // Adds the length of each name. If memory runs out, some may be added.
-#[tactic(auto, using(crate::proofs::SuffixLemmas::lengths_end))]
+#[tactic(auto, using(crate::proofs::lemmas::book::SuffixLemmas::lengths_end))]
 fn note_lengths(lengths: &mut IndexSet<usize>, names: &Names) -> Result<(), AllocError>
     ensures noted { OnOk result (lengths.new.keys ≡ lengths_with lengths.old.keys names.now) }
     ensures kept { KeepLengths lengths.old.keys lengths.new.keys }
@@ -142,7 +142,7 @@ fn note_lengths(lengths: &mut IndexSet<usize>, names: &Names) -> Result<(), Allo
 }
 
 // As `note_lengths`, for prerequisites.
-#[tactic(auto, using(crate::proofs::SuffixLemmas::lengths_none))]
+#[tactic(auto, using(crate::proofs::lemmas::book::SuffixLemmas::lengths_none))]
 fn note_needed(
     alloc: Global,
     lengths: &mut IndexSet<usize>,

@@ -2,21 +2,21 @@
 ghost use Rattle.std.specs.Prelude.{◌≡◌, not, ◌&&◌, is_some, option_map};
 ghost use Rattle.std.specs.List.{list_any};
 ghost use Rattle.kt_rules.specs.Book.{is_double, is_explicit, is_group, is_pattern};
-ghost use Rattle.kt_rules.specs.Slots.{first_found, rule_view, spot_rule, target_rule};
+ghost use Rattle.kt_rules.specs.inner.Slots.{first_found, spot_rule, target_rule};
+ghost use Rattle.kt_rules.specs.views.Targets.{rule_view, entry_view, needs_view};
 ghost use Rattle.kt_rules.specs.inner.SuffixCuts.{is_bare_at, may_be_bare};
 ghost use Rattle.kt_rules.specs.Suffixes.{is_bare, is_single};
 ghost use Rattle.kt_rules.specs.Entry.{needs_for};
 ghost use Rattle.kt_rules.specs.Names.{is_special};
-ghost use Rattle.kt_rules.specs.Targets.{entry_view, needs_view};
 
 use super::book_rule::BookRule;
 use super::rules::Rules;
 use super::spot::Spot;
 use super::suffix::is_suffix_name;
 use super::suffixes::Suffixes;
-use crate::entry::{Entry, Kind};
+use crate::line::entry::{Entry, Kind};
+use crate::line::refused::is_special;
 use crate::needs::NeedsView;
-use crate::refused::is_special;
 use crate::target::TargetView;
 
 /// A rule seen from one of its targets.
@@ -128,7 +128,7 @@ fn target_at<'a>(entry: BookRule<'a>, number: usize) -> Option<TargetRule<'a>>
 }
 
 // The first rule at one of the spots.
-#[tactic(auto, unfolding(crate::specs::Slots::found))]
+#[tactic(auto, unfolding(crate::specs::inner::Slots::found))]
 pub(crate) fn first_rule<'a>(rules: &'a Rules, spots: &[Spot]) -> Option<TargetRule<'a>>
     ensures { option_map rule_view result ≡ first_found rules.now.1 spots.now }
 {

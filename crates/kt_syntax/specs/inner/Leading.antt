@@ -1,6 +1,7 @@
 -- Words of blocks at the begin of a line (kati's own).
 use Rattle.std.specs.Prelude.{◌≡◌, ◌<◌, ℕ, Bool, true, false, not, ◌==◌, ◌||◌, [], ◌∷◌, ◌++◌, codes, length, Some}
-use Rattle.kt_syntax.specs.Prelude.{list_all, Text, is_blank, Directive, block_word}
+use Rattle.kt_syntax.specs.inner.Prelude.{list_all, is_blank, block_word}
+use Rattle.kt_syntax.specs.Prelude.{Text, Directive}
 use Rattle.kt_syntax.specs.declared.form.Directive.TheVariants.{Ifdef, Ifndef, Ifeq, Ifneq, Else, Endif, Define, Endef}
 use Rattle.kt_syntax.specs.declared.form.Directive.TheVariants.{Include, OptionalInclude}
 use Rattle.kt_syntax.specs.inner.OwnRuns.{begins_operator, ends_own_name}
@@ -54,3 +55,10 @@ abbrev pub may_be_word : Text → Bool
 may_be_word [] = false
 may_be_word (byte ∷ word) = byte == 45 || byte == 100 || byte == 101 || byte == 105 || byte == 108 || byte == 111
     || byte == 112 || byte == 115 || byte == 117 || byte == 118
+
+-- whether a line begins with a blank, with a backslash, which may be that of a continuation, with a byte of a line's
+-- end, or with a letter that words of blocks begin with
+abbrev pub may_open : Text → Bool
+may_open [] = false
+may_open (byte ∷ text) = byte == 32 || byte == 9 || byte == 92 || byte == 10 || byte == 13 || byte == 100 || byte == 101
+    || byte == 105

@@ -1,6 +1,7 @@
 -- What the walks over a line's symbols return (kati's own).
 use Rattle.std.specs.Prelude.{ℕ, List, ◌≡◌, ◌≤◌, Option, length, option_map, take}
-use Rattle.kt_syntax.specs.Prelude.{Text, assignment_parts, mask_of}
+use Rattle.kt_syntax.specs.Prelude.{Text, mask_of}
+use Rattle.kt_syntax.specs.inner.Prelude.{assignment_parts}
 use Rattle.kt_syntax.specs.declared.kind.Parts.{Parts}
 
 -- the symbols of a given number of first bytes of a line

@@ -1,5 +1,6 @@
 -- Steps by their parts and places (kati's own).
-use Rattle.kt_syntax.specs.Prelude.{ℕ, zero, suc, List, slice_get, unwrap_or, BlockPart, BlockStep}
+use Rattle.kt_syntax.specs.inner.Prelude.{ℕ, zero, suc, List, slice_get, unwrap_or}
+use Rattle.kt_syntax.specs.Prelude.{BlockPart, BlockStep}
 use Rattle.kt_syntax.specs.declared.part.BlockPart.TheVariants as part
 use Rattle.kt_syntax.specs.declared.step.BlockStep.TheVariants as step
 

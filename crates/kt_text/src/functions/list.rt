@@ -2,7 +2,8 @@
 ghost use Rattle.std.specs.Prelude.{◌≡◌, ◌∷◌, ◌++◌, ◌-◌, List, length, Some};
 ghost use Rattle.std.specs.List.{slice_range};
 ghost use Rattle.kt_text.specs.Words.{Text, list_text, words_of};
-ghost use Rattle.kt_text.specs.Functions.{Answers, joined_pairs, word_at, strip_of, word_of, wordlist_of};
+ghost use Rattle.kt_text.specs.views.Functions.{Answers};
+ghost use Rattle.kt_text.specs.Functions.{joined_pairs, word_at, strip_of, word_of, wordlist_of};
 ghost use Rattle.kt_text.specs.Functions.{words_count_of, firstword_of, lastword_of, join_of};
 
 use crate::cut::words as words_of_text;
@@ -13,7 +14,7 @@ use crate::word_runs::Words;
 use std::alloc::Global;
 
 /// `$(strip TEXT)`.
-#[tactic(auto, using(crate::proofs::ListLemmas::put_words_is), unfolding(crate::specs::Functions::strip_of))]
+#[tactic(auto, using(crate::proofs::lemmas::ListLemmas::put_words_is), unfolding(crate::specs::Functions::strip_of))]
 pub fn strip(alloc: Global, text: &[u8]) -> Result<Vec<u8>, TextFault>
     ensures { Answers result (Some (strip_of text.now)) }
 {
@@ -47,7 +48,7 @@ pub fn wordlist(alloc: Global, first: &[u8], last: &[u8], text: &[u8]) -> Result
 }
 
 // The words from a place on up to another, counted from 0.
-#[tactic(auto, using(crate::proofs::ListLemmas::put_words_is, crate::proofs::ListLemmas::range_steps))]
+#[tactic(auto, using(crate::proofs::lemmas::ListLemmas::put_words_is, crate::proofs::lemmas::ListLemmas::range_steps))]
 fn words_between(alloc: Global, text: &[u8], start: usize, end: usize) -> Result<Vec<u8>, TextFault>
     ensures { Answers result (Some (list_text (slice_range (words_of text.now) start end))) }
 {
@@ -106,7 +107,7 @@ fn word_at(text: &[u8], i: usize) -> &[u8]
     words_of_text(text).nth(i).unwrap_or(b"")
 }
 
-#[tactic(auto, using(crate::proofs::ListLemmas::last_word_is))]
+#[tactic(auto, using(crate::proofs::lemmas::ListLemmas::last_word_is))]
 fn last_word(text: &[u8]) -> &[u8]
     ensures { result.now ≡ word_at (words_of text.now) (length (words_of text.now) - 1) }
 {
@@ -118,7 +119,7 @@ fn last_word(text: &[u8]) -> &[u8]
 }
 
 /// `$(join LIST,LIST)`.
-#[tactic(auto, using(crate::proofs::ListLemmas::join_steps), unfolding(crate::specs::Functions::join_of))]
+#[tactic(auto, using(crate::proofs::lemmas::ListLemmas::join_steps), unfolding(crate::specs::Functions::join_of))]
 pub fn join(alloc: Global, first: &[u8], second: &[u8]) -> Result<Vec<u8>, TextFault>
     ensures { Answers result (Some (join_of first.now second.now)) }
 {
@@ -134,7 +135,7 @@ pub fn join(alloc: Global, first: &[u8], second: &[u8]) -> Result<Vec<u8>, TextF
 }
 
 // The next word, or an empty text.
-#[tactic(auto, using(crate::proofs::ListLemmas::pair_steps))]
+#[tactic(auto, using(crate::proofs::lemmas::ListLemmas::pair_steps))]
 fn next_or_empty<'a>(words: &mut Words<'a>) -> &'a [u8]
     ensures { (first : Text) (firsts : List Text) → joined_pairs (first ∷ firsts) words.old ≡ (first ++ result.now)
         ∷ joined_pairs firsts words.new }

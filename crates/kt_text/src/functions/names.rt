@@ -1,6 +1,7 @@
 //! Functions on file names.
 ghost use Rattle.std.specs.Prelude.{◌≡◌, ◌≤◌, length, Some};
-ghost use Rattle.kt_text.specs.Functions.{Answers, dir_part, name_place, suffix_place, dir_of, notdir_of, suffix_of};
+ghost use Rattle.kt_text.specs.views.Functions.{Answers};
+ghost use Rattle.kt_text.specs.Functions.{dir_part, name_place, suffix_place, dir_of, notdir_of, suffix_of};
 ghost use Rattle.kt_text.specs.Functions.{basename_of, addsuffix_of, addprefix_of};
 
 use crate::cut::words;
@@ -10,7 +11,7 @@ use memchr::memrchr;
 use std::alloc::Global;
 
 /// `$(dir NAMES)`.
-#[tactic(auto, using(crate::proofs::ListLemmas::put_words_is), unfolding(crate::specs::Functions::dir_of))]
+#[tactic(auto, using(crate::proofs::lemmas::ListLemmas::put_words_is), unfolding(crate::specs::Functions::dir_of))]
 pub fn dir(alloc: Global, names: &[u8]) -> Result<Vec<u8>, TextFault>
     ensures { Answers result (Some (dir_of names.now)) }
 {
@@ -22,7 +23,7 @@ pub fn dir(alloc: Global, names: &[u8]) -> Result<Vec<u8>, TextFault>
 }
 
 /// `$(notdir NAMES)`.
-#[tactic(auto, using(crate::proofs::ListLemmas::put_words_is), unfolding(crate::specs::Functions::notdir_of))]
+#[tactic(auto, using(crate::proofs::lemmas::ListLemmas::put_words_is), unfolding(crate::specs::Functions::notdir_of))]
 pub fn notdir(alloc: Global, names: &[u8]) -> Result<Vec<u8>, TextFault>
     ensures { Answers result (Some (notdir_of names.now)) }
 {
@@ -34,7 +35,7 @@ pub fn notdir(alloc: Global, names: &[u8]) -> Result<Vec<u8>, TextFault>
 }
 
 /// `$(suffix NAMES)`.
-#[tactic(auto, using(crate::proofs::ListLemmas::put_words_is), unfolding(crate::specs::Functions::suffix_of))]
+#[tactic(auto, using(crate::proofs::lemmas::ListLemmas::put_words_is), unfolding(crate::specs::Functions::suffix_of))]
 pub fn suffix(alloc: Global, names: &[u8]) -> Result<Vec<u8>, TextFault>
     ensures { Answers result (Some (suffix_of names.now)) }
 {
@@ -46,7 +47,7 @@ pub fn suffix(alloc: Global, names: &[u8]) -> Result<Vec<u8>, TextFault>
 }
 
 /// `$(basename NAMES)`.
-#[tactic(auto, using(crate::proofs::ListLemmas::put_words_is), unfolding(crate::specs::Functions::basename_of))]
+#[tactic(auto, using(crate::proofs::lemmas::ListLemmas::put_words_is), unfolding(crate::specs::Functions::basename_of))]
 pub fn basename(alloc: Global, names: &[u8]) -> Result<Vec<u8>, TextFault>
     ensures { Answers result (Some (basename_of names.now)) }
 {
@@ -58,7 +59,7 @@ pub fn basename(alloc: Global, names: &[u8]) -> Result<Vec<u8>, TextFault>
 }
 
 /// `$(addsuffix SUFFIX,NAMES)`.
-#[tactic(auto, using(crate::proofs::ListLemmas::put_words_is), unfolding(crate::specs::Functions::addsuffix_of))]
+#[tactic(auto, using(crate::proofs::lemmas::ListLemmas::put_words_is), unfolding(crate::specs::Functions::addsuffix_of))]
 pub fn addsuffix(alloc: Global, suffix: &[u8], names: &[u8]) -> Result<Vec<u8>, TextFault>
     ensures { Answers result (Some (addsuffix_of suffix.now names.now)) }
 {
@@ -70,7 +71,7 @@ pub fn addsuffix(alloc: Global, suffix: &[u8], names: &[u8]) -> Result<Vec<u8>, 
 }
 
 /// `$(addprefix PREFIX,NAMES)`.
-#[tactic(auto, using(crate::proofs::ListLemmas::put_words_is), unfolding(crate::specs::Functions::addprefix_of))]
+#[tactic(auto, using(crate::proofs::lemmas::ListLemmas::put_words_is), unfolding(crate::specs::Functions::addprefix_of))]
 pub fn addprefix(alloc: Global, prefix: &[u8], names: &[u8]) -> Result<Vec<u8>, TextFault>
     ensures { Answers result (Some (addprefix_of prefix.now names.now)) }
 {
@@ -92,7 +93,7 @@ fn dir_part(word: &[u8]) -> &[u8]
 }
 
 // Where the part after the last slash begins.
-#[tactic(auto, using(crate::proofs::NameLemmas::name_places))]
+#[tactic(auto, using(crate::proofs::lemmas::NameLemmas::name_places))]
 fn name_place(word: &[u8]) -> usize
     ensures value { result ≡ name_place word.now }
     ensures bound { result ≤ length word.now }
@@ -104,7 +105,7 @@ fn name_place(word: &[u8]) -> usize
 }
 
 // Where the last dot after the last slash stands, or the name's end.
-#[tactic(auto, using(crate::proofs::NameLemmas::name_places))]
+#[tactic(auto, using(crate::proofs::lemmas::NameLemmas::name_places))]
 fn suffix_place(word: &[u8]) -> usize
     ensures value { result ≡ suffix_place word.now }
     ensures bound { result ≤ length word.now }

@@ -4,7 +4,8 @@ ghost use Rattle.std.specs.Borrow.{Bor};
 ghost use Rattle.std.specs.List.{list_any};
 ghost use Rattle.kt_text.specs.Words.{Text, words_of};
 ghost use Rattle.kt_text.specs.Match.{stem_span};
-ghost use Rattle.kt_text.specs.Functions.{matches_held, matches_some, occurs, quotes_percent};
+ghost use Rattle.kt_text.specs.inner.Patterns.{matches_held};
+ghost use Rattle.kt_text.specs.Functions.{matches_some, occurs, quotes_percent};
 
 use crate::cut::words;
 use crate::pattern::{has_percent, match_pattern};
@@ -20,7 +21,7 @@ pub(crate) struct WordPatterns<'a> {
 }
 
 impl<'a> WordPatterns<'a> {
-    #[tactic(auto, using(crate::proofs::PatternLemmas::wildcard_more, crate::proofs::PatternLemmas::literal_more))]
+    #[tactic(auto, using(crate::proofs::lemmas::PatternLemmas::wildcard_more, crate::proofs::lemmas::PatternLemmas::literal_more))]
     pub(crate) fn new(alloc: Global, text: &'a [u8]) -> Result<WordPatterns<'a>, AllocError>
         ensures { IfOk result (λ patterns. (word : Bor Text)
             → matches_held patterns.literals.keys patterns.wildcards.items word.now

@@ -1,7 +1,8 @@
 //! Words in byte order.
 ghost use Rattle.std.specs.Prelude.{◌≡◌, Some, IfOk};
 ghost use Rattle.kt_text.specs.Words.{words_of};
-ghost use Rattle.kt_text.specs.Functions.{Answers, word_set, sort_of};
+ghost use Rattle.kt_text.specs.views.Functions.{Answers};
+ghost use Rattle.kt_text.specs.Functions.{word_set, sort_of};
 
 use crate::cut::words;
 use crate::fault::TextFault;
@@ -10,7 +11,7 @@ use crate::sort_key::SortKey;
 use std::alloc::{AllocError, Global};
 
 /// `$(sort LIST)`.
-#[tactic(auto, using(crate::proofs::ListLemmas::put_words_is), unfolding(crate::specs::Functions::sort_of))]
+#[tactic(auto, using(crate::proofs::lemmas::ListLemmas::put_words_is), unfolding(crate::specs::Functions::sort_of))]
 pub fn sort(alloc: Global, text: &[u8]) -> Result<Vec<u8>, TextFault>
     ensures { Answers result (Some (sort_of text.now)) }
 {

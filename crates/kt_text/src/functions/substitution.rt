@@ -1,7 +1,8 @@
 //! Functions that replace and select.
 ghost use Rattle.std.specs.Prelude.{◌≡◌, OnOk, Some};
-ghost use Rattle.kt_text.specs.Words.{put_word};
-ghost use Rattle.kt_text.specs.Functions.{Answers, patsubst_word, with_stem, subst_of, findstring_of, patsubst_of};
+ghost use Rattle.kt_text.specs.views.Words.{put_word};
+ghost use Rattle.kt_text.specs.views.Functions.{Answers};
+ghost use Rattle.kt_text.specs.Functions.{patsubst_word, with_stem, subst_of, findstring_of, patsubst_of};
 ghost use Rattle.kt_text.specs.Functions.{filter_of, filter_out_of};
 
 use crate::cut::words;
@@ -36,7 +37,7 @@ pub fn findstring(alloc: Global, find: &[u8], text: &[u8]) -> Result<Vec<u8>, Te
 /// `$(patsubst PATTERN,REPLACEMENT,TEXT)`.
 ///
 /// `\%` in the pattern or the replacement is no argument that kati takes.
-#[tactic(auto, using(crate::proofs::ListLemmas::put_words_is), unfolding(crate::specs::Functions::patsubst_of))]
+#[tactic(auto, using(crate::proofs::lemmas::ListLemmas::put_words_is), unfolding(crate::specs::Functions::patsubst_of))]
 pub fn patsubst(
     alloc: Global,
     pattern: &[u8],
@@ -88,7 +89,7 @@ fn add_with_stem(list: &mut Vec<u8>, replacement: &[u8], stem: &[u8]) -> Result<
 /// `$(filter PATTERNS,TEXT)`.
 ///
 /// `\%` in the patterns is no argument that kati takes.
-#[tactic(auto, using(crate::proofs::ListLemmas::put_words_is), unfolding(crate::specs::Functions::filter_of))]
+#[tactic(auto, using(crate::proofs::lemmas::ListLemmas::put_words_is), unfolding(crate::specs::Functions::filter_of))]
 pub fn filter(alloc: Global, patterns: &[u8], text: &[u8]) -> Result<Vec<u8>, TextFault>
     ensures { Answers result (filter_of patterns.now text.now) }
 {
@@ -108,7 +109,7 @@ pub fn filter(alloc: Global, patterns: &[u8], text: &[u8]) -> Result<Vec<u8>, Te
 /// `$(filter-out PATTERNS,TEXT)`.
 ///
 /// `\%` in the patterns is no argument that kati takes.
-#[tactic(auto, using(crate::proofs::ListLemmas::put_words_is), unfolding(crate::specs::Functions::filter_out_of))]
+#[tactic(auto, using(crate::proofs::lemmas::ListLemmas::put_words_is), unfolding(crate::specs::Functions::filter_out_of))]
 pub fn filter_out(alloc: Global, patterns: &[u8], text: &[u8]) -> Result<Vec<u8>, TextFault>
     ensures { Answers result (filter_out_of patterns.now text.now) }
 {

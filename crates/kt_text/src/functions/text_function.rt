@@ -1,6 +1,6 @@
 //! The text functions by their names, with numbers of arguments, and one call that applies each.
 ghost use Rattle.std.specs.Prelude.{◌≡◌, ◌≤◌, find};
-ghost use Rattle.kt_text.specs.Functions.{Answers};
+ghost use Rattle.kt_text.specs.views.Functions.{Answers};
 ghost use Rattle.kt_text.specs.TextFunctions.{applied, arity, function_row, has_name, text_function, text_function_name};
 
 use crate::fault::TextFault;

@@ -1,10 +1,11 @@
 -- Each plan that a run means is the graph of what its goals need.
 use Rattle.std.proofs.Common.{◌≡◌, ◌≢◌, ◌⊎◌, ℕ, zero, suc, Bool, true, false, not, cond, List, [], ◌∷◌, ◌++◌, map, Option, Ok, refl, sym, ap, ◌∙◌, subst, ⊎_elim, inl, inr, arith}
 use Rattle.kati.proofs.Common.{AllPairs, Contains, list_any, IsStrictlySortedBy, false≢true, flat_map-cons, Contains-append_cases, Contains-append_right, Text, Entry, Makefile, Trace, traced, Gave, IsSoundGraph, groups_of, leader_name, made_nodes, Node, is_leaf, node_of, IsGraph, IsMade, Contains-from_map, Contains-map, Contains-none, in_filter, kept_by_filter, outputs, IsWritable, Plan, Statement, Meaning, MeansGoals, WantedGoals, prepared, always_build, always_built, command_for, first_output, has_implicit, outs_of, plan_groups, plan_of, statement_of, with_always_built, gave_both, first_or_rest, from_flat_map, in_first, in_flat_map, in_rest}
-use Rattle.kati.specs.Exact.{IsAlwaysBuilt, IsMadeOnce, IsOfGroup, PlansAreGraphs, StandInOrder, TellsGraph}
+use Rattle.kati.specs.Exact.{IsAlwaysBuilt, IsMadeOnce, IsOfGroup, StandInOrder, TellsGraph}
+use Rattle.kati.specs.views.Plans.{PlansAreGraphs}
 use Rattle.kati.proofs.lemmas.plan.PlanLemmas.{law, name_in, name_reached, order, outs_in, outs_told, statements_in}
 use Rattle.kati.proofs.lemmas.meaning.ReadBackLemmas.{has_plan, plan_given, read_back, went_on}
-use Rattle.kt_graph.proofs.lemmas.faults.TroubleLemmas.{of_node}
+use Rattle.kt_graph.proofs.lemmas.nodes.FoundLemmas.{of_node}
 
 -- ---- names that differ
 

@@ -1,11 +1,11 @@
 -- A result that isn't too deep with a limit is the same with a larger one.
 use Rattle.std.proofs.Common.{rules, ℕ, zero, suc, ◌+◌, ◌-◌, List, [], ◌∷◌, ◌++◌, refl, subst, inl, inr, arith, codes}
 use Rattle.kati.proofs.Common.{Text, Entry, Store, Makefile, Trace, traced, StepEnd, Gave, Stopped, leaving, Macros, Node, Plan, Statement, Args, Meaning, Means, MeansAfter, MeansGoals, WantedGoals, meaning_of, prepared, wanted_by, command_for, plan_groups, planned, statement_of}
-use Rattle.kt_eval.specs.Growing as growing
+use Rattle.kt_eval.specs.views.Growing as growing
 use Rattle.kt_eval.proofs.lemmas.GrowingReads.{expanding_stays, reading_stays}
 use Rattle.kt_recipe.proofs.DeeperLemmas.{Stays, command_stays, leaving_stays, then_stays}
 use Rattle.kati.specs.Goals.{chosen_goals, default_goal_text}
-use Rattle.kati.specs.Limits.{IsRunTooDeep, OnlyCuts, OnlyCutsRuns, with_limit}
+use Rattle.kati.specs.views.Limits.{IsRunTooDeep, OnlyCuts, OnlyCutsRuns, with_limit}
 use Rattle.kati.specs.Listing.{listed}
 use Rattle.kati.specs.Makefile.{makefile_read}
 use Rattle.kati.proofs.lemmas.RunLemmas.{graph_if_plan}

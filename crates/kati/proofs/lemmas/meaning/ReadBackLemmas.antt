@@ -1,7 +1,7 @@
 -- Each plan that a run means can be written, and is read back.
 use Rattle.std.proofs.Common.{arith, ◌≡◌, ℕ, Bool, true, false, List, [], Option, Some, None, Result, Ok, Err, refl, sym, ap, ◌∙◌, subst, inl, inr}
 use Rattle.kati.proofs.Common.{option_and_then, false≢true, Text, Fault, Store, Trace, traced, StepEnd, Gave, Stopped, leaving, groups_of, Node, Plan, Statement, IsWritable, Obstacle, no_output, bad_name, bad_command, repeated, not_an_output, obstacle_of_statements, texts_exactly, printed_is_read, Args, Meaning, Means, MeansAfter, MeansGoals, WantedGoals, meaning_of, prepared, plan_groups, plan_of, plan_unless, planned, text_fault, unwritable_in, written, gave_both}
-use Rattle.kati.specs.Once.{PlansReadBack}
+use Rattle.kati.specs.views.Plans.{PlansReadBack}
 use Rattle.kati.specs.Steps.{telling}
 use Rattle.kati.specs.inner.Views.{is_text_trouble}
 use Rattle.kati.proofs.lemmas.plan.PlanLemmas.{can_be_written, outs_told, text_troubles}

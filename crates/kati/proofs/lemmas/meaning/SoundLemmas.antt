@@ -2,12 +2,13 @@
 use Rattle.std.proofs.Common.{arith, ◌≡◌, ◌≢◌, ◌⊎◌, ℕ, Bool, true, false, not, List, [], ◌∷◌, ◌++◌, flat_map, Option, Result, Ok, Err, refl, sym, ap, ◌∙◌, subst, ⊎_elim, inl, inr, IfOk}
 use Rattle.kati.proofs.Common.{Contains, bytes_eq, true≢false, Contains-append_cases, Contains-append_left, Contains-append_right, bytes_eq-Decides, Text, Entry, is_among, without_repeats, Stop, Makefile, Trace, Ends, groups_of, Node, all_inputs, inputs_of, order_only_of, always_name, canon_of, is_reserved, HasEdge, IsInGroup, IsMade, IsReached, Leads, reached_on, Contains-from_map, Contains-map, Contains-none, kept_by_filter, from_without_repeats, outputs, Plan, Statement, IsWritable, Meaning, MeansGoals, WantedGoals, always_build, always_built, implicit_of, joined_inputs, joined_order_only, outs_of, statement_of, first_or_rest, from_flat_map, in_flat_map}
 use Rattle.kati.specs.Exact.{IsAlwaysBuilt, IsOfGroup, TellsGraph}
-use Rattle.kati.specs.Sound.{IsSoundPlan, IsUnreserved, NeedsInput, NeedsItself, PlansAreSound}
+use Rattle.kati.specs.Sound.{IsSoundPlan, IsUnreserved, NeedsInput, NeedsItself}
+use Rattle.kati.specs.views.Plans.{PlansAreSound}
 use Rattle.kati.specs.inner.Views.{GoalsEnd}
 use Rattle.kati.proofs.lemmas.meaning.ExactLemmas.{are_graphs, goals_told, of_group}
 use Rattle.kati.proofs.lemmas.MeaningLemmas.{meant}
 use Rattle.kati.proofs.lemmas.plan.PlanLemmas.{always_reserved, law, name_in, outs_in}
-use Rattle.kt_graph.proofs.lemmas.faults.TroubleLemmas.{of_node}
+use Rattle.kt_graph.proofs.lemmas.nodes.FoundLemmas.{of_node}
 use Rattle.kt_graph.proofs.lemmas.nodes.GroupLaw.{in_graph}
 
 -- ---- the inputs of a group's statement

@@ -2,7 +2,8 @@
 use Rattle.std.proofs.Common.{rules, ◌≡◌, ℕ, ◌+◌, Bool, true, false, not, List, [], ◌∷◌, ◌++◌, length, Option, Some, None, refl, sym, ap, ◌∙◌, arith, zero, suc, ◌||◌, min, slice_get}
 use Rattle.kati.proofs.Common.{list_any, length-append, Text, Entry, without_repeats, StepEnd, Gave, Stopped, Fails, done, then_do, Macros, Stop, Node, Statement, is_empty, command_for, has_implicit, implicit_of, plan_groups, statement_of, with_always_built}
 use Rattle.kt_eval.specs.declared.stop.Stop.TheVariants as stops
-use Rattle.kati.specs.inner.plan.Drawn.{AlwaysFirst, GroupSketch, always_drawn, drawn_of, statement_drawn, statements_drawn}
+use Rattle.kati.specs.inner.plan.Drawn.{AlwaysFirst, GroupSketch, always_drawn, drawn_of, statement_drawn}
+use Rattle.kati.specs.inner.plan.Drawn.{statements_drawn}
 use Rattle.kati.proofs.lemmas.plan.SingleLemmas.{own_inputs, own_order_only}
 
 -- what is stored for a group gives its statement

@@ -5,10 +5,10 @@ use Rattle.std.proofs.lemmas.List.Kept.{AllPairs-cons}
 use Rattle.std.proofs.lemmas.Map.Text.{is_eq-slice_cmp}
 use Rattle.kt_graph.proofs.lemmas.nodes.GroupLaw.{are_groups, in_graph, itself_together}
 use Rattle.kt_ninja.specs.Plan as plans
-use Rattle.kt_ninja.specs.View.{statement_names}
+use Rattle.kt_ninja.specs.views.View.{statement_names}
 use Rattle.kati.specs.inner.Stops.{IsFaultOf}
 use Rattle.kati.specs.inner.Views.{is_text_trouble}
-use Rattle.kt_graph.proofs.lemmas.faults.TroubleLemmas.{of_node}
+use Rattle.kt_graph.proofs.lemmas.nodes.FoundLemmas.{of_node}
 
 abbrev pub order : Text → Text → Ordering
 order = slice_cmp nat_cmp

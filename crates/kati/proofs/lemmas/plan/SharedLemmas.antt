@@ -1,7 +1,7 @@
 -- Groups whose members share their inputs.
 use Rattle.std.proofs.Common.{◌≡◌, true, not, ◌||◌, List, [], ◌∷◌, take, filter, flat_map, fold, refl, sym, ◌∙◌, ap, append-nil, nat_eq}
 use Rattle.kati.proofs.Common.{Contains, pointwise, or_right, bytes_eq-Decides, flat_map-cons, fold-append, in_first, in_rest, Text, is_among, with_name, without_repeats, Node, inputs_of, order_only_of, ShareInputs, joined_inputs, joined_order_only}
-use Rattle.kt_rules.proofs.BookLemmas.{among_fold}
+use Rattle.kt_rules.proofs.lemmas.book.BookLemmas.{among_fold}
 
 -- names that are there are not added
 all_there : (set more : List Text) → ((name : Text) → is_among more name ≡ true → is_among set name ≡ true)

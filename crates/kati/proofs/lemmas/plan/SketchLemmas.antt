@@ -3,10 +3,11 @@ use Rattle.std.proofs.Common.{◌≡◌, ℕ, Bool, true, false, List, [], ◌�
 use Rattle.kati.proofs.Common.{list_all, list_any, option_to_list, and_from, and_parts, Text, is_writable_making, made_by}
 use Rattle.std.proofs.Math.Seq.{take-append_seam}
 use Rattle.std.specs.Result.{is_err}
-use Rattle.kt_list.specs.Rows.{with_item}
+use Rattle.kt_list.specs.views.Rows.{with_item}
 use Rattle.kt_list.proofs.RowLemmas.{item_last}
-use Rattle.kt_recipe.specs.Views.{command_in}
-use Rattle.kati.specs.inner.plan.Drawn.{BoxedJoined, GroupSketch, all_drawn, first_joined, is_written, joined_view, no_drawn}
+use Rattle.kt_recipe.specs.views.Commands.{command_in}
+use Rattle.kati.specs.inner.plan.Drawn.{BoxedJoined, GroupSketch, all_drawn, first_joined, is_written, joined_view}
+use Rattle.kati.specs.inner.plan.Drawn.{no_drawn}
 
 abbrev pub drawn_by : Text → List BoxedJoined → Bool → GroupSketch
 drawn_by command row one = record { always = one; joined = first_joined row; command = command_in command }

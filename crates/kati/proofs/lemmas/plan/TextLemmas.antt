@@ -1,10 +1,10 @@
 -- All texts of a plan can be written, if the names of its graph and its commands can.
 use Rattle.std.proofs.Common.{arith, ◌≡◌, ℕ, Bool, true, false, not, ◌&&◌, cond, List, [], ◌∷◌, ◌++◌, flat_map, Option, None, refl, sym, ap, subst, is_some}
 use Rattle.kati.proofs.Common.{Contains, list_all, option_and_then, and_from, and_parts, Contains-append_left, Contains-append_right, Text, Entry, is_among, without_repeats, Gave, Macros, HasInput, IsGraph, IsReached, groups_of, Node, all_inputs, inputs_of, order_only_of, all_pass, each_passes, Contains-from_map, Contains-map, kept_by_filter, reached_on, from_without_repeats, Plan, Statement, names_of, HasWritableTexts, is_writable_making, is_name, texts_unobstructed, command_for, has_phony, implicit_of, joined_inputs, joined_order_only, made_by, outs_of, plan_groups, plan_of, statement_of, text_fault, unwritable_in, with_always_built, gave_both, from_flat_map, in_first, in_rest}
-use Rattle.kt_ninja_reader.proofs.PrintedPieces.{all_both}
+use Rattle.kt_ninja_reader.proofs.lemmas.PrintedPieces.{all_both}
 use Rattle.kati.specs.inner.plan.Drawn.{GroupSketch, statements_drawn}
 use Rattle.kati.proofs.lemmas.plan.PlanLemmas.{law, name_in, statements_in}
-use Rattle.kt_graph.proofs.lemmas.faults.TroubleLemmas.{of_node}
+use Rattle.kt_graph.proofs.lemmas.nodes.FoundLemmas.{of_node}
 use Rattle.kt_graph.proofs.lemmas.nodes.GroupLaw.{in_graph}
 
 implicit_pass : (always : Bool) → list_all is_name (implicit_of always) ≡ true

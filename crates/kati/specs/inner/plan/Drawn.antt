@@ -1,12 +1,13 @@
 -- A plan that is read from the graph (kati's own).
 use Rattle.std.specs.Prelude.{◌≡◌, ◌&&◌, List, [], ◌∷◌, Option, Some, None, is_some, false, length, true, if◌then◌else◌}
-use Rattle.kati.specs.Prelude.{list_any, Text, Entry, Node, ShareInputs, inputs_of, order_only_of, Statement, Bool}
+use Rattle.kati.specs.Prelude.{list_any, Text, Entry, Node, inputs_of, order_only_of, Statement}
+use Rattle.kati.specs.inner.Prelude.{ShareInputs, Bool}
 use Rattle.std.specs.List.{list_all}
 use Rattle.std.specs.declared.alloc.Global.{Global}
 use Rattle.std.specs.declared.boxed.Box.{Box}
 use Rattle.kt_ninja.specs.Writable.{is_writable_making}
-use Rattle.kt_ninja.specs.View.{made_by}
-use Rattle.kt_recipe.specs.Views.{command_in}
+use Rattle.kt_ninja.specs.Plan.{made_by}
+use Rattle.kt_recipe.specs.views.Commands.{command_in}
 use Rattle.kati.specs.declared.plan.sketch.JoinedNeeds.{JoinedNeeds as HeldJoined}
 use Rattle.kati.specs.plan.Planning.{always_built, has_phony, implicit_of, joined_inputs, joined_order_only}
 use Rattle.kati.specs.plan.Planning.{outs_of, with_always_built}

@@ -1,7 +1,7 @@
 -- A text without a dollar expands to itself.
 use Rattle.std.proofs.Common.{◌≡◌, false, ◌==◌, [], ◌∷◌, refl, sym, append-nil}
 use Rattle.kt_eval.proofs.Common.{or_parts, list_any, Text, dropped, literal, byte_count, terms_of, Evaluator, term_of, each_term, expanded, Gave, World}
-use Rattle.kt_syntax.proofs.Splitting.{terms_of-nil, term_first}
+use Rattle.kt_syntax.proofs.lemmas.Splitting.{terms_of-nil, term_first}
 
 uncounted : (text : Text) → list_any (λ byte. byte == 36) text ≡ false → byte_count 36 text ≡ 0
 unfolding byte_count

@@ -2,8 +2,9 @@
 use Rattle.std.proofs.Common.{◌≡◌, ℕ, zero, suc, ◌+◌, Bool, true, false, not, ◌==◌, ◌&&◌, [], ◌∷◌, length, Option, Some, None, if◌then◌else◌, refl, sym, ap, ◌∙◌, arith, true≢false, is_some}
 use Rattle.kt_eval.proofs.Common.{and_parts, eq-eqb, not-true, list_all, list_any, position_or_len, Text, is_colon, is_separator, Mark, Byte, Parentheses, Braces, Term, literal, dollar, reference, unclosed, Flavour, Deferred, Immediate, FoundValue, Nothing, Value, Whole, Store, World, lookup, Gave, refers, asked_of, request_by_mark, naming_of, Evaluator, flavoured, value_of, body_of, value_named, referred, term_of, above, evaluator}
 use Rattle.kt_eval.specs.declared.state.TermRest.{TermRest}
-use Rattle.kt_eval.specs.inner.Plain.{is_plain, put_if, left_unless, put_of, still_deferred, value_left, put_by, left_by}
-use Rattle.kt_eval.specs.expanding.Calls.{is_name_byte, names_plainly}
+use Rattle.kt_eval.specs.inner.Plain.{is_plain, put_if, left_unless, put_of, still_deferred, value_left, put_by}
+use Rattle.kt_eval.specs.inner.Plain.{left_by}
+use Rattle.kt_eval.specs.views.expanding.Calls.{is_name_byte, names_plainly}
 use Rattle.kt_eval.proofs.lemmas.expanding.LiteralLemmas.{stays}
 
 pub no_text : (text : Text) → None ≡ Some text → ⊥

@@ -3,7 +3,8 @@ use Rattle.std.proofs.Common.{◌≡◌, ℕ, List, [], Option, Result, Ok, Err,
 use Rattle.kt_eval.proofs.Common.{Text, Frame, Stop, Store, IsPrefix, Macros, World, frozen_world, AsksNothing, StepEnd, Gave, Stopped, Gives, IfCut, leaving, left_of, told, GoesOn, BlamesBy, expanded, evaluator}
 use Rattle.kt_rules.specs.declared.place.Place.{Place}
 use Rattle.kt_eval.specs.declared.stop.Stop.TheVariants as stops
-use Rattle.kt_eval.specs.expanding.Pure.{Says, expanded_pure}
+use Rattle.kt_eval.specs.views.expanding.Pure.{Says}
+use Rattle.kt_eval.specs.expanding.Pure.{expanded_pure}
 use Rattle.kt_eval.proofs.lemmas.TrailLemmas.{front_of}
 
 in_the_end : (w : World) (outcome : StepEnd World Text) → GoesOn w (left_of outcome) → IsPrefix w.said (left_of (leaving (λ w. w.said) outcome))

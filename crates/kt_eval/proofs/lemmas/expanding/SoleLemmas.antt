@@ -4,7 +4,7 @@ use Rattle.kt_eval.proofs.Common.{list_any, Text, Mark, reference, terms_of, Sto
 use Rattle.kt_eval.specs.reading.Conditions.{ComparedTexts}
 use Rattle.kt_eval.specs.reading.Conditionals.{are_equal}
 use Rattle.kt_eval.specs.inner.Plain.{put_of, still_deferred}
-use Rattle.kt_eval.specs.expanding.Calls.{names_plainly}
+use Rattle.kt_eval.specs.views.expanding.Calls.{names_plainly}
 use Rattle.kt_eval.proofs.lemmas.expanding.LiteralLemmas.{stays}
 use Rattle.kt_eval.proofs.lemmas.expanding.PlainLemmas.{plainly_is, value_put}
 

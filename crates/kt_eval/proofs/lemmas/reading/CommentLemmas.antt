@@ -4,7 +4,7 @@ use Rattle.kt_eval.proofs.Common.{Stop, slice_get, Items, line, blank, line_form
 use Rattle.kt_syntax.specs.declared.step.BlockStep.{BlockStep as Found}
 use Rattle.kt_syntax.specs.declared.step.BlockStep.TheVariants as step
 use Rattle.kt_eval.specs.inner.Doing.{ReadsAlike, ReadsUpTo}
-use Rattle.kt_eval.specs.Step.{Evaluation}
+use Rattle.kt_eval.specs.inner.Evaluation.{Evaluation}
 use Rattle.kt_eval.specs.expanding.Levels.{evaluator}
 
 -- the last move counts

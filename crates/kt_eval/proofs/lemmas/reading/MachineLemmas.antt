@@ -2,7 +2,8 @@
 use Rattle.std.proofs.Common.{arith, ◌≡◌, ℕ, List, [], Result, Ok, Err, refl, true}
 use Rattle.kt_eval.proofs.Common.{Text, Entry, Stop, Store, Macros, World, Frame, StepEnd, Gave, Stopped, Gives, IfCut, leaving, left_of, then_do, told, asked_for, GoesOn, evaluator, read_first}
 use Rattle.kt_eval.specs.declared.stop.Stop.TheVariants as stops
-use Rattle.kt_eval.specs.reading.Machine.{ComesBefore, Makefile, Trace, first_world, read_of, reading, trace_of, traced}
+use Rattle.kt_eval.specs.views.reading.Machine.{ComesBefore}
+use Rattle.kt_eval.specs.reading.Machine.{Makefile, Trace, first_world, read_of, reading, trace_of, traced}
 use Rattle.kt_eval.proofs.lemmas.TrailLemmas.{front_of}
 use Rattle.kt_eval.proofs.Steps.{read_first_goes}
 

@@ -3,8 +3,9 @@ use Rattle.std.proofs.Common.{◌≡◌, ℕ, ◌<◌, ⊎_elim, List, ◌∷◌
 use Rattle.kt_graph.proofs.Common.{Contains, IsStrictlySortedBy, nat_cmp, slice_cmp, map-append, All-contains, Contains-append_right, Text, Entry, Edges, AreEdgesOf, IsFirstBack, LeadsBack, IsCyclic, IsFirst, IsGraph, name_at, names_at, nodes_view, in_first, NodeTable}
 use Rattle.kt_graph.specs.inner.nodes.Graph.{IsWhole}
 use Rattle.kt_graph.proofs.lemmas.MemberLemmas.{Contains-map}
-use Rattle.kt_graph.proofs.lemmas.faults.TroubleLemmas.{in_cut, none_below}
-use Rattle.kt_graph.proofs.lemmas.nodes.WholeLemmas.{cyclic_back, is_cyclic, reached_number}
+use Rattle.kt_graph.proofs.lemmas.nodes.FoundLemmas.{in_cut, none_below}
+use Rattle.kt_graph.proofs.lemmas.faults.VertexLemmas.{cyclic_back, is_cyclic}
+use Rattle.kt_graph.proofs.lemmas.nodes.WholeLemmas.{reached_number}
 
 module _ (table : NodeTable) (order : List ℕ) (whole : IsWhole table order)
     (rules : List Entry) (known goals : List Text) (graph : IsGraph rules known goals (nodes_view table order))

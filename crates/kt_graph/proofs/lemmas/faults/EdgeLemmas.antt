@@ -1,6 +1,6 @@
 -- Edges that are added one by one.
-use Rattle.std.proofs.Common.{◌≡◌, ◌↔◌, ℕ, zero, suc, ◌+◌, ◌-◌, ◌<◌, ◌≤◌, ◌⊎◌, ⊎_elim, inl, inr, List, [], ◌∷◌, ◌++◌, map, length, get_or, set, drop, take, Vec, Global, Option, None, Some, slice_get, refl, sym, ap, ◌∙◌, subst, arith}
-use Rattle.kt_graph.proofs.Common.{Contains, range_with_len, cases_eq, cases_lt, append-nil, drop_more, get_or-map, map-append, map-set, get_or-replicate, get_or-set_same, get_or-set_other, get_or_past, length-replicate, length-set, set_past, take_more, flat_map-append, All-contains, Contains-append_left, Contains-append_right, Contains-append_cases, Contains-push, Contains-push_cases, map-range_with_len_more, fold-append, none-some, same_Some, Edges, StoredNode, stored_at, AreMadeBelow, AreNeededBelow, HaveEdges, IsRepeated, LeadToVertices, HasNext, IsEdge, LeadsTo, bare_rows, vertex_count, edges_from, edges_to, making_edges, makings_edges, needed_numbers, numbers_after, listed_number, row_by, edge_row, edge_rows, with_edge, with_edges, first_or_rest, in_first, in_rest}
+use Rattle.std.proofs.Common.{◌≡◌, ◌↔◌, ℕ, zero, suc, ◌+◌, ◌-◌, ◌<◌, ◌≤◌, ◌⊎◌, ⊎_elim, inl, inr, List, [], ◌∷◌, ◌++◌, map, length, get_or, drop, take, Option, None, Some, slice_get, refl, sym, ap, ◌∙◌, subst, arith}
+use Rattle.kt_graph.proofs.Common.{Contains, range_with_len, cases_eq, cases_lt, append-nil, drop_more, map-append, get_or-replicate, get_or-set_same, get_or-set_other, get_or_past, length-replicate, length-set, set_past, take_more, flat_map-append, All-contains, Contains-append_left, Contains-append_right, Contains-append_cases, Contains-push, Contains-push_cases, map-range_with_len_more, fold-append, none-some, same_Some, Edges, StoredNode, stored_at, AreMadeBelow, AreNeededBelow, HaveEdges, IsRepeated, LeadToVertices, HasNext, IsEdge, LeadsTo, bare_rows, vertex_count, edges_from, edges_to, making_edges, makings_edges, needed_numbers, numbers_after, listed_number, row_by, edge_row, edge_rows, with_edge, with_edges, first_or_rest, in_first, in_rest}
 use Rattle.kt_graph.proofs.lemmas.MemberLemmas.{Contains-none, Contains-map, Contains-from_map, Contains-slice_get}
 
 -- the edges of vertices from a number on, reversed
@@ -47,11 +47,6 @@ one_adds rows from to within =
     subst (λ (xs : List ℕ). Contains xs to) (sym (get_or-set_same rows from (get_or rows from [] ++ to ∷ []) [] within)) (Contains-push (get_or rows from []) to)
 
 -- a row with one more after it
-pub rows_set : (rows : List (Vec ℕ Global)) (from to : ℕ) (new old : Vec ℕ Global) → from < length rows → old ≡ get_or rows from old
-    → new.items ≡ old.items ++ to ∷ []
-    → map (λ row. row.items) (set rows from new) ≡ with_edge (map (λ row. row.items) rows) (from, to)
-rows_set rows from to new old within is pushed = grind (arith, map-set, get_or-map)
-
 -- ---- several
 
 pub edges_added : (edges : List (ℕ × ℕ)) (rows : List (List ℕ)) (from to : ℕ) → Contains (get_or (with_edges rows edges) from []) to

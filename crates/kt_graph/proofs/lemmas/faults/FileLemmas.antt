@@ -2,8 +2,8 @@
 use Rattle.std.proofs.Common.{◌≡◌, ℕ, ◌+◌, Bool, true, false, not, ◌&&◌, cond, if◌then◌else◌, List, [], ◌∷◌, ◌++◌, length, find, All, nat_eq, nat_lt, Option, None, Some, is_some, sym, ap, ◌∙◌, arith}
 use Rattle.std.specs.Map.{lookup, KeepsOthers}
 use Rattle.kt_graph.proofs.Common.{bytes_eq, ne_eqb, lt-ltb, nat_list_eq_equiv, append-nil, append_assoc, length-append, All-append, filter-append, bytes_eq-Decides, Text, held_for, made_names, several_in, Node, is_leaf, canon_of}
-use Rattle.kt_graph.specs.inner.faults.Files.{spelling_count}
-use Rattle.kt_rules.proofs.IndexLemmas.{apart}
+use Rattle.kt_graph.specs.views.faults.Files.{spelling_count}
+use Rattle.kt_rules.proofs.lemmas.IndexLemmas.{apart}
 
 -- ---- what is held of files
 

@@ -6,7 +6,7 @@ use Rattle.kt_graph.specs.nodes.Node.{Instance}
 use Rattle.kt_graph.proofs.lemmas.nodes.NumberLemmas.{parts_kept}
 use Rattle.kt_graph.proofs.lemmas.nodes.StepLemmas.{over_kept}
 use Rattle.kt_graph.proofs.lemmas.nodes.ReachLemmas.{goal_reached, inputs_all, reached_all, reached_on, reached_only, reached_stays}
-use Rattle.kt_rules.proofs.FindLemmas.{names_grow}
+use Rattle.kt_rules.proofs.lemmas.book.FindLemmas.{names_grow}
 use Rattle.kt_list.proofs.PrefixLemmas.{slice_get-left}
 
 -- what was reached is needed by goals

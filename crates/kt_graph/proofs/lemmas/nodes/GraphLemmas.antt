@@ -5,7 +5,7 @@ use Rattle.std.proofs.lemmas.List.Quantifiers.{position-Some}
 use Rattle.kt_graph.specs.inner.nodes.Graph.{AreDifferent, IsWhole}
 use Rattle.kt_graph.proofs.lemmas.MemberLemmas.{Contains-from_map, Contains-map, Contains-slice_get, slice_get-Contains}
 use Rattle.kt_graph.proofs.lemmas.nodes.NodeLemmas.{inputs_are, others_are}
-use Rattle.kt_graph.proofs.lemmas.faults.TroubleLemmas.{any_nowhere}
+use Rattle.kt_graph.proofs.lemmas.nodes.FoundLemmas.{any_nowhere}
 use Rattle.kt_graph.proofs.lemmas.nodes.WholeLemmas.{all_below, find_nowhere, find_there, names_in_order, needed_in, node_there, numbers_of}
 
 -- ---- keys of sets

@@ -1,13 +1,14 @@
 -- The groups of a graph are the names that one making makes.
 use Rattle.std.proofs.Common.{arith, rules, ◌≡◌, ◌↔◌, Bool, true, false, ◌||◌, ◌⊎◌, ⊎_elim, inl, inr, cond, List, [], ◌∷◌, map, filter, find, All, Option, None, Some, refl, sym, ap, ◌∙◌, subst}
 use Rattle.kt_graph.proofs.Common.{Contains, IsStrictlySortedBy, option_map_or, nat_cmp, Ordering, slice_cmp, bytes_eq, false≢true, or_cases, All-map, none-some, same_Some, bytes_eq-Decides, equal_when, Text, Entry, Node, is_leaf, node_of, AreOneMaking, IsGraph, IsInGroup, IsReached, beside, itself}
-use Rattle.kt_graph.specs.nodes.Groups.{AreGroups, HasBoth, IsInOne, are_together, groups_among, is_leading, is_one_making, leader_name, made_nodes}
+use Rattle.kt_graph.specs.views.nodes.Groups.{AreGroups, HasBoth, IsInOne, leader_name}
+use Rattle.kt_graph.specs.nodes.Groups.{are_together, groups_among, is_leading, is_one_making, made_nodes}
 use Rattle.kt_graph.specs.nodes.Node.{Instance}
 use Rattle.kt_graph.proofs.lemmas.nodes.GroupLemmas.{one_itself, one_same}
 use Rattle.kt_graph.proofs.lemmas.nodes.MadeLemmas.{found_in}
 use Rattle.kt_graph.proofs.lemmas.MemberLemmas.{Contains-from_map, Contains-map}
 use Rattle.kt_graph.proofs.lemmas.Membership.{in_filter, kept_by_filter}
-use Rattle.kt_graph.proofs.lemmas.faults.TroubleLemmas.{find_agree, found_nowhere, kept_rises, rises_made, of_node}
+use Rattle.kt_graph.proofs.lemmas.nodes.FoundLemmas.{find_agree, found_nowhere, kept_rises, rises_made, of_node}
 use Rattle.kt_graph.proofs.lemmas.nodes.WholeLemmas.{group_cases}
 
 abbrev order : Text → Text → Ordering

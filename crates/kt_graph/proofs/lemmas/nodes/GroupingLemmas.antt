@@ -1,7 +1,9 @@
 -- The groups of the first numbers are those of the nodes.
 use Rattle.std.proofs.Common.{◌≡◌, ℕ, suc, ◌+◌, ◌<◌, ◌≤◌, Bool, true, false, not, ◌&&◌, ◌||◌, ⊎_elim, cond, if◌then◌else◌, List, [], ◌∷◌, ◌++◌, length, drop, get_or, map, filter, find, nat_eq, Option, None, Some, IfSome, option_map, slice_get, refl, sym, ap, ◌∙◌, subst, arith}
 use Rattle.kt_graph.proofs.Common.{Contains, cons_option, prefix_len, IsStrictlySortedBy, option_and_then, option_map_or, nat_cmp, is_eq, Less, slice_cmp, bytes_eq, and_parts, cases_eq, eq-eqb, eqb-true, false≢true, true≢false, append-nil, append_assoc, drop_all, drop_more, get_or-replicate, get_or-set_other, get_or-set_same, length-replicate, length-set, map-append, All-contains, filter-append, filter_agree, prefix_len_stops, sorted_tail, is_eq-slice_cmp, All-after_first, bytes_eq-Decides, equal_when, Text, StoredNode, bare_rows, Node, instance_at, name_at, names_at, node_view, nodes_view, first_or_rest, in_first, in_rest, NodeTable}
-use Rattle.kt_graph.specs.inner.nodes.Grouping.{HasMembers, group_at, groups_left, is_first, is_made_at, is_made_with, is_same_making, leads_at, leads_by, making_at, members_by, members_of, with_member}
+use Rattle.kt_graph.specs.inner.nodes.Grouping.{HasMembers, group_at, groups_left, is_first, is_made_at, is_made_with}
+use Rattle.kt_graph.specs.inner.nodes.Grouping.{is_same_making, leads_at, leads_by, making_at, members_by, members_of}
+use Rattle.kt_graph.specs.inner.nodes.Grouping.{with_member}
 use Rattle.kt_graph.specs.nodes.Groups.{are_together, groups_among, groups_of, is_leading, is_one_making, made_nodes}
 use Rattle.kt_graph.specs.nodes.Node.{Instance}
 use Rattle.kt_graph.specs.inner.nodes.Graph.{IsWhole}

@@ -2,7 +2,7 @@
 use Rattle.std.proofs.Common.{rules, ◌≡◌, ℕ, zero, suc, Bool, true, false, ◌||◌, ◌-◌, List, [], ◌∷◌, ◌++◌, length, map, fold, take, Option, Some, slice_get, nat_eq, refl, sym, ap, subst, ◌∙◌, arith}
 use Rattle.kt_graph.proofs.Common.{list_any, pointwise, append-nil, fold-append, none-some, same_Some, bytes_eq-Decides, head_is, Needs, Target, explicit_rules, has_recipe, is_double, rule_needs, Entry, needs_for, is_among, with_name, all_needs, suffixes_of, Text, GraphBuilder, Explicit, AreTold, BuildsNode, IsLeafOf, IsLikeLast, HasLastNeeds, sole_node, part_with, IsMaking, SayParts, SaysNeeds, SaysNode, SaysPart, AreNumbersOf, HasOnePart, StoredNode, StoredPart, node_like, part_like, stored_at, Node, Part, group_of, joined_needs, needs_after, node_of, node_with, other_rules, own_part, part_of}
 use Rattle.std.proofs.Math.Bool.{or-true}
-use Rattle.kt_rules.specs.declared.entry.Kind.{Kind}
+use Rattle.kt_rules.specs.declared.line.entry.Kind.{Kind}
 use Rattle.kt_graph.specs.declared.nodes.part.PartRecipe.{PartRecipe}
 use Rattle.kt_graph.specs.nodes.Node.{Instance}
 use Rattle.kt_graph.proofs.lemmas.nodes.BuildingLemmas.{joined_first, joined_own, last_cut}

@@ -1,7 +1,7 @@
 -- Numbers for names: what holds of numbers stays when more names are reached.
 use Rattle.std.proofs.Common.{◌≡◌, ℕ, false, ◌+◌, ◌<◌, ◌≤◌, List, [], ◌∷◌, ◌++◌, length, map, fold, take, get_or, Some, slice_get, refl, sym, ap, subst, ◌∙◌, arith}
 use Rattle.kt_graph.proofs.Common.{flat_map, append-nil, append_assoc, map-append, take_more, flat_map-append, fold-append, Text, Needs, is_among, with_name, Part, StoredPart, AddsNumbers, AreNumbersOf, HasMore, numbers_push, numbers_stay, SaysNeeds, SaysPart, SayParts}
-use Rattle.kt_rules.proofs.FindLemmas.{names_grow}
+use Rattle.kt_rules.proofs.lemmas.book.FindLemmas.{names_grow}
 
 -- no name is among none
 pub none_among : (names : List Text) (name : Text) → length names ≤ 0 → is_among names name ≡ false

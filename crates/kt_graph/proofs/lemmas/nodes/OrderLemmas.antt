@@ -3,7 +3,7 @@ use Rattle.std.proofs.Common.{◌≡◌, ℕ, suc, zero, ◌+◌, ◌<◌, ◌�
 use Rattle.kt_graph.proofs.Common.{Contains, range_with_len, swap, IsPermutation, IsSorted, IsSortedBy, IsStrictlySortedBy, MatchOrdering, is_eq, is_lt, nat_cmp, ordering_then, ordering_reverse, slice_cmp, Ordering, Less, Equal, Greater, false≢true, nat_cmp_total, nat_list_cmp_total, on_total, then_total, length-map, get_or-map, map-append, take_more, All-contains, All-push, recursion_from_All, length-range_with_len, get_or-range_with_len, All-permutation, Contains-permutation, IsPermutation-keeps, IsPermutation-map, IsPermutation-swap, length_permutation, ranks_by, sorted_far, is_eq-slice_cmp, bytes_eq-Decides, slice_get-get_or, Text, Front, AreDistinct, IsByteOrder, name_at, names_at}
 use Rattle.std.specs.Cmp.{IsStrictWeakOrder, IsTotalOrder}
 use Rattle.indexmap.proofs.ReorderLemmas.{exchange, exchange-twice, exchange-within, get_or-swap}
-use Rattle.kt_text.proofs.SortLemmas.{fronts_decide}
+use Rattle.kt_text.proofs.lemmas.SortLemmas.{fronts_decide}
 use Rattle.kt_graph.specs.inner.nodes.Fronts.{AreFronts, IsFront, front_cmp}
 
 -- ---- numbers that differ

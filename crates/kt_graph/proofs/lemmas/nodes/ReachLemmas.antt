@@ -2,7 +2,7 @@
 use Rattle.std.proofs.Common.{rules, ◌≡◌, Bool, true, false, not, cond, if◌then◌else◌, List, [], ◌∷◌, ◌++◌, filter, fold, Contains, All, refl, sym, ap, subst, arith}
 use Rattle.kt_graph.proofs.Common.{flat_map, All-nil, All-cons, All-head, All-tail, All-push, All-append, All-weaker, All-contains, Contains-append_left, Contains-append_right, Contains-push, Contains-get_or, Text, Entry, is_among, with_name, without_repeats, needed_by, Node, all_inputs, inputs_of, node_of, order_only_of, HasInput, IsReached, Leads}
 use Rattle.kt_graph.proofs.lemmas.search.UnknownLemmas.{from_among}
-use Rattle.kt_rules.proofs.FindLemmas.{names_grow}
+use Rattle.kt_rules.proofs.lemmas.book.FindLemmas.{names_grow}
 
 -- ---- names after others
 

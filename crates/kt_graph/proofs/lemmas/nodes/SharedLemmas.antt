@@ -3,7 +3,7 @@ use Rattle.std.proofs.Common.{◌≡◌, ℕ, ◌∷◌, List, length, Option, N
 use Rattle.kt_graph.proofs.Common.{Contains, All-contains, none-some, same_Some, head_is, HasNumbers, HaveOneMaking, StoredNode, stored_at, Node, inputs_of, order_only_of, names_at, node_at, node_view, nodes_view, NodeTable}
 use Rattle.kt_graph.specs.inner.nodes.Graph.{AreNodesHeld}
 use Rattle.kt_graph.specs.inner.nodes.Grouping.{AreAllAlike}
-use Rattle.kt_graph.specs.nodes.Groups.{FirstSharesInputs, ShareInputs}
+use Rattle.kt_graph.specs.views.nodes.Groups.{FirstSharesInputs, ShareInputs}
 use Rattle.kt_graph.proofs.lemmas.MemberLemmas.{Contains-slice_get}
 use Rattle.kt_graph.proofs.lemmas.nodes.NodeLemmas.{inputs_are, others_are}
 use Rattle.kt_graph.proofs.lemmas.nodes.StoredLemmas.{stored_is}

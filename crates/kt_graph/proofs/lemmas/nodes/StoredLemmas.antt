@@ -5,7 +5,7 @@ use Rattle.std.proofs.Math.Seq.{drop-append_seam}
 use Rattle.kt_graph.specs.declared.nodes.part.Maker.{Maker}
 use Rattle.kt_graph.specs.declared.nodes.part.PartRecipe.{PartRecipe}
 use Rattle.kt_graph.specs.declared.nodes.stored.NodeHead.{NodeHead}
-use Rattle.kt_graph.specs.declared.nodes.stored.Span.{Span}
+use Rattle.kt_graph.specs.declared.nodes.span.Span.{Span}
 use Rattle.kt_graph.specs.inner.nodes.Grouping.{is_made_at, making_at}
 use Rattle.kt_graph.proofs.lemmas.MemberLemmas.{Contains-slice_get}
 use Rattle.kt_list.proofs.PrefixLemmas.{has_more_of_more}

@@ -2,7 +2,8 @@
 use Rattle.std.proofs.Common.{◌≡◌, ℕ, ◌+◌, ◌<◌, ◌≤◌, true, List, [], ◌∷◌, ◌++◌, length, get_or, set, map, Option, Some, None, refl, sym, ap, ◌∙◌, subst, ◌⊎◌, inl, inr, ⊎_elim, arith, fold, option_map, slice_get, unwrap_or}
 use Rattle.kt_graph.proofs.Common.{Contains, list_any, cases_lt, cases_order, or_left, list_any-append, get_or_append_left, get_or-set_other, get_or-set_same, get_or-take, get_or_at, length-append, length-map, length-set, map-append, get_or_from_slice_get, same_Some, slice_get-get_or, slice_get-map, slice_get_within, unwrap_or-slice_get, Text, Entry, HeldQuestion, TriedQuestions, IsPrefix, Question, question_eq, asking, chain_limit, fitting, with_question, question_view}
 use Rattle.kt_graph.specs.declared.search.candidate.Candidate.{Candidate as HeldCandidate}
-use Rattle.kt_graph.specs.inner.search.Chains.{IsFound, IsRight, IsRightFor, KeepsAnswers, HasAnswered, StandsLast, StoodBefore, asked_besides, expected_for, left_for}
+use Rattle.kt_graph.specs.inner.search.Chains.{IsFound, IsRight, IsRightFor, KeepsAnswers, HasAnswered, StandsLast}
+use Rattle.kt_graph.specs.inner.search.Chains.{StoodBefore, asked_besides, expected_for, left_for}
 use Rattle.kt_graph.proofs.lemmas.search.AskingLemmas.{asking_is, after_deep}
 use Rattle.kt_graph.proofs.lemmas.search.QuestionLemmas.{all_put, none_new, put_after, stays_put}
 

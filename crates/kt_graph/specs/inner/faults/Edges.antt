@@ -1,20 +1,13 @@
 -- Vertices and their edges, as the code finds cycles in them (kati's own). The vertex of a name is its number; the
 -- makings of several names come after the names.
 use Rattle.std.specs.Prelude.{◌≡◌, ◌↔◌, ℕ, suc, ◌+◌, ◌<◌, true, false, Bool, ◌⊎◌, List, [], ◌∷◌, ◌++◌, length, get_or}
-use Rattle.std.specs.Prelude.{set, replicate, take, flat_map, fold, map, All, IfSome, if◌then◌else◌, Option, Some, None}
-use Rattle.kt_graph.specs.Prelude.{slice_get, Vec, Contains, count_by, range_with_len, option_to_list}
-use Rattle.std.specs.declared.alloc.Global.{Global}
-use Rattle.kt_graph.specs.inner.nodes.Stored.{HaveOneMaking, StoredNode, stored_at}
+use Rattle.std.specs.Prelude.{take, flat_map, map, All, IfSome, if◌then◌else◌, Option, Some, None}
+use Rattle.kt_graph.specs.inner.Prelude.{slice_get, count_by, range_with_len, option_to_list}
+use Rattle.kt_graph.specs.Prelude.{Contains}
+use Rattle.kt_graph.specs.inner.nodes.Buckets.{bare_rows, edges_from, rows_held, with_edges}
+use Rattle.kt_graph.specs.inner.nodes.Stored.{HaveOneMaking, StoredNode, needed_numbers, stored_at}
 use Rattle.kt_graph.specs.declared.faults.edges.Edges.{Edges}
 use Rattle.kt_graph.specs.Reach.{Reaches}
-
--- the rows of a vector of vectors
-abbrev pub rows_held : List (Vec ℕ Global) → List (List ℕ)
-rows_held rows = map (λ row. row.items) rows
-
--- the numbers of all inputs of a node
-abbrev pub needed_numbers : StoredNode → List ℕ
-needed_numbers node = node.inputs ++ node.order_only
 
 -- the number at a place, as a list
 abbrev pub listed_number : List ℕ → ℕ → List ℕ
@@ -52,23 +45,6 @@ pub record LeadsOn (edges : Edges) (from to : ℕ) : Type 0 where
 -- a vertex leads to itself in one step or more
 abbrev pub LeadsBack : Edges → ℕ → Type 0
 LeadsBack edges vertex = LeadsOn edges vertex vertex
-
--- rows with one more edge, and with several
-abbrev pub with_edge : List (List ℕ) → ℕ × ℕ → List (List ℕ)
-with_edge rows edge = set rows edge.0 (get_or rows edge.0 [] ++ edge.1 ∷ [])
-
-abbrev pub with_edges : List (List ℕ) → List (ℕ × ℕ) → List (List ℕ)
-with_edges rows edges = fold with_edge rows edges
-
--- a given number of vertices that lead nowhere
-abbrev pub bare_rows : ℕ → List (List ℕ)
-bare_rows count = replicate count []
-
-abbrev pub edges_to : ℕ → List ℕ → List (ℕ × ℕ)
-edges_to to froms = map (λ from. (from, to)) froms
-
-abbrev pub edges_from : ℕ → List ℕ → List (ℕ × ℕ)
-edges_from from numbers = map (λ to. (from, to)) numbers
 
 -- edges lead to vertices
 abbrev pub LeadToVertices : Edges → Type 0

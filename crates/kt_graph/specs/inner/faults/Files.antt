@@ -1,23 +1,13 @@
--- The files of made names, as the code counts and spells them, and the order of names (kati's own).
-use Rattle.std.specs.Prelude.{◌≡◌, ◌↔◌, ℕ, ◌<◌, Bool, not, ◌||◌, ◌==◌, nat_eq, nat_lt, length, filter, bytes_eq, if◌then◌else◌}
-use Rattle.kt_graph.specs.Prelude.{List, None, Option, Some, map, Contains, IsStrictlySortedBy, list_all, nat_cmp}
-use Rattle.kt_graph.specs.Prelude.{slice_cmp, slice_split, Text, Node}
+-- The files of made names, as the code counts and spells them (kati's own).
+use Rattle.std.specs.Prelude.{◌≡◌, Bool, not, ◌||◌, ◌==◌, nat_eq, nat_lt, bytes_eq, if◌then◌else◌}
+use Rattle.std.specs.Prelude.{false, [], ◌∷◌}
+use Rattle.kt_graph.specs.views.Prelude.{List}
+use Rattle.kt_graph.specs.Prelude.{None, slice_split, Text}
+use Rattle.kt_graph.specs.inner.Prelude.{Option, Some, list_all}
 use Rattle.std.specs.Map.{lookup}
 use Rattle.kt_graph.specs.declared.faults.files.FileSpellings.{FileSpellings}
-use Rattle.kt_graph.specs.nodes.Groups.{made_nodes}
-use Rattle.kt_graph.specs.faults.Paths.{above_name, canon_of, is_idle}
-use Rattle.kt_list.specs.Names.{name_at, names_at}
-
--- the number of names that are names of a file
-abbrev pub spelling_count : List Text → Text → ℕ
-spelling_count names file = length (filter (λ name. bytes_eq (canon_of name) file) names)
-
--- the file of a name has another of these names, too
-abbrev pub is_repeated : List Text → Text → Bool
-is_repeated names name = nat_lt 1 (spelling_count names (canon_of name))
-
-abbrev pub made_names : List Node → List Text
-made_names nodes = map (λ node. node.name) (made_nodes nodes)
+use Rattle.kt_graph.specs.faults.Paths.{above_name, is_idle}
+use Rattle.kt_graph.specs.views.faults.Files.{spelling_count}
 
 -- whether several of these names are names of a file, if any is
 abbrev pub several_in : List Text → Text → Option Bool
@@ -31,16 +21,6 @@ held_for entries file = lookup (λ key. bytes_eq file key) entries
 abbrev pub HasFiles : FileSpellings → List Text → Type 0
 HasFiles files names = (file : Text) → held_for files.several.entries file ≡ several_in names file
 
--- no two names are equal
-abbrev pub AreDistinct : List Text → Type 0
-AreDistinct names = (one other : ℕ) → one < length names → other < length names
-    → name_at names one ≡ name_at names other → one ≡ other
-
--- the numbers of all names, in byte order of the names
-pub record IsByteOrder (names : List Text) (order : List ℕ) : Type 0 where
-  pub rises : IsStrictlySortedBy (slice_cmp nat_cmp) (names_at names order)
-  pub all : (number : ℕ) → Contains order number ↔ (number < length names)
-
 -- ---- names with plain components only: each is the canonical spelling of its file
 
 -- a component that isn't empty, `.` or `..`
@@ -50,3 +30,8 @@ is_proper_component part = not (is_idle part || bytes_eq part above_name)
 -- whether each component of a name is such a one
 unfoldable pub has_names_only : Text → Bool
 has_names_only name = list_all is_proper_component (slice_split (λ byte. byte == 47) name)
+
+-- whether the last component is a name; the last one comes first in the list
+abbrev pub ends_in_name : List Text → Bool
+ends_in_name [] = false
+ends_in_name (last ∷ parts) = not (bytes_eq last above_name)

@@ -1,10 +1,11 @@
 -- Names that are sorted by their first bytes, as the code holds them (kati's own).
 use Rattle.std.specs.Prelude.{◌≡◌, ℕ, ◌<◌, List, map, All}
-use Rattle.kt_graph.specs.Prelude.{range_with_len, nat_cmp, ordering_then, slice_cmp, Text}
+use Rattle.kt_graph.specs.inner.Prelude.{range_with_len, ordering_then}
+use Rattle.kt_graph.specs.Prelude.{nat_cmp, slice_cmp, Text}
 use Rattle.std.specs.declared.cmp.Ordering.{Ordering}
-use Rattle.kt_text.specs.Sorted.{front_number}
+use Rattle.kt_text.specs.views.Sorted.{front_number}
 use Rattle.kt_graph.specs.declared.nodes.byte_order.Front.{Front}
-use Rattle.kt_list.specs.Names.{name_at}
+use Rattle.kt_list.specs.views.Names.{name_at}
 
 -- the order by the first bytes, and of names that begin alike by all of them
 abbrev pub front_cmp : List Text → Front → Front → Ordering

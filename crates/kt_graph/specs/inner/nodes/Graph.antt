@@ -1,10 +1,20 @@
 -- What a graph holds by numbers: names, makings and nodes (kati's own).
-use Rattle.std.specs.Prelude.{◌≡◌, ℕ, ◌<◌, Bool, false, not, bytes_eq, find, List, length, All, Some}
-use Rattle.kt_graph.specs.Prelude.{option_map_or, Text, Node, is_leaf}
+use Rattle.std.specs.Prelude.{◌≡◌, ◌↔◌, ℕ, ◌<◌, Bool, false, not, bytes_eq, find, List, length, All, Some}
+use Rattle.kt_graph.specs.Prelude.{Contains, IsStrictlySortedBy, nat_cmp, option_map_or, slice_cmp, Text, Node, is_leaf}
 use Rattle.kt_graph.specs.declared.nodes.node.Instance.{Instance as Held}
-use Rattle.kt_graph.specs.inner.faults.Files.{AreDistinct, IsByteOrder}
 use Rattle.kt_graph.specs.inner.nodes.Numbering.{HasNumbers}
-use Rattle.kt_graph.specs.nodes.Views.{NodeTable, instance_at}
+use Rattle.kt_graph.specs.inner.nodes.NodeTable.{NodeTable, instance_at}
+use Rattle.kt_list.specs.views.Names.{name_at, names_at}
+
+-- no two names are equal
+abbrev pub AreDistinct : List Text → Type 0
+AreDistinct names = (one other : ℕ) → one < length names → other < length names
+    → name_at names one ≡ name_at names other → one ≡ other
+
+-- the numbers of all names, in byte order of the names
+pub record IsByteOrder (names : List Text) (order : List ℕ) : Type 0 where
+  pub rises : IsStrictlySortedBy (slice_cmp nat_cmp) (names_at names order)
+  pub all : (number : ℕ) → Contains order number ↔ (number < length names)
 
 -- no two makings are equal
 abbrev pub AreDifferent : List Held → Type 0

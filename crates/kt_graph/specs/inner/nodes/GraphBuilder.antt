@@ -1,16 +1,21 @@
 -- The names reached so far, and the nodes of the first of them, as the code holds them (kati's own).
 use Rattle.std.specs.Prelude.{◌≡◌, ℕ, ◌+◌, ◌-◌, true, false, List, [], ◌∷◌, ◌++◌, length, fold, take, All, Some, slice_get}
-use Rattle.kt_graph.specs.Prelude.{IfSome, None, Option, map, Contains, after_last, before_last, Text, Needs, Target}
-use Rattle.kt_graph.specs.Prelude.{AreMadeAlike, has_recipe, is_double, patterns_of, Entry, with_name, suffixes_of}
-use Rattle.kt_graph.specs.Prelude.{Explicit, Leaf, Node, group_of, node_of, own_part, rule_view}
+use Rattle.kt_graph.specs.inner.Prelude.{IfSome, Option, after_last, before_last, Needs, Target, AreMadeAlike}
+use Rattle.kt_graph.specs.inner.Prelude.{has_recipe, is_double, patterns_of, with_name, suffixes_of, Explicit, Leaf}
+use Rattle.kt_graph.specs.inner.Prelude.{group_of, own_part, rule_view}
+use Rattle.kt_graph.specs.Prelude.{None, Contains, Text}
+use Rattle.kt_graph.specs.views.Prelude.{map}
+use Rattle.kt_graph.specs.Prelude.{Entry}
+use Rattle.kt_graph.specs.Prelude.{Node, node_of}
 use Rattle.kt_graph.specs.declared.nodes.node.Instance.{Instance as Held}
 use Rattle.kt_graph.specs.inner.nodes.Stems.{own}
-use Rattle.kt_graph.specs.inner.nodes.Stored.{StoredNode, StoredPart, input_numbers, order_only_numbers, stored_at, stored_with}
+use Rattle.kt_graph.specs.inner.nodes.Stored.{StoredNode, StoredPart, input_numbers, order_only_numbers, stored_at}
+use Rattle.kt_graph.specs.inner.nodes.Stored.{stored_with}
 use Rattle.kt_graph.specs.declared.nodes.graph_builder.GraphBuilder.{GraphBuilder}
 use Rattle.kt_graph.specs.inner.nodes.Needed.{needed_by}
 use Rattle.kt_graph.specs.inner.nodes.Numbering.{IsStoredAs, SaysNeeds, SaysNode}
 use Rattle.kt_graph.specs.Reach.{IsReached}
-use Rattle.kt_list.specs.Names.{name_at}
+use Rattle.kt_list.specs.views.Names.{name_at}
 use Rattle.kt_graph.specs.declared.nodes.building.RecipeRule.{RecipeRule}
 
 -- the rules before the last rule with a recipe, and those after it

@@ -1,10 +1,11 @@
 -- Groups of nodes by numbers, as the code finds them (kati's own).
 use Rattle.std.specs.Prelude.{◌≡◌, ℕ, ◌<◌, Bool, true, false, not, ◌&&◌, nat_eq, List, [], ◌∷◌, filter, flat_map}
 use Rattle.std.specs.Prelude.{All, get_or, length, Option, Some, None, slice_get, if◌then◌else◌}
-use Rattle.kt_graph.specs.Prelude.{option_and_then, option_map_or, Node, is_leaf}
+use Rattle.kt_graph.specs.inner.Prelude.{option_and_then}
+use Rattle.kt_graph.specs.Prelude.{option_map_or, Node, is_leaf}
 use Rattle.kt_graph.specs.inner.nodes.Stored.{HaveOneMaking, StoredNode, stored_at}
-use Rattle.kt_graph.specs.nodes.Views.{NodeTable, nodes_view}
-use Rattle.kt_graph.specs.inner.faults.Edges.{with_edge}
+use Rattle.kt_graph.specs.inner.nodes.NodeTable.{NodeTable, nodes_view}
+use Rattle.kt_graph.specs.inner.nodes.Buckets.{with_edge}
 
 -- whether a rule makes the node with a number
 abbrev pub is_made_at : List StoredNode → ℕ → Bool

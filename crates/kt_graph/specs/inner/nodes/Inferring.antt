@@ -1,11 +1,13 @@
 -- What a chosen pattern rule gives to a name, as the code holds it (kati's own).
 use Rattle.std.specs.Prelude.{◌≡◌, nat_lt, ◌++◌, length, Some, None, MatchOption, option_map, slice_get, if◌then◌else◌}
-use Rattle.kt_graph.specs.Prelude.{Text, Target, Entry, Chosen, Implicit, Candidate, needs_with, List, Option}
+use Rattle.kt_graph.specs.Prelude.{Text, Entry}
+use Rattle.kt_graph.specs.inner.Prelude.{Target, Candidate, needs_with, Option}
+use Rattle.kt_graph.specs.views.Prelude.{Chosen, Implicit, List}
 use Rattle.kt_graph.specs.declared.nodes.inferring.InferredParts.{InferredParts}
 use Rattle.kt_graph.specs.nodes.Node.{Instance, Node, of_pattern, implicit_node, joined_needs, needs_after}
 use Rattle.kt_graph.specs.inner.nodes.Needed.{single_node}
 use Rattle.kt_graph.specs.inner.nodes.Stems.{stem_in}
-use Rattle.kt_graph.specs.nodes.Views.{instance_view}
+use Rattle.kt_graph.specs.views.nodes.Node.{instance_view}
 
 -- the making of a pattern rule with several targets
 abbrev pub pattern_making : Entry → Chosen → Option Instance

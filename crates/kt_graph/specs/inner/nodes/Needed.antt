@@ -1,8 +1,9 @@
 -- What the rules of a name need together (kati's own).
 use Rattle.std.specs.Prelude.{List, ◌∷◌, ◌++◌, [], map, flat_map, Option, Some, None, option_map}
-use Rattle.kt_graph.specs.Prelude.{Text, Needs, Target, Entry, needs_for, rule_view, all_needs, NodeKind}
+use Rattle.kt_graph.specs.Prelude.{Text, Entry}
+use Rattle.kt_graph.specs.inner.Prelude.{Needs, Target, needs_for, rule_view, all_needs, NodeKind}
 use Rattle.kt_rules.specs.declared.needs.NeedsView.{NeedsView}
-use Rattle.kt_rules.specs.Targets.{needs_view}
+use Rattle.kt_rules.specs.views.Targets.{needs_view}
 use Rattle.kt_graph.specs.declared.nodes.needing.Needing.{Needing}
 use Rattle.kt_graph.specs.declared.nodes.needing.Sort.{Sort}
 use Rattle.kt_graph.specs.declared.nodes.needing.Sort.TheVariants.{Prerequisite, OrderOnly}

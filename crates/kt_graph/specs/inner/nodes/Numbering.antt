@@ -1,11 +1,12 @@
 -- Names and nodes by numbers, as the code holds them (kati's own).
 use Rattle.std.specs.Prelude.{◌≡◌, ℕ, ◌<◌, List, ◌++◌, length, fold, All, Option, IfSome}
-use Rattle.kt_graph.specs.Prelude.{AllZip, AreBelow, Text, Needs, with_name, Instance, Node, Part}
+use Rattle.kt_graph.specs.inner.Prelude.{AllZip, AreBelow, Needs, with_name, Part}
+use Rattle.kt_graph.specs.Prelude.{Text, Instance, Node}
 use Rattle.kt_graph.specs.declared.nodes.node.Instance.{Instance as Held}
 use Rattle.kt_graph.specs.inner.nodes.Stems.{stem_in}
 use Rattle.kt_graph.specs.inner.nodes.Stored.{StoredNode, StoredPart, input_numbers, order_only_numbers}
-use Rattle.kt_graph.specs.nodes.Views.{instance_at, node_view}
-use Rattle.kt_list.specs.Names.{AreNumbersOf, name_at}
+use Rattle.kt_graph.specs.inner.nodes.NodeTable.{instance_at, node_view}
+use Rattle.kt_list.specs.views.Names.{AreNumbersOf, name_at}
 
 -- the prerequisites of a part are numbers of names
 pub record IsNumbered (count : ℕ) (part : StoredPart) : Type 0 where

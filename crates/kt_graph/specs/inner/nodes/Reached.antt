@@ -1,11 +1,12 @@
 -- Reached names by their numbers among all names, as the code holds them (kati's own).
 use Rattle.std.specs.Prelude.{◌≡◌, ℕ, zero, suc, ◌≤◌, List, [], ◌∷◌, ◌++◌, length, get_or, slice_get, bytes_eq}
-use Rattle.kt_graph.specs.Prelude.{Option, Some, None, IsDistinct, AreBelow, place_of, with_name, Text}
+use Rattle.kt_graph.specs.inner.Prelude.{Option, Some, IsDistinct, AreBelow, place_of, with_name}
+use Rattle.kt_graph.specs.Prelude.{None, Text}
 use Rattle.std.specs.Borrow.{Bor}
 use Rattle.kt_graph.specs.declared.nodes.reached.ReachedNumbers.{ReachedNumbers}
 use Rattle.kt_graph.specs.declared.nodes.reached_name.ReachedName.{ReachedName}
 use Rattle.kt_graph.specs.declared.nodes.reached_name.ReachedName.TheVariants.{InTables, Other}
-use Rattle.kt_list.specs.Names.{names_at}
+use Rattle.kt_list.specs.views.Names.{names_at}
 
 -- the bytes of a name
 abbrev pub reached_text : ReachedName → Text

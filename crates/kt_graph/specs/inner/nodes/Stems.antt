@@ -1,6 +1,8 @@
 -- The stem of a part, as the code holds it (kati's own).
 use Rattle.std.specs.Prelude.{◌≡◌, ◌+◌, ◌++◌, ℕ, drop, length, take}
-use Rattle.kt_graph.specs.Prelude.{List, Text, suffixes_of, suffix_stem}
+use Rattle.kt_graph.specs.views.Prelude.{List}
+use Rattle.kt_graph.specs.Prelude.{Text}
+use Rattle.kt_graph.specs.inner.Prelude.{suffixes_of, suffix_stem}
 use Rattle.kt_graph.specs.declared.nodes.stem.StemStorage.{StemStorage}
 use Rattle.kt_graph.specs.declared.nodes.stem.StemStorage.TheVariants.{Own, Within, Given}
 

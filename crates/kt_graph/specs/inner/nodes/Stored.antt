@@ -1,7 +1,7 @@
 -- Nodes as the graph holds them: with numbers for names, and with the lists of all nodes in one (kati's own).
 use Rattle.std.specs.Prelude.{◌≡◌, ℕ, ◌≤◌, ◌<◌, ◌+◌, List, [], ◌++◌, length, map, All, Option, None, option_map}
 use Rattle.std.specs.Prelude.{◌∷◌, Bool, Some, false, flat_map, fold, get_or, slice_get, true}
-use Rattle.kt_graph.specs.Prelude.{slice_range, HasMore, RecipeLine, NodeKind, Leaf}
+use Rattle.kt_graph.specs.inner.Prelude.{slice_range, HasMore, RecipeLine, NodeKind, Leaf}
 use Rattle.kt_graph.specs.declared.nodes.part.Maker.{Maker}
 use Rattle.kt_graph.specs.declared.nodes.part.NumberedNeeds.{NumberedNeeds}
 use Rattle.kt_graph.specs.declared.nodes.part.NumberedPart.{NumberedPart}
@@ -9,7 +9,7 @@ use Rattle.kt_graph.specs.declared.nodes.part.PartRecipe.{PartRecipe}
 use Rattle.kt_graph.specs.declared.nodes.stored.NodeHead.{NodeHead}
 use Rattle.kt_graph.specs.declared.nodes.stored.HeldPart.{HeldPart}
 use Rattle.kt_graph.specs.declared.nodes.stored.SeenPart.{SeenPart}
-use Rattle.kt_graph.specs.declared.nodes.stored.Span.{Span}
+use Rattle.kt_graph.specs.declared.nodes.span.Span.{Span}
 use Rattle.kt_graph.specs.inner.nodes.Inputs.{numbers_without, with_input_number}
 use Rattle.kt_graph.specs.inner.nodes.Stems.{Stem}
 
@@ -194,3 +194,7 @@ pub record IsHeadOf (parts : List HeldPart) (rows : List (List ℕ)) (expected :
   where
     pub within : IsHeadWithin (length parts) (length rows) head
     pub is : node_stored parts rows head ≡ expected
+
+-- the numbers of all inputs of a node
+abbrev pub needed_numbers : StoredNode → List ℕ
+needed_numbers node = node.inputs ++ node.order_only

@@ -1,13 +1,16 @@
 -- The questions of a search with their answers, as the code holds them (kati's own).
 use Rattle.std.specs.Prelude.{◌≡◌, ℕ, zero, suc, ◌-◌, ◌<◌, ◌≤◌, true, false, List, [], ◌∷◌, ◌++◌, length, map}
 use Rattle.std.specs.Prelude.{fold, Option, Some, None, IfSome, unwrap_or, slice_get}
-use Rattle.kt_graph.specs.Prelude.{Contains, list_any, IsPrefix, Text, Entry, HeldQuestion, Candidate, with_question}
+use Rattle.kt_graph.specs.Prelude.{Contains, Text, Entry}
+use Rattle.kt_graph.specs.views.Prelude.{list_any, HeldQuestion}
+use Rattle.kt_graph.specs.inner.Prelude.{IsPrefix, Candidate, with_question}
 use Rattle.kt_graph.specs.declared.search.candidate.Candidate.{Candidate as HeldCandidate}
 use Rattle.kt_graph.specs.declared.search.tried.TriedQuestions.{TriedQuestions}
 use Rattle.kt_graph.specs.declared.search.tried.QuestionPlace.{QuestionPlace}
 use Rattle.kt_graph.specs.declared.search.tried.QuestionPlace.TheVariants.{Before, Last}
-use Rattle.kt_graph.specs.search.Search.{Question, asking, chain_limit, fitting, open_candidates, question_eq, questions_inside}
-use Rattle.kt_graph.specs.search.Views.{IsFitWithin, question_view, found_view}
+use Rattle.kt_graph.specs.views.search.Search.{Question, asking, question_eq, questions_inside, question_view}
+use Rattle.kt_graph.specs.search.Search.{chain_limit, fitting, open_candidates}
+use Rattle.kt_graph.specs.inner.search.Candidates.{IsFitWithin, found_view}
 
 -- the candidate that was found for a name is the expected one; it has a rule, and its places are in the name
 pub record IsFound (rules : List Entry) (name : Text) (expected : Option Candidate)

@@ -1,8 +1,9 @@
 -- Rules by the ends of their targets, as the code holds them (kati's own).
 use Rattle.std.specs.Prelude.{◌≡◌, ℕ, ◌-◌, ◌≤◌, ◌++◌, false, All, List, drop, length, filter_map}
-use Rattle.kt_graph.specs.Prelude.{slice_get, Option, Some, Contains, option_and_then, Text, Target, Entry}
+use Rattle.kt_graph.specs.inner.Prelude.{slice_get, Option, Some, option_and_then, Target}
+use Rattle.kt_graph.specs.Prelude.{Contains, Text, Entry}
 use Rattle.kt_text.specs.Match.{pattern_back}
-use Rattle.kt_rules.specs.Indexes.{noted_at}
+use Rattle.kt_rules.specs.views.Indexes.{noted_at}
 use Rattle.kt_graph.specs.declared.search.ends.TargetEnds.{TargetEnds}
 use Rattle.kt_graph.specs.search.Candidates.{Candidate, candidate_of, has_slash}
 

@@ -1,7 +1,7 @@
 use Rattle.std.proofs.Common.{◌∙◌, ◌≡◌, ◌+◌, ℕ, List, take, drop, sym, ap, rules, Option, Some, None}
 use Rattle.kt_ninja.proofs.Common.{option_or, Statement, repeated_after, at_place}
 use Rattle.kt_ninja.specs.Plan.{outputs}
-use Rattle.kt_ninja.specs.View.{statement_names}
+use Rattle.kt_ninja.specs.views.View.{statement_names}
 use Rattle.kt_ninja.proofs.Troubles.{repeated_after-next}
 use Rattle.kt_ninja.proofs.checking.first_repeated.Goals as goal
 

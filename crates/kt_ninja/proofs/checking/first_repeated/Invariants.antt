@@ -1,6 +1,6 @@
 use Rattle.std.proofs.Common.{◌≡◌, ◌≤◌, [], take, drop}
 use Rattle.kt_ninja.specs.Plan.{outputs}
-use Rattle.kt_ninja.specs.Writable.{repeated_after}
+use Rattle.kt_ninja.specs.views.Writable.{repeated_after}
 use Rattle.kt_ninja.proofs.checking.first_repeated.Given as goal
 
 abbrev pub invariant-loop-statement : goal.invariant-loop-statement

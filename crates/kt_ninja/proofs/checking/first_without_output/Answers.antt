@@ -1,6 +1,6 @@
 use Rattle.std.proofs.Common.{◌≡◌, ◌∙◌, ap, sym, rules, Option, true}
 use Rattle.kt_ninja.proofs.Common.{Statement, is_empty, at_place}
-use Rattle.kt_ninja.specs.View.{statement_names}
+use Rattle.kt_ninja.specs.views.View.{statement_names}
 use Rattle.kt_ninja.proofs.Places.{place_here}
 use Rattle.kt_ninja.proofs.checking.first_without_output.Goals as goal
 

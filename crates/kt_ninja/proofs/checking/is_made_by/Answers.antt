@@ -1,6 +1,6 @@
 use Rattle.std.proofs.Common.{◌≡◌, ◌∙◌, ap, sym, rules, false, Option}
 use Rattle.kt_ninja.proofs.Common.{is_among, Statement, at_place}
-use Rattle.kt_ninja.specs.View.{statement_names}
+use Rattle.kt_ninja.specs.views.View.{statement_names}
 use Rattle.kt_ninja.proofs.Places.{passes_later}
 use Rattle.kt_ninja.proofs.checking.is_made_by.Goals as goal
 

@@ -1,7 +1,7 @@
 use Rattle.std.proofs.Common.{arith}
 use Rattle.kt_ninja_reader.proofs.Common.{err_from_is_err_and}
-use Rattle.kt_ninja_reader.proofs.LineLemmas.{binding_none, binding_read, binding_refused}
-use Rattle.kt_ninja_reader.proofs.PieceLemmas.{refuses_too}
+use Rattle.kt_ninja_reader.proofs.lemmas.LineLemmas.{binding_none, binding_read, binding_refused}
+use Rattle.kt_ninja_reader.proofs.lemmas.PieceLemmas.{refuses_too}
 use Rattle.kt_ninja_reader.proofs.forms.binding_of.Goals as goal
 
 pub returns-in_default : goal.returns-in_default

@@ -1,7 +1,7 @@
 use Rattle.std.proofs.Common.{◌∙◌, sym}
 use Rattle.kt_ninja_reader.proofs.Common.{err_from_is_err_and, build_of, paths_of}
-use Rattle.kt_ninja_reader.proofs.LineLemmas.{sides_refused}
-use Rattle.kt_ninja_reader.proofs.PieceLemmas.{refuses_too}
+use Rattle.kt_ninja_reader.proofs.lemmas.LineLemmas.{sides_refused}
+use Rattle.kt_ninja_reader.proofs.lemmas.PieceLemmas.{refuses_too}
 use Rattle.kt_ninja_reader.proofs.forms.build_of.Goals as goal
 
 pub returns-in_err-outs : goal.returns-in_err-outs

@@ -1,5 +1,5 @@
 use Rattle.std.proofs.Common.{◌∙◌, sym}
-use Rattle.kt_ninja_reader.proofs.LineLemmas.{defaults_by, defaults_none}
+use Rattle.kt_ninja_reader.proofs.lemmas.LineLemmas.{defaults_by, defaults_none}
 use Rattle.kt_ninja_reader.proofs.forms.defaults_of.Goals as goal
 
 pub returns-then-has_plain : goal.returns-then-has_plain

@@ -1,4 +1,4 @@
-use Rattle.kt_ninja_reader.proofs.LineLemmas.{inputs_read}
+use Rattle.kt_ninja_reader.proofs.lemmas.LineLemmas.{inputs_read}
 use Rattle.kt_ninja_reader.proofs.forms.inputs_of.Goals as goal
 
 pub returns : goal.returns

@@ -1,5 +1,5 @@
 use Rattle.std.proofs.Common.{None, ◌∙◌}
-use Rattle.kt_ninja_reader.proofs.LineLemmas.{key_by}
+use Rattle.kt_ninja_reader.proofs.lemmas.LineLemmas.{key_by}
 use Rattle.kt_ninja_reader.proofs.forms.key.Goals as goal
 
 pub returns-in_default : goal.returns-in_default

@@ -1,4 +1,4 @@
-use Rattle.kt_ninja_reader.proofs.FormLemmas.{parts_last, parts_more}
+use Rattle.kt_ninja_reader.proofs.lemmas.FormLemmas.{parts_last, parts_more}
 use Rattle.kt_ninja_reader.proofs.forms.parts.Goals as goal
 
 pub loop-part-preserved : goal.loop-part-preserved

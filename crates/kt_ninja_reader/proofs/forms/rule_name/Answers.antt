@@ -1,5 +1,5 @@
 use Rattle.std.proofs.Common.{◌∙◌}
-use Rattle.kt_ninja_reader.proofs.LineLemmas.{rule_by}
+use Rattle.kt_ninja_reader.proofs.lemmas.LineLemmas.{rule_by}
 use Rattle.kt_ninja_reader.proofs.forms.rule_name.Goals as goal
 
 pub returns-in-Some : goal.returns-in-Some

@@ -1,4 +1,4 @@
-use Rattle.kt_ninja_reader.proofs.FormLemmas.{words_last, words_more}
+use Rattle.kt_ninja_reader.proofs.lemmas.FormLemmas.{words_last, words_more}
 use Rattle.kt_ninja_reader.proofs.forms.words.Goals as goal
 
 pub loop-word-preserved : goal.loop-word-preserved

@@ -1,5 +1,5 @@
 use Rattle.std.proofs.Common.{false, sym}
-use Rattle.kt_ninja_reader.proofs.JoinedLemmas.{no_end, other_end}
+use Rattle.kt_ninja_reader.proofs.lemmas.JoinedLemmas.{no_end, other_end}
 use Rattle.kt_ninja_reader.proofs.joined.ends_in_dollar.Goals as goal
 
 pub returns-in_default : goal.returns-in_default

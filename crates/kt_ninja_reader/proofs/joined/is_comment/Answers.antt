@@ -1,5 +1,5 @@
 use Rattle.std.proofs.Common.{Some, None}
-use Rattle.kt_ninja_reader.proofs.JoinedLemmas.{comment_found}
+use Rattle.kt_ninja_reader.proofs.lemmas.JoinedLemmas.{comment_found}
 use Rattle.kt_ninja_reader.proofs.joined.is_comment.Goals as goal
 
 pub returns-in-Some : goal.returns-in-Some

@@ -1,7 +1,7 @@
 use Rattle.std.proofs.Common.{◌≡◌, [], ◌∙◌, sym, refl, arith, true, false, length, append-nil}
 use Rattle.kt_ninja_reader.proofs.Common.{false≢true, nil_from_length, file_lines, is_comment, joined_lines}
 use Rattle.std.proofs.lemmas.Bool.Decides.{nat_tests}
-use Rattle.kt_ninja_reader.proofs.JoinedLemmas.{joined_step, lines_none, over, passed, pushed}
+use Rattle.kt_ninja_reader.proofs.lemmas.JoinedLemmas.{joined_step, lines_none, over, passed, pushed}
 use Rattle.kt_ninja_reader.proofs.joined.joined_lines.Goals as goal
 use Rattle.kt_ninja_reader.proofs.joined.joined_lines.Goals.{then-not-begun+in_ok-end, else-not-begun, then-begun+in_ok-end-2, else-begun}
 

@@ -1,6 +1,6 @@
 use Rattle.std.proofs.Common.{◌≡◌, ◌≤◌, ◌+◌, ◌++◌, [], length, false}
 use Rattle.kt_ninja_reader.specs.JoinedLines.{file_lines, is_blank_line, is_comment, joined_from, joined_lines}
-use Rattle.kt_ninja_reader.proofs.JoinedLemmas.{begun_by}
+use Rattle.kt_ninja_reader.proofs.lemmas.JoinedLemmas.{begun_by}
 use Rattle.kt_ninja_reader.proofs.joined.joined_lines.Given as goal
 
 abbrev pub invariant-loop-rest : goal.invariant-loop-rest

@@ -1,6 +1,6 @@
 use Rattle.std.proofs.Common.{◌++◌, sym, ◌∙◌, ap, map, option_map, arith}
 use Rattle.kt_ninja_reader.proofs.Common.{drop_all, block_from, binding_view}
-use Rattle.kt_ninja_reader.proofs.ReaderLemmas.{block_over}
+use Rattle.kt_ninja_reader.proofs.lemmas.ReaderLemmas.{block_over}
 use Rattle.kt_ninja_reader.proofs.ninja_read.block.Goals as goal
 
 pub returns : goal.returns

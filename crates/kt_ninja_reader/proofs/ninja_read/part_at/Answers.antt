@@ -1,6 +1,6 @@
 use Rattle.std.proofs.Common.{◌≡◌, ◌∷◌, ◌+◌, ◌∙◌, ap, sym, arith, take, drop}
 use Rattle.kt_ninja_reader.proofs.Common.{nil_from_length, cut_lines}
-use Rattle.kt_ninja_reader.proofs.ReaderLemmas.{left_after, length_before, next_bound, none_before, parts_cut}
+use Rattle.kt_ninja_reader.proofs.lemmas.ReaderLemmas.{left_after, length_before, next_bound, none_before, parts_cut}
 use Rattle.kt_ninja_reader.proofs.ninja_read.part_at.Goals as goal
 
 pub returns-in-None : goal.returns-in-None

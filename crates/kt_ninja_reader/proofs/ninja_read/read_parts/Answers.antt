@@ -1,7 +1,7 @@
 use Rattle.std.proofs.Common.{sym, ◌∙◌, arith, drop}
 use Rattle.kt_ninja_reader.specs.NinjaRead.{cut_lines, nothing_read, read_part, read_parts}
-use Rattle.kt_ninja_reader.specs.Reading.{file_part}
-use Rattle.kt_ninja_reader.proofs.ReaderLemmas.{none_left, part_refused, part_taken, parts_step}
+use Rattle.kt_ninja_reader.specs.inner.Reading.{file_part}
+use Rattle.kt_ninja_reader.proofs.lemmas.ReaderLemmas.{none_left, part_refused, part_taken, parts_step}
 use Rattle.kt_ninja_reader.proofs.ninja_read.read_parts.Goals as goal
 
 pub loop-part-init : goal.loop-part-init

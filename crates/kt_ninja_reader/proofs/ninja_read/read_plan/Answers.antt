@@ -1,4 +1,4 @@
-use Rattle.kt_ninja_reader.proofs.ReaderLemmas.{copy}
+use Rattle.kt_ninja_reader.proofs.lemmas.ReaderLemmas.{copy}
 use Rattle.kt_ninja_reader.proofs.ninja_read.read_plan.Goals as goal
 
 pub returns-clause-printed : goal.returns-clause-printed

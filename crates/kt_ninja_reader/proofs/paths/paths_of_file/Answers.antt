@@ -1,5 +1,5 @@
 use Rattle.kt_ninja_reader.proofs.Common.{ap, paths_in, value_in, value_within}
-use Rattle.kt_ninja_reader.proofs.StateLemmas.{carried, within_none}
+use Rattle.kt_ninja_reader.proofs.lemmas.StateLemmas.{carried, within_none}
 use Rattle.kt_ninja_reader.proofs.paths.paths_of_file.Goals as goal
 
 pub returns : goal.returns

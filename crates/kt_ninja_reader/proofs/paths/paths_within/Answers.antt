@@ -1,8 +1,8 @@
 use Rattle.std.proofs.Common.{◌++◌, ◌+◌, ap, sym, ◌∙◌, drop, option_map, arith}
 use Rattle.kt_ninja_reader.proofs.Common.{drop_all, err_from_is_err_and, paths_in, value_within}
 use Rattle.kt_ninja_reader.specs.inner.Holding.{path_in}
-use Rattle.kt_ninja_reader.proofs.PieceLemmas.{refuses_too}
-use Rattle.kt_ninja_reader.proofs.StateLemmas.{left_at, path_refused, path_taken, paths_end}
+use Rattle.kt_ninja_reader.proofs.lemmas.PieceLemmas.{refuses_too}
+use Rattle.kt_ninja_reader.proofs.lemmas.StateLemmas.{left_at, path_refused, path_taken, paths_end}
 use Rattle.kt_ninja_reader.proofs.paths.paths_within.Goals as goal
 
 pub returns-in_err-path : goal.returns-in_err-path

@@ -1,6 +1,6 @@
 use Rattle.std.proofs.Common.{arith, ◌++◌, ap, ◌∙◌, append-nil}
 use Rattle.kt_ninja_reader.proofs.Common.{nil_from_length, on_ok_weaker, shell_word}
-use Rattle.kt_ninja_reader.proofs.ScopeLemmas.{shell_words-none, words_put}
+use Rattle.kt_ninja_reader.proofs.lemmas.ScopeLemmas.{shell_words-none, words_put}
 use Rattle.kt_ninja_reader.proofs.scopes.add_shell_words.Goals as goal
 
 pub returns-in-None : goal.returns-in-None

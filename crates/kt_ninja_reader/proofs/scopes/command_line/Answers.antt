@@ -1,5 +1,5 @@
 use Rattle.kt_ninja_reader.specs.Scopes.{command_value}
-use Rattle.kt_ninja_reader.proofs.ScopeLemmas.{expanded_end}
+use Rattle.kt_ninja_reader.proofs.lemmas.ScopeLemmas.{expanded_end}
 use Rattle.kt_ninja_reader.proofs.scopes.command_line.Goals as goal
 
 pub returns-in_default : goal.returns-in_default

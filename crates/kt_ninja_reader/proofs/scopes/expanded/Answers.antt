@@ -1,5 +1,5 @@
 use Rattle.kt_ninja_reader.specs.Scopes.{value_within}
-use Rattle.kt_ninja_reader.proofs.ScopeLemmas.{expanded_end}
+use Rattle.kt_ninja_reader.proofs.lemmas.ScopeLemmas.{expanded_end}
 use Rattle.kt_ninja_reader.proofs.scopes.expanded.Goals as goal
 
 pub returns-in_default : goal.returns-in_default

@@ -1,4 +1,4 @@
-use Rattle.kt_ninja_reader.proofs.SpelledParts.{byte_names, variable_name}
+use Rattle.kt_ninja_reader.proofs.lemmas.SpelledParts.{byte_names, variable_name}
 use Rattle.kt_ninja_reader.proofs.spelling.add_variable.Goals as goal
 
 pub returns-in_ok-push : goal.returns-in_ok-push

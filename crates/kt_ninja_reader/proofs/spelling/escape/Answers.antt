@@ -1,6 +1,6 @@
 use Rattle.std.proofs.Common.{length, ap, sym, ◌∙◌, arith}
 use Rattle.kt_ninja_reader.proofs.Common.{ne_eqb, eq-eqb, after_dollar, pieces_from}
-use Rattle.kt_ninja_reader.proofs.PieceLemmas.{cuts_option, cuts_too, escape-brace, escape-escapable, escape-nil, no_short_of, short_of}
+use Rattle.kt_ninja_reader.proofs.lemmas.PieceLemmas.{cuts_option, cuts_too, escape-brace, escape-escapable, escape-nil, no_short_of, short_of}
 use Rattle.kt_ninja_reader.proofs.spelling.escape.Goals as goal
 
 pub returns-in_err-byte : goal.returns-in_err-byte

@@ -1,6 +1,6 @@
 use Rattle.std.proofs.Common.{arith}
-use Rattle.kt_ninja_reader.proofs.PieceLemmas.{cuts_option}
-use Rattle.kt_ninja_reader.proofs.SpelledLemmas.{next_none, next_read}
+use Rattle.kt_ninja_reader.proofs.lemmas.PieceLemmas.{cuts_option}
+use Rattle.kt_ninja_reader.proofs.lemmas.SpelledLemmas.{next_none, next_read}
 use Rattle.kt_ninja_reader.proofs.spelling.next.Goals as goal
 
 pub returns-in_err-after : goal.returns-in_err-after

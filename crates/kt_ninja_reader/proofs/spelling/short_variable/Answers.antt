@@ -1,5 +1,5 @@
 use Rattle.std.proofs.Common.{refl}
-use Rattle.kt_ninja_reader.proofs.PieceLemmas.{short_cut}
+use Rattle.kt_ninja_reader.proofs.lemmas.PieceLemmas.{short_cut}
 use Rattle.kt_ninja_reader.proofs.spelling.short_variable.Goals as goal
 
 pub returns : goal.returns

@@ -1,4 +1,4 @@
-use Rattle.kt_ninja_reader.proofs.SpelledLemmas.{scan_begin, scan_dollar, scan_end, scan_no_end, scan_sides, scan_stop, stop_dollar}
+use Rattle.kt_ninja_reader.proofs.lemmas.SpelledLemmas.{scan_begin, scan_dollar, scan_end, scan_no_end, scan_sides, scan_stop, stop_dollar}
 use Rattle.kt_ninja_reader.proofs.spelling.sides.Goals as goal
 
 pub loop-byte-init : goal.loop-byte-init

@@ -1,5 +1,5 @@
 use Rattle.std.proofs.Common.{length}
-use Rattle.kt_ninja_reader.proofs.SpelledLemmas.{Scanned}
+use Rattle.kt_ninja_reader.proofs.lemmas.SpelledLemmas.{Scanned}
 use Rattle.kt_ninja_reader.proofs.spelling.sides.Given as goal
 
 abbrev pub invariant-loop-byte : goal.invariant-loop-byte

@@ -1,5 +1,5 @@
 use Rattle.kt_ninja_reader.proofs.Common.{refl, ne_eqb}
-use Rattle.kt_ninja_reader.proofs.PieceLemmas.{brace_cut, brace_empty, brace_other}
+use Rattle.kt_ninja_reader.proofs.lemmas.PieceLemmas.{brace_cut, brace_empty, brace_other}
 use Rattle.kt_ninja_reader.proofs.spelling.variable_in_braces.Goals as goal
 
 pub returns-then-length-eq0 : goal.returns-then-length-eq0

@@ -1,6 +1,6 @@
 use Rattle.std.proofs.Common.{append-nil, arith}
 use Rattle.kt_ninja_reader.proofs.Common.{drop_all}
-use Rattle.kt_ninja_reader.proofs.StateLemmas.{left_at, new_end, new_refused}
+use Rattle.kt_ninja_reader.proofs.lemmas.StateLemmas.{left_at, new_end, new_refused}
 use Rattle.kt_ninja_reader.proofs.state.add_outs.Goals as goal
 
 pub returns-then-contains : goal.returns-then-contains

@@ -1,7 +1,7 @@
 use Rattle.std.proofs.Common.{arith}
 use Rattle.kt_ninja_reader.proofs.Common.{err_from_is_err_and}
-use Rattle.kt_ninja_reader.proofs.PieceLemmas.{refuses_too}
-use Rattle.kt_ninja_reader.proofs.StateLemmas.{block_refused, block_taken, told_at}
+use Rattle.kt_ninja_reader.proofs.lemmas.PieceLemmas.{refuses_too}
+use Rattle.kt_ninja_reader.proofs.lemmas.StateLemmas.{block_refused, block_taken, told_at}
 use Rattle.kt_ninja_reader.proofs.state.block_scope.Goals as goal
 
 pub returns-in_err-add_to_block : goal.returns-in_err-add_to_block

@@ -1,7 +1,7 @@
 use Rattle.std.proofs.Common.{is_some, ap, map, sym, ◌∙◌}
 use Rattle.kt_ninja_reader.proofs.Common.{list_any, find_in}
-use Rattle.kt_ninja_reader.proofs.ScopeLemmas.{any_now}
-use Rattle.kt_ninja_reader.proofs.SpelledParts.{refers_by_names}
+use Rattle.kt_ninja_reader.proofs.lemmas.ScopeLemmas.{any_now}
+use Rattle.kt_ninja_reader.proofs.lemmas.SpelledParts.{refers_by_names}
 use Rattle.kt_ninja_reader.proofs.state.refers_to_key.Goals as goal
 
 pub returns : goal.returns

@@ -1,5 +1,5 @@
 use Rattle.std.proofs.Common.{◌≡◌, ◌++◌}
-use Rattle.kt_rules.specs.Targets.{targets_view}
+use Rattle.kt_rules.specs.views.Targets.{targets_view}
 use Rattle.kt_rules.proofs.copying.copied_targets.Given as goal
 
 abbrev pub invariant-loop-target : goal.invariant-loop-target

@@ -1,5 +1,5 @@
 use Rattle.std.proofs.Common.{◌≡◌, ◌++◌}
-use Rattle.kt_rules.specs.Targets.{names_view}
+use Rattle.kt_rules.specs.views.Targets.{names_view}
 use Rattle.kt_rules.proofs.copying.copies.Given as goal
 
 abbrev pub invariant-loop-name : goal.invariant-loop-name

@@ -1,6 +1,6 @@
 use Rattle.std.proofs.Common.{◌≡◌, ◌∙◌, ◌+◌, ◌++◌, ◌∷◌, List, ℕ, [], ap, subst, sym, take}
 use Rattle.kt_rules.proofs.Common.{take_more, numbers_push, Text, AreNumbersOf}
-use Rattle.kt_rules.proofs.DictionaryLemmas.{more_twice}
+use Rattle.kt_rules.proofs.lemmas.DictionaryLemmas.{more_twice}
 use Rattle.kt_rules.proofs.dictionary.number_names.Goals as goal
 
 pub loop-name-preserved : goal.loop-name-preserved

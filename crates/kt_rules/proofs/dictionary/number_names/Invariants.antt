@@ -1,6 +1,6 @@
 use Rattle.std.proofs.Common.{take}
-use Rattle.kt_list.specs.Prefixes.{HasMore}
-use Rattle.kt_list.specs.Names.{AreNumbersOf}
+use Rattle.kt_list.specs.views.Prefixes.{HasMore}
+use Rattle.kt_list.specs.views.Names.{AreNumbersOf}
 use Rattle.kt_rules.proofs.dictionary.number_names.Given as goal
 
 abbrev pub invariant-loop-name : goal.invariant-loop-name

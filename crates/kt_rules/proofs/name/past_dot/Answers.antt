@@ -1,5 +1,5 @@
 use Rattle.kt_rules.proofs.Common.{arith, length-drop, length-take}
-use Rattle.kt_rules.proofs.DotLemmas.{no_dots, past_slashes}
+use Rattle.kt_rules.proofs.lemmas.DotLemmas.{no_dots, past_slashes}
 use Rattle.kt_rules.proofs.name.past_dot.Goals as goal
 
 pub returns-in-None : goal.returns-in-None

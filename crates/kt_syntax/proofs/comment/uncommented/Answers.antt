@@ -1,5 +1,5 @@
 use Rattle.std.proofs.Common.{sym, ◌∙◌}
-use Rattle.kt_syntax.proofs.SymbolLemmas.{not_there, nothing_uncommented}
+use Rattle.kt_syntax.proofs.lemmas.SymbolLemmas.{not_there, nothing_uncommented}
 use Rattle.kt_syntax.proofs.comment.uncommented.Goals as goal
 
 pub returns : goal.returns

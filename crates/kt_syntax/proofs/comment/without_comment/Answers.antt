@@ -1,6 +1,6 @@
 use Rattle.std.proofs.Common.{length, get_or, true≢false, arith}
 use Rattle.kt_syntax.proofs.Common.{eqb-true, eq-eqb}
-use Rattle.kt_syntax.proofs.Uncommenting.{at_symbol, uncommented-backslash, uncommented-literal, uncommented-comment, uncommented-other, uncommented-nil}
+use Rattle.kt_syntax.proofs.lemmas.Uncommenting.{at_symbol, uncommented-backslash, uncommented-literal, uncommented-comment, uncommented-other, uncommented-nil}
 use Rattle.kt_syntax.proofs.comment.without_comment.Goals as goal
 use Rattle.kt_syntax.proofs.comment.without_comment.Goals.{then-is, else-is+then-is-2+in_ok-put_backslashes+else-run-eq0+in_ok-push, else-is+else-is-2+in_ok-put_backslashes-2+in_ok-push-2}
 

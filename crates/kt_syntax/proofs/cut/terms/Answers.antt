@@ -1,6 +1,7 @@
 use Rattle.std.proofs.Common.{sym, subst, ◌∙◌, ◌≤◌, length, List}
-use Rattle.kt_syntax.specs.Terms.{Term, IsSplitting}
-use Rattle.kt_syntax.proofs.Splitting.{one_splitting, text_count_bound}
+use Rattle.kt_syntax.specs.Terms.{Term}
+use Rattle.kt_syntax.specs.views.Terms.{IsSplitting}
+use Rattle.kt_syntax.proofs.lemmas.Splitting.{one_splitting, text_count_bound}
 use Rattle.kt_syntax.proofs.cut.terms.Goals as goal
 
 pub returns-clause-splits : goal.returns-clause-splits

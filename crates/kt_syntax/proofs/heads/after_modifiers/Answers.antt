@@ -1,7 +1,7 @@
 use Rattle.std.proofs.Common.{◌≡◌, ◌<◌, ◌+◌, ◌∷◌, List, ℕ, true, ap, ◌∙◌, sym, arith, drop, take, length, Some}
 use Rattle.kt_syntax.proofs.Common.{is_blank, after_modifier, mask_of}
-use Rattle.kt_syntax.proofs.Masking.{length-front}
-use Rattle.kt_syntax.proofs.ModifierLemmas.{next_rest, scan_blank, scan_next, scan_more, word_found, word_other, word_last, ahead_next, ahead_end}
+use Rattle.kt_syntax.proofs.lemmas.Masking.{length-front}
+use Rattle.kt_syntax.proofs.lemmas.ModifierLemmas.{next_rest, scan_blank, scan_next, scan_more, word_found, word_other, word_last, ahead_next, ahead_end}
 use Rattle.kt_syntax.proofs.heads.after_modifiers.Goals as goal
 use Rattle.kt_syntax.proofs.heads.after_modifiers.Goals.{then-is_blank+else-begin-place, else-begin-place-via-then-begin-place+else-not-is_modifier, else-begin-place-via-else-begin-place, then-begin-place-2, else-begin-place-2, else-is_blank}
 

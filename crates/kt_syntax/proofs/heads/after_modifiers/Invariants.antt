@@ -1,6 +1,6 @@
 use Rattle.std.proofs.Common.{◌≡◌, ◌+◌, length, drop, take}
 use Rattle.kt_syntax.proofs.Common.{after_modifiers, mask_of}
-use Rattle.kt_syntax.proofs.ModifierLemmas.{Ahead, Scan}
+use Rattle.kt_syntax.proofs.lemmas.ModifierLemmas.{Ahead, Scan}
 use Rattle.kt_syntax.proofs.heads.after_modifiers.Given as goal
 
 abbrev pub invariant-loop-symbol : goal.invariant-loop-symbol

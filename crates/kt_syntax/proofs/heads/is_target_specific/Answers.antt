@@ -1,5 +1,5 @@
 use Rattle.std.proofs.Common.{sym, take, ◌∙◌}
-use Rattle.kt_syntax.proofs.Unsigned.{unsigned_is_unspecific}
+use Rattle.kt_syntax.proofs.lemmas.Unsigned.{unsigned_is_unspecific}
 use Rattle.kt_syntax.specs.Mask.{mask_of}
 use Rattle.kt_syntax.proofs.heads.is_target_specific.Goals as goal
 

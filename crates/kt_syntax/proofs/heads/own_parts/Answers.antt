@@ -1,4 +1,4 @@
-use Rattle.kt_syntax.proofs.HeadLemmas.{uncut_parts}
+use Rattle.kt_syntax.proofs.lemmas.HeadLemmas.{uncut_parts}
 use Rattle.kt_syntax.proofs.heads.own_parts.Goals as goal
 
 pub returns-in-None : goal.returns-in-None

@@ -1,5 +1,5 @@
 use Rattle.std.proofs.Common.{◌∙◌}
-use Rattle.kt_syntax.proofs.HeadLemmas.{texts_told}
+use Rattle.kt_syntax.proofs.lemmas.HeadLemmas.{texts_told}
 use Rattle.kt_syntax.proofs.heads.own_parts_by_signs.Goals as goal
 
 pub returns : goal.returns

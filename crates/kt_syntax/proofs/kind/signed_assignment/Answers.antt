@@ -1,5 +1,5 @@
 use Rattle.kt_syntax.proofs.Common.{mask_of, take}
-use Rattle.kt_syntax.proofs.Kinding.{parts_found}
+use Rattle.kt_syntax.proofs.lemmas.Kinding.{parts_found}
 use Rattle.kt_syntax.proofs.kind.signed_assignment.Goals as goal
 
 pub returns-clause-value : goal.returns-clause-value

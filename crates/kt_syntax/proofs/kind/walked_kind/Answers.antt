@@ -1,6 +1,6 @@
 use Rattle.std.proofs.Common.{arith, Some, None, ap, ◌∙◌, List, ℕ}
 use Rattle.kt_syntax.proofs.Common.{take_rest, slice_range, assignment}
-use Rattle.kt_syntax.proofs.Kinding.{kind_blank, kind_other}
+use Rattle.kt_syntax.proofs.lemmas.Kinding.{kind_blank, kind_other}
 use Rattle.kt_syntax.proofs.kind.walked_kind.Goals as goal
 
 pub returns-then-begin-end : goal.returns-then-begin-end

@@ -1,5 +1,5 @@
 use Rattle.std.proofs.Common.{arith, ◌∙◌, sym}
-use Rattle.kt_syntax.proofs.Masking.{past-newline, past-return, past-other}
+use Rattle.kt_syntax.proofs.lemmas.Masking.{past-newline, past-return, past-other}
 use Rattle.kt_syntax.proofs.mask.after_mark.Goals as goal
 
 pub returns-then-starts_with-clause-value : goal.returns-then-starts_with-clause-value

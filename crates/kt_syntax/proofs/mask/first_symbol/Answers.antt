@@ -1,7 +1,7 @@
 use Rattle.std.proofs.Common.{arith}
 use Rattle.std.proofs.lemmas.Bool.{eqb-true, false_from_ne_true}
-use Rattle.kt_syntax.proofs.Masking.{step-inside, step-outside}
-use Rattle.kt_syntax.proofs.OwnSymbols.{own_step}
+use Rattle.kt_syntax.proofs.lemmas.Masking.{step-inside, step-outside}
+use Rattle.kt_syntax.proofs.lemmas.OwnSymbols.{own_step}
 use Rattle.kt_syntax.proofs.mask.first_symbol.Goals as goal
 
 pub returns-then-skip-gt0 : goal.returns-then-skip-gt0

@@ -2,8 +2,8 @@ use Rattle.std.proofs.Common.{arith}
 use Rattle.kt_syntax.proofs.Common.{length-map}
 use Rattle.kt_syntax.specs.Parts.{block_parts}
 use Rattle.kt_syntax.specs.Roles.{heads_of}
-use Rattle.kt_syntax.proofs.NestingLemmas.{length-parts}
-use Rattle.kt_syntax.proofs.ReadingOn.{length-steps, steps_are_readable}
+use Rattle.kt_syntax.proofs.lemmas.NestingLemmas.{length-parts}
+use Rattle.kt_syntax.proofs.lemmas.ReadingOn.{length-steps, steps_are_readable}
 use Rattle.kt_syntax.proofs.nesting.marked_blocks.Goals as goal
 
 pub new-requires : goal.new-requires

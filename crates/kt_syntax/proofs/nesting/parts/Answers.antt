@@ -1,7 +1,7 @@
 use Rattle.std.proofs.Common.{◌≤◌, length, ap, ◌∙◌, arith}
 use Rattle.kt_syntax.specs.Parts.{missing_in}
 use Rattle.kt_syntax.specs.Roles.{numbered_role}
-use Rattle.kt_syntax.proofs.NestingLemmas.{depth-after, parts_ended, parts_more, scanned_ended, scanned_more}
+use Rattle.kt_syntax.proofs.lemmas.NestingLemmas.{depth-after, parts_ended, parts_more, scanned_ended, scanned_more}
 use Rattle.kt_syntax.proofs.nesting.parts.Goals as goal
 
 pub loop-line-preserved : goal.loop-line-preserved

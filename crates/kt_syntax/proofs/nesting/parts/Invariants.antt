@@ -1,5 +1,6 @@
 use Rattle.std.proofs.Common.{◌≡◌, ◌≤◌, ◌++◌, drop}
-use Rattle.kt_syntax.specs.Parts.{block_parts, depth_of, nothing_open, open_at_end, parts_from}
+use Rattle.kt_syntax.specs.Parts.{block_parts, nothing_open, open_at_end, parts_from}
+use Rattle.kt_syntax.specs.inner.Blocks.{depth_of}
 use Rattle.kt_syntax.specs.Roles.{heads_of}
 use Rattle.kt_syntax.proofs.nesting.parts.Given as goal
 

@@ -1,5 +1,5 @@
 use Rattle.std.proofs.Common.{◌∙◌, ◌==◌}
-use Rattle.kt_text.proofs.PlaceLemmas.{first_byte_place}
+use Rattle.kt_text.proofs.lemmas.PlaceLemmas.{first_byte_place}
 use Rattle.kt_syntax.proofs.next_term.literal_length.Goals as goal
 
 pub returns-clause-value : goal.returns-clause-value

@@ -1,5 +1,5 @@
 use Rattle.std.proofs.Common.{sym, ◌∙◌}
-use Rattle.kt_syntax.proofs.SymbolLemmas.{no_comment, not_there}
+use Rattle.kt_syntax.proofs.lemmas.SymbolLemmas.{no_comment, not_there}
 use Rattle.kt_syntax.proofs.places.comment_place.Goals as goal
 
 pub returns-clause-value : goal.returns-clause-value

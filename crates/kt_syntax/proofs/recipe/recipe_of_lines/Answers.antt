@@ -1,6 +1,6 @@
 use Rattle.std.proofs.Common.{length, refl, arith, length-drop}
 use Rattle.kt_syntax.specs.Recipes.{recipe_of}
-use Rattle.kt_syntax.proofs.RecipeLemmas.{recipe_more, recipe_end, recipe_of-start}
+use Rattle.kt_syntax.proofs.lemmas.RecipeLemmas.{recipe_more, recipe_end, recipe_of-start}
 use Rattle.kt_syntax.proofs.recipe.recipe_of_lines.Goals as goal
 
 pub loop-place-init : goal.loop-place-init

@@ -1,5 +1,5 @@
 use Rattle.std.proofs.Common.{sym, ◌∙◌}
-use Rattle.kt_syntax.proofs.RoleLemmas.{else_role, endif_role}
+use Rattle.kt_syntax.proofs.lemmas.RoleLemmas.{else_role, endif_role}
 use Rattle.kt_syntax.proofs.role.line_role.Goals as goal
 
 pub returns-then-is_word : goal.returns-then-is_word

@@ -1,6 +1,6 @@
 use Rattle.std.proofs.Common.{◌≡◌, length, arith}
 use Rattle.kt_text.proofs.Common.{nat_tests, condensed_of}
-use Rattle.kt_text.proofs.CondensedLemmas.{condensed_end}
+use Rattle.kt_text.proofs.lemmas.CondensedLemmas.{condensed_end}
 use Rattle.kt_text.proofs.condense.condensed.Goals as goal
 
 pub returns : goal.returns

@@ -1,6 +1,6 @@
 use Rattle.std.proofs.Common.{◌≡◌, ◌++◌, length}
 use Rattle.kt_text.specs.Lines.{groups, newline_pieces, condensed_of}
-use Rattle.kt_text.proofs.CondensedLemmas.{left_text}
+use Rattle.kt_text.proofs.lemmas.CondensedLemmas.{left_text}
 use Rattle.kt_text.proofs.condense.condensed.Given as goal
 
 abbrev pub invariant-loop-rest : goal.invariant-loop-rest

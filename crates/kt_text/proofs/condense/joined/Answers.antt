@@ -1,5 +1,5 @@
 use Rattle.std.proofs.Common.{sym, ◌∙◌}
-use Rattle.kt_text.proofs.CondensedLemmas.{without_newline}
+use Rattle.kt_text.proofs.lemmas.CondensedLemmas.{without_newline}
 use Rattle.kt_text.proofs.condense.joined.Goals as goal
 
 pub returns : goal.returns

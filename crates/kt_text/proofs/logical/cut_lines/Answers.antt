@@ -1,6 +1,6 @@
 use Rattle.std.proofs.Common.{◌≡◌, ◌++◌, ◌&&◌, ◌∙◌, ap, Bool, true, false, length, append-nil, refl, sym, arith, rules}
 use Rattle.kt_text.proofs.Common.{nat_tests, is_nonempty, logical_lines_of}
-use Rattle.kt_text.proofs.LogicalLemmas.{line_ended, lines_start, lines_more, lines_end}
+use Rattle.kt_text.proofs.lemmas.LogicalLemmas.{line_ended, lines_start, lines_more, lines_end}
 use Rattle.kt_text.proofs.logical.cut_lines.Goals as goal
 use Rattle.kt_text.proofs.logical.cut_lines.Goals.{then-not-continued+in_ok-of+in_ok-push, else-not-continued}
 

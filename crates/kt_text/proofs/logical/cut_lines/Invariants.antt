@@ -1,6 +1,6 @@
 use Rattle.std.proofs.Common.{◌≡◌, ◌≤◌, ◌+◌, ◌++◌, length}
 use Rattle.kt_text.proofs.Common.{lines_of, groups, logical_lines_of}
-use Rattle.kt_text.proofs.LogicalLemmas.{lines_left}
+use Rattle.kt_text.proofs.lemmas.LogicalLemmas.{lines_left}
 use Rattle.kt_text.proofs.logical.cut_lines.Given as goal
 
 abbrev pub invariant-loop-rest : goal.invariant-loop-rest

@@ -1,5 +1,5 @@
 use Rattle.kt_text.proofs.Common.{length, List, sym, subst, Line, AreInOrder}
-use Rattle.kt_text.proofs.OrderLemmas.{lines_in_order}
+use Rattle.kt_text.proofs.lemmas.OrderLemmas.{lines_in_order}
 use Rattle.kt_text.proofs.logical.line_marks.Goals as goal
 
 pub returns-clause-order : goal.returns-clause-order

@@ -1,6 +1,6 @@
 use Rattle.std.proofs.Common.{arith, ◌+◌, ◌∙◌}
 use Rattle.std.proofs.lemmas.List.{take_rest}
-use Rattle.kt_text.proofs.MatchLemmas.{percent_found, no_percent_found}
+use Rattle.kt_text.proofs.lemmas.MatchLemmas.{percent_found, no_percent_found}
 use Rattle.kt_text.proofs.pattern.cut_pattern.Goals as goal
 
 pub returns : goal.returns

@@ -1,5 +1,5 @@
 use Rattle.std.proofs.Common.{arith}
-use Rattle.kt_text.proofs.MatchLemmas.{no_Match-plain, IfNone-apart}
+use Rattle.kt_text.proofs.lemmas.MatchLemmas.{no_Match-plain, IfNone-apart}
 use Rattle.kt_text.proofs.pattern.match_pattern.Goals as goal
 
 pub returns-in-None-clause-no_match : goal.returns-in-None-clause-no_match

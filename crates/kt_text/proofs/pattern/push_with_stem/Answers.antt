@@ -1,6 +1,6 @@
 use Rattle.std.proofs.Common.{◌∙◌, ◌++◌, ap}
 use Rattle.kt_text.specs.Match.{pattern_back, pattern_front}
-use Rattle.kt_text.proofs.BegunLemmas.{begun, begun_after}
+use Rattle.kt_text.proofs.lemmas.BegunLemmas.{begun, begun_after}
 use Rattle.kt_list.proofs.general.Results.{on_err}
 use Rattle.kt_text.proofs.pattern.push_with_stem.Goals as goal
 

@@ -1,6 +1,6 @@
 use Rattle.std.proofs.Common.{◌≡◌, suc, ◌+◌, ◌-◌, ◌*◌, ◌^◌, ◌∙◌, sym, ap, drop, arith}
-use Rattle.kt_text.specs.Sorted.{front_number}
-use Rattle.kt_text.proofs.SortLemmas.{front_fits, front_grows, front_number-more, front_number-start, front_number-end}
+use Rattle.kt_text.specs.views.Sorted.{front_number}
+use Rattle.kt_text.proofs.lemmas.SortLemmas.{front_fits, front_grows, front_number-more, front_number-start, front_number-end}
 use Rattle.kt_text.proofs.sort_key.front_number.Goals as goal
 
 pub overflow_mul-front : goal.overflow_mul-front

@@ -1,5 +1,5 @@
 use Rattle.std.proofs.Common.{◌≡◌, ◌+◌, ◌-◌, ◌*◌, ◌^◌, ◌<◌, ◌≤◌, drop}
-use Rattle.kt_text.specs.Sorted.{front_number}
+use Rattle.kt_text.specs.views.Sorted.{front_number}
 use Rattle.kt_text.proofs.sort_key.front_number.Given as goal
 
 abbrev pub invariant-loop-i : goal.invariant-loop-i

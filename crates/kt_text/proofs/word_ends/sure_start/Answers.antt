@@ -1,7 +1,7 @@
 use Rattle.std.proofs.Common.{◌≡◌, ℕ, List, drop, take, ap, arith, ◌∙◌}
 use Rattle.kt_text.proofs.Common.{prefix_len, take_rest}
 use Rattle.kt_text.specs.inner.Sure.{is_sure}
-use Rattle.kt_text.proofs.SureLemmas.{run_on}
+use Rattle.kt_text.proofs.lemmas.SureLemmas.{run_on}
 use Rattle.kt_text.proofs.word_ends.sure_start.Goals as goal
 
 pub returns-then-run-lt16-clause-sure : goal.returns-then-run-lt16-clause-sure

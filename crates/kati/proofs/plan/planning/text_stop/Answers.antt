@@ -1,4 +1,4 @@
-use Rattle.kt_ninja.specs.Writable.{told_obstacle}
+use Rattle.kt_ninja.specs.views.Writable.{told_obstacle}
 use Rattle.kati.specs.inner.plan.Shown.{plan_view}
 use Rattle.kati.proofs.lemmas.plan.PlanLemmas.{text_settled}
 use Rattle.kati.proofs.plan.planning.text_stop.Goals as goal

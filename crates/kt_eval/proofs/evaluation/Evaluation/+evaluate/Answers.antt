@@ -265,7 +265,7 @@ read_conditional-returns-in_err-branch_holds-2 g t c =
 
 pub are_equal-returns-in-Some : goal.are_equal-returns-in-Some
 are_equal-returns-in-Some g t c = record {
-  gives = λ store agrees. c.in-Some.ensures g.M.MacroScope.writable store;
+  gives = λ store agrees. c.in-Some.ensures.quick g.M.MacroScope.writable store;
   cut = λ store agrees. tt;
   kept = search rules;
   blames = search rules;
@@ -274,4 +274,4 @@ are_equal-returns-in-Some g t c = record {
 pub read_next-returns : goal.read_next-returns
 read_next-returns g t c =
     reads_from_earlier g.M.MacroScope.writable c.args.below c.args.page.now c.args.place c.past_comments-at.result _ _ _
-    c.past_comments-at.ensures.after c.past_comments-at.ensures.same c.read_step.ensures
+    c.past_comments-at.ensures.after c.past_comments-at.ensures.quick_same c.read_step.ensures

@@ -1,5 +1,5 @@
 use Rattle.std.proofs.Common.{◌∙◌, ◌++◌, ap, codes}
-use Rattle.kt_text.proofs.BegunLemmas.{begun, begun_front}
+use Rattle.kt_text.proofs.lemmas.BegunLemmas.{begun, begun_front}
 use Rattle.kt_list.proofs.general.Results.{on_err}
 use Rattle.kt_eval.specs.Faults.{two_digits}
 use Rattle.kt_eval.proofs.lemmas.FaultLemmas.{from_brace, from_words, placing, marked, worded, braced, numbered}

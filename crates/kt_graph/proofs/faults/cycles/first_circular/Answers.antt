@@ -12,4 +12,4 @@ pub first_back-requires : goal.first_back-requires
 first_back-requires c =
     held_in_both c.args.edges.now c.in_ok-reversed.reversed c.in_ok-arrivals.arrivals.items c.in_ok-departures.departures.items c.in_ok-held.held.items
     c.in_ok-reversed.ensures c.in_ok-arrivals.ensures c.in_ok-departures.ensures
-    (rw (c.as_slice-2.ensures.value, c.as_slice-3.ensures.value) at c.in_ok-held.ensures)
+    (rw (c.as_slice-2.ensures.value, c.as_slice-3.ensures.value) at c.in_ok-held.ensures.quick)

@@ -6,4 +6,4 @@ pub loop-vertex-init : goal.loop-vertex-init
 loop-vertex-init c = (rw c.in_ok-held.ensures.items refl, λ vertex less. absurd (omega (arith, less)))
 
 pub returns : goal.returns
-returns c = grind (arith, ⊎_elim, length, get_or_past, cases_lt)
+returns c = record { quick = grind (arith, ⊎_elim, length, get_or_past, cases_lt) }

@@ -1,5 +1,5 @@
 use Rattle.std.proofs.Common.{sym, ◌∙◌, ap, rules, reverse}
-use Rattle.kt_graph.specs.faults.Paths.{ends_in_name}
+use Rattle.kt_graph.specs.inner.faults.Files.{ends_in_name}
 use Rattle.kt_graph.proofs.lemmas.faults.PartLemmas.{taken_up, told}
 use Rattle.kt_graph.proofs.faults.paths.step_up.Goals as goal
 

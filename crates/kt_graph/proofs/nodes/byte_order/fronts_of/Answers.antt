@@ -1,5 +1,5 @@
 use Rattle.std.proofs.Common.{◌≡◌, ◌∙◌, ◌<◌, All, Bor, ap, map, subst, sym}
-use Rattle.kt_text.specs.Sorted.{front_number}
+use Rattle.kt_text.specs.views.Sorted.{front_number}
 use Rattle.kt_graph.proofs.Common.{Text, name_at}
 use Rattle.kt_graph.proofs.lemmas.nodes.OrderLemmas.{fronts_more}
 use Rattle.kt_graph.proofs.nodes.byte_order.fronts_of.Goals as goal

@@ -1,5 +1,5 @@
 use Rattle.std.proofs.Common.{◌≡◌, length}
-use Rattle.kt_graph.specs.nodes.Views.{nodes_view}
+use Rattle.kt_graph.specs.inner.nodes.NodeTable.{nodes_view}
 use Rattle.kt_graph.proofs.nodes.graph.first_node.Given as goal
 
 abbrev pub invariant-loop-left : goal.invariant-loop-left

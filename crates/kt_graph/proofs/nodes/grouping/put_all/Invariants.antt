@@ -1,5 +1,5 @@
 use Rattle.std.proofs.Common.{◌≡◌, ◌++◌, drop}
-use Rattle.kt_graph.specs.nodes.Views.{nodes_view}
+use Rattle.kt_graph.specs.inner.nodes.NodeTable.{nodes_view}
 use Rattle.kt_graph.proofs.nodes.grouping.put_all.Given as goal
 
 abbrev pub invariant-loop-number : goal.invariant-loop-number

@@ -1,5 +1,6 @@
 use Rattle.std.proofs.Common.{◌≡◌, ◌∙◌, ◌++◌, ◌∷◌, [], List, ℕ, ap, length, slice_get, sym}
-use Rattle.kt_list.specs.Names.{is_among, place_of, with_name}
+use Rattle.kt_list.specs.Names.{is_among, with_name}
+use Rattle.kt_list.specs.views.Names.{place_of}
 use Rattle.kt_list.specs.inner.Hashes.{list_hash}
 use Rattle.kt_list.proofs.general.Results.{on_err}
 use Rattle.kt_list.proofs.ListLemmas.{adds, lacking, last_pushed, number_is, one_more, placed}

@@ -1,5 +1,5 @@
 use Rattle.std.proofs.Common.{◌∙◌, List, ℕ, ap}
-use Rattle.kt_list.specs.Names.{place_of}
+use Rattle.kt_list.specs.views.Names.{place_of}
 use Rattle.kt_list.specs.inner.Hashes.{list_hash}
 use Rattle.kt_list.proofs.ListLemmas.{number_is}
 use Rattle.kt_list.proofs.lists.Lists.number_of.Goals as goal

@@ -1,5 +1,6 @@
 use Rattle.std.proofs.Common.{◌∙◌, List, ℕ, ap, is_some, sym}
-use Rattle.kt_list.specs.Names.{is_among, place_of}
+use Rattle.kt_list.specs.Names.{is_among}
+use Rattle.kt_list.specs.views.Names.{place_of}
 use Rattle.kt_list.specs.inner.Hashes.{name_hash}
 use Rattle.kt_list.proofs.ListLemmas.{number_if, number_is}
 use Rattle.kt_list.proofs.names.Names.number_of.Goals as goal

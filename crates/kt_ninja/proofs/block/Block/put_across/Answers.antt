@@ -1,5 +1,5 @@
 use Rattle.kt_ninja.proofs.Common.{List, ℕ, arith, sym, subst, take-add, take_rest}
-use Rattle.kt_ninja.specs.Blocks.{Puts}
+use Rattle.kt_ninja.specs.inner.Blocks.{Puts}
 use Rattle.kt_ninja.proofs.Putting.{puts_then}
 use Rattle.kt_ninja.proofs.block.Block.put_across.Goals as goal
 

@@ -1,5 +1,5 @@
 use Rattle.std.proofs.Common.{length, take, ◌-◌, ◌≤◌}
-use Rattle.kt_ninja.specs.Blocks.{Puts}
+use Rattle.kt_ninja.specs.inner.Blocks.{Puts}
 use Rattle.kt_ninja.proofs.block.Block.put_across.Given as goal
 
 abbrev pub invariant-loop-done : goal.invariant-loop-done

@@ -1,5 +1,5 @@
 use Rattle.std.proofs.Common.{rules, ◌<◌, ℕ, List, length, codes, subst}
-use Rattle.kt_ninja.specs.Blocks.{Puts}
+use Rattle.kt_ninja.specs.inner.Blocks.{Puts}
 use Rattle.kt_ninja.specs.Text.{defaults_text}
 use Rattle.kt_ninja.proofs.Putting.{puts_none, puts_then}
 use Rattle.kt_ninja.proofs.Marks.{defaults_text-some}

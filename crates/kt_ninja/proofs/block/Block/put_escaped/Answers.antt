@@ -1,7 +1,7 @@
 use Rattle.std.proofs.Common.{ℕ, List, [], ◌∷◌, ◌++◌, take, refl, sym, subst, slice_index}
 use Rattle.kt_ninja.specs.Text.{escaped}
-use Rattle.kt_ninja.specs.Escaping.{is_escaped}
-use Rattle.kt_ninja.specs.Blocks.{Puts}
+use Rattle.kt_ninja.specs.inner.Escaping.{is_escaped}
+use Rattle.kt_ninja.specs.inner.Blocks.{Puts}
 use Rattle.kt_ninja.proofs.Putting.{up_to_more, up_to_all}
 use Rattle.kt_ninja.proofs.Escaping.{escaped-first, escaped-none}
 use Rattle.kt_ninja.proofs.block.Block.put_escaped.Goals as goal

@@ -1,5 +1,5 @@
 use Rattle.kt_ninja.proofs.Common.{length, escaped}
-use Rattle.kt_ninja.specs.Escaping.{is_escaped}
+use Rattle.kt_ninja.specs.inner.Escaping.{is_escaped}
 use Rattle.kt_ninja.proofs.Putting.{PutsUpTo}
 use Rattle.kt_ninja.proofs.block.Block.put_escaped.Given as goal
 

@@ -1,6 +1,6 @@
 use Rattle.std.proofs.Common.{◌∙◌, ◌≡◌, ◌+◌, ◌++◌, ℕ, List, drop, sym, ap, arith, rules, option_map}
 use Rattle.kt_ninja.proofs.Common.{Bor, drop_all, statement_text, statements_text, rule_count, at_place}
-use Rattle.kt_ninja.specs.View.{made_by}
+use Rattle.kt_ninja.specs.Plan.{made_by}
 use Rattle.kt_ninja.proofs.Places.{drop_at}
 use Rattle.kt_ninja.proofs.Putting.{up_to_more, up_to_end, up_to_start}
 use Rattle.kt_ninja.proofs.block.Block.put_statements.Goals as goal

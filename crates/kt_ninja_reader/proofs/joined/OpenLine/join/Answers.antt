@@ -1,5 +1,5 @@
 use Rattle.kt_ninja_reader.proofs.Common.{refl, on_ok_weaker, OpenLine}
-use Rattle.kt_ninja_reader.proofs.JoinedLemmas.{joins}
+use Rattle.kt_ninja_reader.proofs.lemmas.JoinedLemmas.{joins}
 use Rattle.kt_ninja_reader.proofs.joined.OpenLine.join.Goals as goal
 
 pub returns : goal.returns

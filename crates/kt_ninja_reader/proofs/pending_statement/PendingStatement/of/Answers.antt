@@ -1,7 +1,7 @@
 use Rattle.std.proofs.Common.{arith}
 use Rattle.kt_ninja_reader.proofs.Common.{err_from_is_err_and}
-use Rattle.kt_ninja_reader.proofs.PieceLemmas.{refuses_too}
-use Rattle.kt_ninja_reader.proofs.StateLemmas.{no_implicit, no_inputs, no_order_only}
+use Rattle.kt_ninja_reader.proofs.lemmas.PieceLemmas.{refuses_too}
+use Rattle.kt_ninja_reader.proofs.lemmas.StateLemmas.{no_implicit, no_inputs, no_order_only}
 use Rattle.kt_ninja_reader.proofs.pending_statement.PendingStatement.of.Goals as goal
 
 pub returns-in_err-inputs : goal.returns-in_err-inputs

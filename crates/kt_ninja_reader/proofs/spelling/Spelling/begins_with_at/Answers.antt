@@ -1,6 +1,6 @@
 use Rattle.std.proofs.Common.{ap, sym, ◌∙◌}
 use Rattle.kt_ninja_reader.specs.Forms.{begins_with_at}
-use Rattle.kt_ninja_reader.proofs.SpelledParts.{at_first, at_none}
+use Rattle.kt_ninja_reader.proofs.lemmas.SpelledParts.{at_first, at_none}
 use Rattle.kt_ninja_reader.proofs.spelling.Spelling.begins_with_at.Goals as goal
 
 pub returns-in-Some : goal.returns-in-Some

@@ -1,5 +1,5 @@
 use Rattle.std.proofs.Common.{◌∙◌}
-use Rattle.kt_ninja_reader.proofs.SpelledParts.{empty_length}
+use Rattle.kt_ninja_reader.proofs.lemmas.SpelledParts.{empty_length}
 use Rattle.kt_ninja_reader.proofs.spelling.Spelling.is_empty.Goals as goal
 
 pub returns : goal.returns

@@ -1,8 +1,8 @@
 use Rattle.std.proofs.Common.{◌++◌, ap, map, sym, ◌∙◌}
 use Rattle.kt_ninja_reader.specs.Pieces.{Plain}
 use Rattle.kt_ninja_reader.specs.inner.Spelled.{pieces_in}
-use Rattle.kt_ninja_reader.proofs.SpelledLemmas.{run_read}
-use Rattle.kt_ninja_reader.proofs.SpelledParts.{nothing_in}
+use Rattle.kt_ninja_reader.proofs.lemmas.SpelledLemmas.{run_read}
+use Rattle.kt_ninja_reader.proofs.lemmas.SpelledParts.{nothing_in}
 use Rattle.kt_ninja_reader.proofs.spelling.Spelling.run.Goals as goal
 
 pub next-requires-clause-spelled : goal.next-requires-clause-spelled

@@ -1,5 +1,5 @@
 use Rattle.std.proofs.Common.{arith, append_assoc, append-nil}
-use Rattle.kt_ninja_reader.proofs.SpelledParts.{names_end, names_from}
+use Rattle.kt_ninja_reader.proofs.lemmas.SpelledParts.{names_end, names_from}
 use Rattle.kt_ninja_reader.proofs.spelling.Spelling.variables.Goals as goal
 
 pub loop-dollar-preserved : goal.loop-dollar-preserved

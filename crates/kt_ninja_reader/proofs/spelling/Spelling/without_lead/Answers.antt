@@ -1,7 +1,7 @@
 use Rattle.std.proofs.Common.{ap, ◌∙◌}
 use Rattle.kt_ninja_reader.specs.Forms.{without_lead}
 use Rattle.kt_ninja_reader.specs.inner.Spelled.{pieces_in}
-use Rattle.kt_ninja_reader.proofs.SpelledParts.{lead_cut}
+use Rattle.kt_ninja_reader.proofs.lemmas.SpelledParts.{lead_cut}
 use Rattle.kt_ninja_reader.proofs.spelling.Spelling.without_lead.Goals as goal
 
 pub invariant_of-result : goal.invariant_of-result

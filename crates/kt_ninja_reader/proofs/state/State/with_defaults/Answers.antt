@@ -1,6 +1,6 @@
 use Rattle.std.proofs.Common.{◌++◌, ap, sym, ◌∙◌}
 use Rattle.kt_ninja_reader.proofs.Common.{list_all, State, add_defaults, is_among}
-use Rattle.kt_ninja_reader.proofs.StateLemmas.{defaults_added}
+use Rattle.kt_ninja_reader.proofs.lemmas.StateLemmas.{defaults_added}
 use Rattle.kt_ninja_reader.proofs.state.State.with_defaults.Goals as goal
 
 pub returns : goal.returns

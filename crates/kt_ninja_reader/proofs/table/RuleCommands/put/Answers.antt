@@ -1,6 +1,6 @@
 use Rattle.std.proofs.Common.{map, ap, ◌∙◌}
 use Rattle.kt_ninja_reader.specs.Scopes.{put_in}
-use Rattle.kt_ninja_reader.proofs.TableLemmas.{put_in_borrowed}
+use Rattle.kt_ninja_reader.proofs.lemmas.TableLemmas.{put_in_borrowed}
 use Rattle.kt_ninja_reader.proofs.table.RuleCommands.put.Goals as goal
 
 pub returns : goal.returns

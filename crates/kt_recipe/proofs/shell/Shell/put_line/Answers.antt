@@ -18,7 +18,7 @@ returns-then-branch-clause-says c =
     let at = setting_at shell c.args.line.now.place in
     let line : Text = c.args.line.now.text in
     let known : c.in_ok-fill.field-0 ≡ true = search rules in
-    let filled = c.in_ok-fill.ensures.filled known in
+    let filled = c.in_ok-fill.ensures.quick_filled known in
     let told =
     subst (λ (commands : Commands). IsFilled commands (after_run line) shell.node.now shell.part c.fill.new.out.items) c.requires
     (rw (c.after_run-bare.ensures, c.as_slice.ensures) at filled) in

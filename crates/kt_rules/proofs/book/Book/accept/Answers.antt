@@ -1,8 +1,8 @@
 use Rattle.std.proofs.Common.{arith, ◌≡◌, ◌∙◌, List, Some, slice_get, ap}
 use Rattle.kt_rules.specs.Book.{override_messages}
-use Rattle.kt_rules.proofs.BookLemmas.{holds_back, holds_grown, holds_learned, pushed_rule, rules_back}
+use Rattle.kt_rules.proofs.lemmas.book.BookLemmas.{holds_back, holds_grown, holds_learned, pushed_rule, rules_back}
 use Rattle.kt_rules.proofs.Common.{Entry}
-use Rattle.kt_rules.proofs.OverrideLemmas.{warned_by_spots}
+use Rattle.kt_rules.proofs.lemmas.book.OverrideLemmas.{warned_by_spots}
 use Rattle.kt_rules.proofs.book.Book.accept.Goals as goal
 
 pub invariant_of-self : goal.invariant_of-self

@@ -1,6 +1,6 @@
 use Rattle.std.proofs.Common.{length, arith}
 use Rattle.kt_rules.proofs.Common.{append_assoc, append-nil}
-use Rattle.kt_rules.proofs.NumberLemmas.{numbers_start, numbers_step}
+use Rattle.kt_rules.proofs.lemmas.book.NumberLemmas.{numbers_start, numbers_step}
 use Rattle.kt_rules.proofs.book.Book.entry_numbers.Goals as goal
 
 pub loop-number-init : goal.loop-number-init

@@ -1,6 +1,6 @@
 use Rattle.std.proofs.Common.{◌≡◌, ◌++◌, ◌+◌, ◌<◌, ◌^◌, length}
 use Rattle.kt_rules.proofs.Common.{enumerate_from, flat_map, Text, explicit_numbers, numbers_in, suffixes_of}
-use Rattle.kt_rules.specs.Indexes.{noted_at}
+use Rattle.kt_rules.specs.views.Indexes.{noted_at}
 use Rattle.kt_rules.proofs.book.Book.entry_numbers.Given as goal
 
 abbrev pub invariant-loop-number : goal.invariant-loop-number

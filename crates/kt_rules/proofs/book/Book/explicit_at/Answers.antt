@@ -1,5 +1,5 @@
 use Rattle.std.proofs.Common.{◌∙◌, refl}
-use Rattle.kt_rules.proofs.GoalLemmas.{explicit_by_spots}
+use Rattle.kt_rules.proofs.lemmas.book.GoalLemmas.{explicit_by_spots}
 use Rattle.kt_rules.proofs.book.Book.explicit_at.Goals as goal
 
 pub returns : goal.returns

@@ -1,5 +1,5 @@
 use Rattle.std.proofs.Common.{arith}
-use Rattle.kt_rules.proofs.FindLemmas.{find_left}
+use Rattle.kt_rules.proofs.lemmas.book.FindLemmas.{find_left}
 use Rattle.kt_rules.proofs.book.Book.first_beside_group.Goals as goal
 
 pub returns-then-is_beside_group : goal.returns-then-is_beside_group

@@ -1,6 +1,6 @@
 use Rattle.std.proofs.Common.{◌∙◌, Some, ap}
 use Rattle.kt_rules.proofs.Common.{Kind, is_double, xor, first_found, rule_view}
-use Rattle.kt_rules.proofs.GoalLemmas.{colons_by_first}
+use Rattle.kt_rules.proofs.lemmas.book.GoalLemmas.{colons_by_first}
 use Rattle.kt_rules.proofs.book.Book.has_other_colons.Goals as goal
 
 pub returns-in-Some : goal.returns-in-Some

@@ -1,5 +1,5 @@
 use Rattle.kt_rules.proofs.Common.{List, All, flat_map, subst, sym, Contains, Text, Entry}
-use Rattle.kt_rules.specs.Known.{names_in}
+use Rattle.kt_rules.specs.views.Known.{names_in}
 use Rattle.kt_rules.proofs.book.Book.name_table.Goals as goal
 
 pub returns : goal.returns

@@ -1,6 +1,6 @@
 use Rattle.std.proofs.Common.{◌≤◌, List, length, ap, subst, sym, arith}
 use Rattle.kt_rules.proofs.Common.{Text, Spot, Entry, spots_at}
-use Rattle.kt_rules.proofs.BookLemmas.{kept_made}
+use Rattle.kt_rules.proofs.lemmas.book.BookLemmas.{kept_made}
 use Rattle.kt_rules.proofs.book.Book.new.Goals as goal
 
 pub invariant_of-result : goal.invariant_of-result

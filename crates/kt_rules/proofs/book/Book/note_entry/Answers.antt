@@ -1,7 +1,7 @@
 use Rattle.std.proofs.Common.{◌∙◌, ◌++◌, ◌&&◌, ◌∷◌, [], List, sym, ap, map, filter, ℕ, if◌then◌else◌}
 use Rattle.kt_rules.proofs.Common.{bytes_eq, append_assoc, Target, is_explicit, suffixes_of, entry_view, target_view, targets_view}
-use Rattle.kt_rules.specs.Indexes.{noted_at}
-use Rattle.kt_rules.proofs.NumberLemmas.{numbers_left}
+use Rattle.kt_rules.specs.views.Indexes.{noted_at}
+use Rattle.kt_rules.proofs.lemmas.book.NumberLemmas.{numbers_left}
 use Rattle.kt_rules.proofs.book.Book.note_entry.Goals as goal
 
 pub loop-target-preserved : goal.loop-target-preserved

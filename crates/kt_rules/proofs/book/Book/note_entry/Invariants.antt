@@ -1,6 +1,6 @@
 use Rattle.std.proofs.Common.{◌≡◌, ◌++◌, ◌&&◌, filter, map}
 use Rattle.kt_rules.proofs.Common.{bytes_eq, Text, is_explicit, numbers_in, suffixes_of, entry_view, targets_view}
-use Rattle.kt_rules.specs.Indexes.{noted_at}
+use Rattle.kt_rules.specs.views.Indexes.{noted_at}
 use Rattle.kt_rules.proofs.book.Book.note_entry.Given as goal
 
 abbrev pub invariant-loop-target : goal.invariant-loop-target

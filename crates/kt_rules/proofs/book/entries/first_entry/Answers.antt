@@ -1,5 +1,5 @@
-use Rattle.kt_rules.specs.Targets.{entry_view}
-use Rattle.kt_rules.proofs.SpotLemmas.{rules_left}
+use Rattle.kt_rules.specs.views.Targets.{entry_view}
+use Rattle.kt_rules.proofs.lemmas.book.SpotLemmas.{rules_left}
 use Rattle.kt_rules.proofs.book.entries.first_entry.Goals as goal
 
 pub returns-then-from-len : goal.returns-then-from-len

@@ -1,5 +1,5 @@
 use Rattle.std.proofs.Common.{◌≡◌, length}
-use Rattle.kt_rules.specs.Slots.{explicit_left}
+use Rattle.kt_rules.specs.inner.Slots.{explicit_left}
 use Rattle.kt_rules.proofs.book.explicit.first_explicit.Given as goal
 
 abbrev pub invariant-loop-left : goal.invariant-loop-left

@@ -1,6 +1,6 @@
 use Rattle.std.proofs.Common.{◌∙◌, sym, ap, Option}
 use Rattle.kt_rules.proofs.Common.{option_or, Text, first_goal_by, entry_view}
-use Rattle.kt_rules.proofs.GoalLemmas.{goal_left, goal_none}
+use Rattle.kt_rules.proofs.lemmas.book.GoalLemmas.{goal_left, goal_none}
 use Rattle.kt_rules.proofs.book.goal.first_goal.Goals as goal
 
 pub returns-in-Some-goal_in : goal.returns-in-Some-goal_in

@@ -1,6 +1,6 @@
 use Rattle.std.proofs.Common.{◌≡◌, ℕ, length}
 use Rattle.kt_rules.specs.inner.Lists.{list_at}
-use Rattle.kt_rules.proofs.SpotLemmas.{forgot_before}
+use Rattle.kt_rules.proofs.lemmas.book.SpotLemmas.{forgot_before}
 use Rattle.kt_rules.proofs.book.lists.forget_all.Given as goal
 
 abbrev pub invariant-loop-number : goal.invariant-loop-number

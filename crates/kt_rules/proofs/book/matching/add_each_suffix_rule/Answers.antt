@@ -1,7 +1,7 @@
 use Rattle.std.proofs.Common.{◌∙◌, ◌++◌, List, sym, ap, map, filter}
 use Rattle.kt_rules.proofs.Common.{filter_map, append_assoc, Entry, is_made, suffix_rule_as_pattern, entry_view, target_view, targets_view}
-use Rattle.kt_rules.specs.Patterns.{suffix_rules_at}
-use Rattle.kt_rules.proofs.PatternLemmas.{suffix_rules_left}
+use Rattle.kt_rules.specs.inner.Patterns.{suffix_rules_at}
+use Rattle.kt_rules.proofs.lemmas.book.PatternLemmas.{suffix_rules_left}
 use Rattle.kt_rules.proofs.book.matching.add_each_suffix_rule.Goals as goal
 
 pub loop-target-preserved : goal.loop-target-preserved

@@ -1,5 +1,5 @@
 use Rattle.std.proofs.Common.{◌∙◌, sym}
-use Rattle.kt_rules.proofs.SparedLemmas.{none_appended}
+use Rattle.kt_rules.proofs.lemmas.book.SparedLemmas.{none_appended}
 use Rattle.kt_rules.proofs.book.matching.add_suffix_rules.Goals as goal
 
 pub returns : goal.returns

@@ -1,5 +1,5 @@
 use Rattle.std.proofs.Common.{vec_len}
-use Rattle.kt_rules.proofs.PatternLemmas.{IsSorted}
+use Rattle.kt_rules.proofs.lemmas.book.PatternLemmas.{IsSorted}
 use Rattle.kt_rules.proofs.book.matching.unrepeated.Given as goal
 
 abbrev pub invariant-loop-pattern : goal.invariant-loop-pattern

@@ -1,5 +1,5 @@
 use Rattle.kt_rules.proofs.Common.{entry_view, on_err}
-use Rattle.kt_rules.proofs.SpotLemmas.{grew_recipes, grew_spots}
+use Rattle.kt_rules.proofs.lemmas.book.SpotLemmas.{grew_recipes, grew_spots}
 use Rattle.kt_rules.proofs.book.noting.learn_rule.Goals as goal
 
 pub returns-clause-targets_refused : goal.returns-clause-targets_refused

@@ -1,7 +1,7 @@
 use Rattle.std.proofs.Common.{◌≡◌, ◌∙◌, ◌&&◌, ◌++◌, ◌∷◌, if◌then◌else◌, ℕ, nat_eq, List, [], Some, Bool, true, not, is_some, slice_get, sym, ap}
 use Rattle.kt_rules.proofs.Common.{Bor, named_at, name_at, on_ok_weaker, is_some-map, Text, Kind, RecipeLine, is_made, is_pattern, is_special, entry_view, numbered_target}
 use Rattle.kt_rules.specs.inner.Lists.{list_at}
-use Rattle.kt_rules.proofs.NoteLemmas.{target_noted}
+use Rattle.kt_rules.proofs.lemmas.book.NoteLemmas.{target_noted}
 use Rattle.kt_rules.proofs.book.noting.note_target.Goals as goal
 
 pub returns-clause-targets_noted : goal.returns-clause-targets_noted

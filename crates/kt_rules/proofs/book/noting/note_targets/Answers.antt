@@ -1,7 +1,7 @@
 use Rattle.std.proofs.Common.{◌≡◌, ◌∷◌, ◌+◌, ◌<◌, ℕ, zero, suc, List, [], true, is_some, length, drop, get_or, refl, arith, subst}
 use Rattle.kt_rules.proofs.Common.{Spot, target_of, GrewIn, name_at, entry_view, line_needs, numbered_target, on_err}
-use Rattle.kt_rules.specs.Targets.{text_in}
-use Rattle.kt_rules.proofs.NoteLemmas.{grew_both, grew_none, grew_target, noted_end, noted_start, noted_step, target_end, target_left}
+use Rattle.kt_rules.specs.views.Targets.{text_in}
+use Rattle.kt_rules.proofs.lemmas.book.NoteLemmas.{grew_both, grew_none, grew_target, noted_end, noted_start, noted_step, target_end, target_left}
 use Rattle.kt_rules.proofs.book.noting.note_targets.Goals as goal
 
 get_or_any : (xs : List ℕ) (i d e : ℕ) → i < length xs → get_or xs i d ≡ get_or xs i e

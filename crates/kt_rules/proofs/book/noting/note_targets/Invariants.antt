@@ -1,6 +1,6 @@
 use Rattle.std.proofs.Common.{true, is_some, length, drop, ◌≤◌}
 use Rattle.kt_rules.proofs.Common.{GrewIn, entry_view}
-use Rattle.kt_rules.proofs.NoteLemmas.{IsNotedFrom}
+use Rattle.kt_rules.proofs.lemmas.book.NoteLemmas.{IsNotedFrom}
 use Rattle.kt_rules.proofs.book.noting.note_targets.Given as goal
 
 abbrev pub invariant-loop-position : goal.invariant-loop-position

@@ -1,6 +1,6 @@
 use Rattle.std.proofs.Common.{◌∙◌, is_some, ap, sym}
 use Rattle.kt_rules.proofs.Common.{first_found, is_some-map, rule_view}
-use Rattle.kt_rules.proofs.NumberedLemmas.{noted_at}
+use Rattle.kt_rules.proofs.lemmas.book.NumberedLemmas.{noted_at}
 use Rattle.kt_rules.proofs.book.overriding.has_recipe.Goals as goal
 
 pub returns : goal.returns

@@ -1,7 +1,7 @@
 use Rattle.std.proofs.Common.{◌∙◌, ◌++◌, ◌∷◌, ◌+◌, ◌&&◌, if◌then◌else◌, List, [], Bool, is_some, filter, map, get_or, ap, sym}
 use Rattle.kt_rules.proofs.Common.{append_assoc, Text, Target, entry_view, first_found, is_made, numbered_target, override_message, spots_at}
-use Rattle.kt_rules.proofs.FindLemmas.{filter_left}
-use Rattle.kt_rules.proofs.NumberedLemmas.{targets_from, targets_left}
+use Rattle.kt_rules.proofs.lemmas.book.FindLemmas.{filter_left}
+use Rattle.kt_rules.proofs.lemmas.book.NumberedLemmas.{targets_from, targets_left}
 use Rattle.kt_rules.proofs.book.overriding.second_recipes.Goals as goal
 
 pub loop-number-preserved : goal.loop-number-preserved

@@ -1,7 +1,7 @@
 use Rattle.std.proofs.Common.{◌≡◌, ◌++◌, filter, is_some, map}
 use Rattle.kt_rules.proofs.Common.{entry_view, first_found, is_made, override_message, spots_at}
-use Rattle.kt_rules.specs.Slots.{found_targets}
-use Rattle.kt_rules.proofs.NumberedLemmas.{targets_from}
+use Rattle.kt_rules.specs.inner.Slots.{found_targets}
+use Rattle.kt_rules.proofs.lemmas.book.NumberedLemmas.{targets_from}
 use Rattle.kt_rules.proofs.book.overriding.second_recipes.Given as goal
 
 abbrev pub invariant-loop-number : goal.invariant-loop-number

@@ -1,5 +1,5 @@
 use Rattle.std.proofs.Common.{◌≡◌, ◌++◌, drop}
-use Rattle.kt_rules.specs.Patterns.{held}
+use Rattle.kt_rules.specs.inner.Patterns.{held}
 use Rattle.kt_rules.proofs.book.pattern_set.copied.Given as goal
 
 abbrev pub invariant-loop-name : goal.invariant-loop-name

@@ -1,5 +1,5 @@
 use Rattle.std.proofs.Common.{◌≡◌, ◌++◌, drop, map}
-use Rattle.kt_rules.specs.Patterns.{held}
+use Rattle.kt_rules.specs.inner.Patterns.{held}
 use Rattle.kt_rules.proofs.book.pattern_set.target_names.Given as goal
 
 abbrev pub invariant-loop-target : goal.invariant-loop-target

@@ -1,5 +1,5 @@
-use Rattle.kt_rules.proofs.DictionaryLemmas.{grows_twice, list_stays}
-use Rattle.kt_rules.proofs.HeldLemmas.{last_stays, needs_stay}
+use Rattle.kt_rules.proofs.lemmas.DictionaryLemmas.{grows_twice, list_stays}
+use Rattle.kt_rules.proofs.lemmas.book.HeldLemmas.{last_stays, needs_stay}
 use Rattle.kt_rules.proofs.book.rules.number_rule.Goals as goal
 
 pub returns-clause-numbered : goal.returns-clause-numbered

@@ -1,6 +1,6 @@
 use Rattle.std.proofs.Common.{◌≡◌, ◌∙◌, ◌++◌, List, ap, fold}
 use Rattle.kt_rules.proofs.Common.{append_assoc, on_err_weaker, Text, with_name, needs_view}
-use Rattle.kt_rules.proofs.FindLemmas.{names_grow}
+use Rattle.kt_rules.proofs.lemmas.book.FindLemmas.{names_grow}
 use Rattle.kt_rules.proofs.book.special.add_some_needs.Goals as goal
 
 pub returns-clause-refused : goal.returns-clause-refused

@@ -1,6 +1,6 @@
 use Rattle.std.proofs.Common.{◌≡◌, find}
 use Rattle.kt_rules.proofs.Common.{bytes_eq, entry_view}
-use Rattle.kt_rules.proofs.NumberedLemmas.{targets_from}
+use Rattle.kt_rules.proofs.lemmas.book.NumberedLemmas.{targets_from}
 use Rattle.kt_rules.proofs.book.special.named_target.Given as goal
 
 abbrev pub invariant-loop-number : goal.invariant-loop-number

@@ -1,5 +1,5 @@
 use Rattle.std.proofs.Common.{sym, arith}
-use Rattle.kt_rules.proofs.SuffixLemmas.{end_is_none}
+use Rattle.kt_rules.proofs.lemmas.book.SuffixLemmas.{end_is_none}
 use Rattle.kt_rules.proofs.book.suffix.end_of_length.Goals as goal
 
 pub returns-then-len-name : goal.returns-then-len-name

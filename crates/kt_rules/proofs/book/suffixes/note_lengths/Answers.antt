@@ -1,7 +1,7 @@
 use Rattle.std.proofs.Common.{◌∙◌, ◌+◌, ◌<◌, ap, sym, subst, drop, length, arith}
 use Rattle.kt_list.proofs.NameLemmas.{name_or}
 use Rattle.kt_rules.proofs.Common.{KeepLengths, lengths_with}
-use Rattle.kt_rules.proofs.SuffixLemmas.{length_kept, lengths_at}
+use Rattle.kt_rules.proofs.lemmas.book.SuffixLemmas.{length_kept, lengths_at}
 use Rattle.kt_rules.proofs.book.suffixes.note_lengths.Goals as goal
 
 pub loop-number-preserved : goal.loop-number-preserved

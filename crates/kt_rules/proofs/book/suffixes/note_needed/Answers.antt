@@ -1,6 +1,6 @@
 use Rattle.std.proofs.Common.{◌∙◌, ap, sym, subst, length}
 use Rattle.kt_rules.proofs.Common.{Text, KeepLengths, with_number, needed_view, names_view}
-use Rattle.kt_rules.proofs.SuffixLemmas.{length_kept, lengths_left}
+use Rattle.kt_rules.proofs.lemmas.book.SuffixLemmas.{length_kept, lengths_left}
 use Rattle.kt_rules.proofs.book.suffixes.note_needed.Goals as goal
 
 pub loop-name-preserved-in_ok-insert : goal.loop-name-preserved-in_ok-insert

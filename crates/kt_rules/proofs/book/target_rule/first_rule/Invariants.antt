@@ -1,5 +1,5 @@
 use Rattle.std.proofs.Common.{◌≡◌, drop}
-use Rattle.kt_rules.specs.Slots.{found, first_of}
+use Rattle.kt_rules.specs.inner.Slots.{found, first_of}
 use Rattle.kt_rules.proofs.book.target_rule.first_rule.Given as goal
 
 abbrev pub invariant-loop-spot : goal.invariant-loop-spot

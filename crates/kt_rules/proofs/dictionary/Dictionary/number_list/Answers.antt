@@ -1,6 +1,6 @@
 use Rattle.std.proofs.Common.{◌∙◌, List, ℕ, ap, subst}
 use Rattle.kt_rules.proofs.Common.{Text, with_name, place_of, GrowsDictionary}
-use Rattle.kt_rules.proofs.DictionaryLemmas.{list_added, list_below, more_name}
+use Rattle.kt_rules.proofs.lemmas.DictionaryLemmas.{list_added, list_below, more_name}
 use Rattle.kt_rules.proofs.dictionary.Dictionary.number_list.Goals as goal
 
 pub invariant_of-self-2 : goal.invariant_of-self-2

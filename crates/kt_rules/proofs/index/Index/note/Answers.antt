@@ -1,8 +1,8 @@
 use Rattle.std.proofs.Common.{rules, ◌≡◌, ◌++◌, ◌∷◌, [], List, Vec, Global, ap, ◌∙◌, OnErr, OnOk, if◌then◌else◌}
 use Rattle.kt_rules.proofs.Common.{on_err_weaker, on_ok_weaker, bytes_eq, Text}
 use Rattle.indexmap.specs.Entry.{entry_value, map_with_value}
-use Rattle.kt_rules.specs.Indexes.{noted_at, noted_in}
-use Rattle.kt_rules.proofs.IndexLemmas.{found_or_none, kept, noted_by, items_of}
+use Rattle.kt_rules.specs.views.Indexes.{noted_at, noted_in}
+use Rattle.kt_rules.proofs.lemmas.IndexLemmas.{found_or_none, kept, noted_by, items_of}
 use Rattle.kt_rules.proofs.index.Index.note.Goals as goal
 
 pub returns-clause-noted : goal.returns-clause-noted

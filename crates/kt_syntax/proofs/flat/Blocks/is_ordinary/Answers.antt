@@ -4,4 +4,4 @@ use Rattle.kt_syntax.proofs.flat.Blocks.is_ordinary.Goals as goal
 
 pub returns-then-is_unput-clause-reads : goal.returns-then-is_unput-clause-reads
 returns-then-is_unput-clause-reads c = λ _.
-    rw (sym c.self.view_is) (c.self.invariant.reads c.args.line step.Line (c.is_unput.ensures c.if-is_unput.true))
+    rw (sym c.self.view_is) (c.self.invariant.reads c.args.line step.Line (c.is_unput.ensures.quick c.if-is_unput.true))

@@ -1,5 +1,5 @@
 use Rattle.kt_syntax.proofs.Common.{refl, mask_of}
-use Rattle.kt_syntax.proofs.Masking.{length-front, whole_mask}
+use Rattle.kt_syntax.proofs.lemmas.Masking.{length-front, whole_mask}
 use Rattle.kt_syntax.proofs.mask.Mask.new.Goals as goal
 
 pub returns-clause-value : goal.returns-clause-value

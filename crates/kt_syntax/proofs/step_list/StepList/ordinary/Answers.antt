@@ -1,5 +1,5 @@
 use Rattle.std.proofs.Common.{ℕ, ◌≡◌, replicate, rules}
-use Rattle.kt_syntax.proofs.StepListLemmas.{all_ordinary}
+use Rattle.kt_syntax.proofs.lemmas.StepListLemmas.{all_ordinary}
 use Rattle.kt_syntax.proofs.step_list.StepList.ordinary.Goals as goal
 
 pub returns : goal.returns

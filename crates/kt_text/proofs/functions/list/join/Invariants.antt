@@ -1,6 +1,6 @@
 use Rattle.std.proofs.Common.{◌≡◌}
 use Rattle.kt_text.proofs.Common.{words_of, list_text, joined_pairs}
-use Rattle.kt_text.proofs.ListLemmas.{put_words}
+use Rattle.kt_text.proofs.lemmas.ListLemmas.{put_words}
 use Rattle.kt_text.proofs.functions.list.join.Given as goal
 
 abbrev pub invariant-loop-front : goal.invariant-loop-front

@@ -1,6 +1,6 @@
 use Rattle.std.proofs.Common.{◌≡◌}
 use Rattle.kt_text.proofs.Common.{slice_range, words_of, list_text}
-use Rattle.kt_text.proofs.ListLemmas.{put_words}
+use Rattle.kt_text.proofs.lemmas.ListLemmas.{put_words}
 use Rattle.kt_text.proofs.functions.list.words_between.Given as goal
 
 abbrev pub invariant-loop-word : goal.invariant-loop-word

@@ -1,4 +1,4 @@
-use Rattle.kt_text.proofs.NameLemmas.{slash_found}
+use Rattle.kt_text.proofs.lemmas.NameLemmas.{slash_found}
 use Rattle.kt_text.proofs.functions.names.name_place.Goals as goal
 
 pub returns-in-Some-clause-value : goal.returns-in-Some-clause-value

@@ -1,5 +1,5 @@
 use Rattle.std.proofs.Common.{arith}
-use Rattle.kt_text.proofs.NameLemmas.{dot_found, no_dot_found}
+use Rattle.kt_text.proofs.lemmas.NameLemmas.{dot_found, no_dot_found}
 use Rattle.kt_text.proofs.functions.names.suffix_place.Goals as goal
 
 pub returns-in-Some-clause-value : goal.returns-in-Some-clause-value

@@ -1,5 +1,5 @@
 use Rattle.std.proofs.Common.{◌∙◌}
-use Rattle.kt_text.proofs.PlaceLemmas.{occurs_found}
+use Rattle.kt_text.proofs.lemmas.PlaceLemmas.{occurs_found}
 use Rattle.kt_text.proofs.functions.patterns.occurs.Goals as goal
 
 pub returns : goal.returns

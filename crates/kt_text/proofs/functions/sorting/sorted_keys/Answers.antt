@@ -1,7 +1,7 @@
 use Rattle.std.proofs.Common.{◌≡◌, rules}
 use Rattle.std.proofs.lemmas.List.Filters.{dedup_is}
 use Rattle.kt_text.specs.Words.{words_of}
-use Rattle.kt_text.proofs.SortLemmas.{sorted_once}
+use Rattle.kt_text.proofs.lemmas.SortLemmas.{sorted_once}
 use Rattle.kt_text.proofs.functions.sorting.sorted_keys.Goals as goal
 
 pub returns : goal.returns

@@ -1,6 +1,6 @@
 use Rattle.std.proofs.Common.{◌≡◌, filter, not}
 use Rattle.kt_text.proofs.Common.{words_of, list_text, matches_some}
-use Rattle.kt_text.proofs.ListLemmas.{put_words}
+use Rattle.kt_text.proofs.lemmas.ListLemmas.{put_words}
 use Rattle.kt_text.proofs.functions.substitution.filter_out.Given as goal
 
 abbrev pub invariant-loop-word : goal.invariant-loop-word

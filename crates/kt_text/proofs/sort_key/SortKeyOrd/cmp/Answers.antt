@@ -1,6 +1,6 @@
 use Rattle.std.proofs.Common.{arith, ◌≡◌, sym, refl}
 use Rattle.kt_text.proofs.Common.{MatchOrdering, Ordering, Less, Equal, Greater}
-use Rattle.kt_text.proofs.SortLemmas.{order, fronts_decide}
+use Rattle.kt_text.proofs.lemmas.SortLemmas.{order, fronts_decide}
 use Rattle.kt_text.proofs.sort_key.SortKeyOrd.cmp.Goals as goal
 
 decided_is : (found wanted : Ordering) → (found ≡ Equal → ⊥) → MatchOrdering found (wanted ≡ Less) (Unit {0}) (wanted ≡ Greater) → found ≡ wanted

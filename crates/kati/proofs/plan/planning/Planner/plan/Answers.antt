@@ -7,7 +7,7 @@ use Rattle.kati.proofs.plan.planning.Planner.plan.Goals as goal
 
 pub written-requires : goal.written-requires
 written-requires c = λ yes.
-    let both = c.has_writable_texts-can_be_written.ensures yes in
+    let both = c.has_writable_texts-can_be_written.ensures.quick yes in
     subst HasWritableTexts (sym c.plan_of.ensures)
     (plan_texts c.args.self.now.book.now c.args.self.now.commands.table c.args.self.now.commands.limit c.requires.0 c.args.goals.items c.args.graph.now c.args.messages.now.items c.drawn.new.messages.items
     c.in_ok-groups.groups c.in_ok-groups.sketch c.requires.1.1 (search rules) both.0 both.1)

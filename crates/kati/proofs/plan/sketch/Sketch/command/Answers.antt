@@ -1,5 +1,5 @@
 use Rattle.std.proofs.Common.{◌∙◌, ap}
-use Rattle.kt_recipe.specs.Views.{command_in}
+use Rattle.kt_recipe.specs.views.Commands.{command_in}
 use Rattle.kati.specs.inner.plan.Drawn.{GroupSketch}
 use Rattle.kati.proofs.lemmas.plan.SketchLemmas.{one_is}
 use Rattle.kati.proofs.plan.sketch.Sketch.command.Goals as goal

@@ -1,5 +1,5 @@
 use Rattle.kt_eval.proofs.Common.{map, err_from_is_err_and}
-use Rattle.kt_eval.specs.reading.Machine.{read_by, traced_by}
+use Rattle.kt_eval.specs.views.reading.Machine.{read_by, traced_by}
 use Rattle.kt_eval.proofs.lemmas.reading.MachineLemmas.{before_reading}
 use Rattle.kt_eval.proofs.reading.machine.Machine.read.Goals as goal
 

@@ -1,5 +1,6 @@
 use Rattle.std.proofs.Common.{◌≡◌, drop}
-use Rattle.kt_graph.specs.inner.faults.Edges.{bare_rows, edge_rows, rows_held, vertex_count, with_edges}
+use Rattle.kt_graph.specs.inner.faults.Edges.{edge_rows, vertex_count}
+use Rattle.kt_graph.specs.inner.nodes.Buckets.{bare_rows, rows_held, with_edges}
 use Rattle.kt_graph.proofs.lemmas.faults.EdgeLemmas.{turned_from}
 use Rattle.kt_graph.proofs.faults.edges.Edges.reversed.Given as goal
 

@@ -7,7 +7,7 @@ use Rattle.kt_graph.proofs.nodes.graph_builder.GraphBuilder.build_from.Goals as 
 
 pub node_like_last-requires : goal.node_like_last-requires
 node_like_last-requires c =
-    last_needs c.args.self.now (reached_text c.args.name.now) (rule_view c.rule-item.result) c.requires.told (c.is_like_last.ensures c.if-is_like_last.true)
+    last_needs c.args.self.now (reached_text c.args.name.now) (rule_view c.rule-item.result) c.requires.told (c.is_like_last.ensures.quick c.if-is_like_last.true)
     (sym (ap (map rule_view) (one_alone c.args.rules.now c.rule-item.result c.in-len1.len_at_least c.in-len1.len_below c.rule-item.is)) ∙ c.requires.rules)
 
 pub returns-then-is_like_last : goal.returns-then-is_like_last
@@ -18,7 +18,7 @@ returns-then-is_like_last c =
     let name = reached_text c.args.name.now in
     let rule = rule_view c.rule-item.result in
     let new = c.node_like_last.new.self in
-    let like = c.is_like_last.ensures c.if-is_like_last.true in
+    let like = c.is_like_last.ensures.quick c.if-is_like_last.true in
     let only : map rule_view c.args.rules.now ≡ rule ∷ []
     = ap (map rule_view) (one_alone c.args.rules.now c.rule-item.result c.in-len1.len_at_least c.in-len1.len_below c.rule-item.is) in
     on_ok_weaker c.node_like_last.result

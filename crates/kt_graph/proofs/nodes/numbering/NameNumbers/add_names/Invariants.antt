@@ -1,4 +1,4 @@
-use Rattle.kt_rules.specs.Targets.{names_view}
+use Rattle.kt_rules.specs.views.Targets.{names_view}
 use Rattle.kt_graph.proofs.lemmas.nodes.NumberLemmas.{AddsUpTo}
 use Rattle.kt_graph.proofs.nodes.numbering.NameNumbers.add_names.Given as goal
 

@@ -7,7 +7,7 @@ pub invariant_of-self : goal.invariant_of-self
 invariant_of-self c =
     let held = c.self.inside in
     let name = needed_view c.args.name in
-    let at = place_first held.tables held.others name c.in-Some.number c.in-Some.ensures in
+    let at = place_first held.tables held.others name c.in-Some.number c.in-Some.ensures.quick in
     step_placed held.tables held.others held.others c.args.self.now ([], sym (append-nil held.others)) held.reached c.reach.new.self name c.in-Some.number
     c.reach.result c.self.view_is c.self.invariant at c.reach.ensures.reached c.reach.ensures.refused
 
@@ -15,7 +15,7 @@ pub returns-in-Some-clause-numbered : goal.returns-in-Some-clause-numbered
 returns-in-Some-clause-numbered c =
     let held = c.self.inside in
     let name = needed_view c.args.name in
-    let at = place_first held.tables held.others name c.in-Some.number c.in-Some.ensures in
+    let at = place_first held.tables held.others name c.in-Some.number c.in-Some.ensures.quick in
     step_numbered held.tables held.others held.others c.args.self.now ([], sym (append-nil held.others)) held.reached c.reach.new.self name c.in-Some.number
     c.reach.result c.self.view_is c.self.invariant at c.reach.ensures.reached c.reach.ensures.refused
 

@@ -2,8 +2,8 @@ use Rattle.std.proofs.Common.{arith, ◌≡◌, ◌∙◌, ◌∷◌, ◌+◌, �
 use Rattle.kt_rules.proofs.Common.{flat_map, drop_all, Text, Entry, is_among, entry_view}
 use Rattle.kt_rules.specs.Known.{named_by}
 use Rattle.kt_rules.specs.inner.Marks.{is_marked}
-use Rattle.kt_rules.proofs.MarkLemmas.{IsMarkedFrom, marked_end, marked_step}
-use Rattle.kt_rules.proofs.SpotLemmas.{rules_past, rules_left}
+use Rattle.kt_rules.proofs.lemmas.book.MarkLemmas.{IsMarkedFrom, marked_end, marked_step}
+use Rattle.kt_rules.proofs.lemmas.book.SpotLemmas.{rules_past, rules_left}
 use Rattle.kt_rules.proofs.book.book_names.BookNames.of.Goals.{in-Some+in_ok-mark_rule-in-Some, in-None}
 use Rattle.kt_rules.proofs.book.book_names.BookNames.of.Goals as goal
 

@@ -1,7 +1,7 @@
 use Rattle.std.proofs.Common.{◌≡◌, drop, length}
 use Rattle.kt_rules.proofs.Common.{flat_map}
 use Rattle.kt_rules.specs.Known.{named_by}
-use Rattle.kt_rules.proofs.MarkLemmas.{IsMarkedFrom}
+use Rattle.kt_rules.proofs.lemmas.book.MarkLemmas.{IsMarkedFrom}
 use Rattle.kt_rules.proofs.book.book_names.BookNames.of.Given as goal
 
 abbrev pub invariant-loop-place : goal.invariant-loop-place

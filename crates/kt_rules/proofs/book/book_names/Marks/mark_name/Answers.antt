@@ -1,6 +1,6 @@
 use Rattle.std.proofs.Common.{◌≡◌, ◌<◌, Some, true, length, refl, sym, subst}
 use Rattle.kt_rules.proofs.Common.{with_item, slice_get_within, place_of, number_found, Marks}
-use Rattle.kt_rules.proofs.MarkLemmas.{number_marked}
+use Rattle.kt_rules.proofs.lemmas.book.MarkLemmas.{number_marked}
 use Rattle.kt_rules.proofs.book.book_names.Marks.mark_name.Goals as goal
 
 pub returns-in-Some-clause-marked : goal.returns-in-Some-clause-marked

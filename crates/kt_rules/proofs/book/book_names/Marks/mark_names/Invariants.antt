@@ -1,6 +1,6 @@
 use Rattle.std.proofs.Common.{◌≡◌, length}
-use Rattle.kt_rules.specs.Targets.{names_view}
-use Rattle.kt_rules.proofs.MarkLemmas.{IsMarkedFrom}
+use Rattle.kt_rules.specs.views.Targets.{names_view}
+use Rattle.kt_rules.proofs.lemmas.book.MarkLemmas.{IsMarkedFrom}
 use Rattle.kt_rules.proofs.book.book_names.Marks.mark_names.Given as goal
 
 abbrev pub invariant-loop-name : goal.invariant-loop-name

@@ -1,7 +1,7 @@
 use Rattle.std.proofs.Common.{◌≡◌, ◌<◌, Some, true, length, refl, sym, subst}
 use Rattle.kt_rules.proofs.Common.{with_item, name_at, named_at, place_of, Marks}
-use Rattle.kt_rules.proofs.MarkLemmas.{number_marked}
-use Rattle.kt_rules.proofs.NoteLemmas.{place_at}
+use Rattle.kt_rules.proofs.lemmas.book.MarkLemmas.{number_marked}
+use Rattle.kt_rules.proofs.lemmas.book.NoteLemmas.{place_at}
 use Rattle.kt_rules.proofs.book.book_names.Marks.mark_number.Goals as goal
 
 pub returns-clause-marked : goal.returns-clause-marked

@@ -1,8 +1,8 @@
 use Rattle.std.proofs.Common.{◌≡◌, ◌∙◌, ◌∷◌, ◌+◌, ◌<◌, Some, true, length, drop, set, get_or, refl, sym, ap, subst, arith}
 use Rattle.kt_rules.proofs.Common.{with_item, drop_more, named_at, place_of, Marks, name_at, names_at}
 use Rattle.std.proofs.Math.ListN.{length-set}
-use Rattle.kt_rules.proofs.MarkLemmas.{marked_one, number_marked}
-use Rattle.kt_rules.proofs.NoteLemmas.{place_at}
+use Rattle.kt_rules.proofs.lemmas.book.MarkLemmas.{marked_one, number_marked}
+use Rattle.kt_rules.proofs.lemmas.book.NoteLemmas.{place_at}
 use Rattle.kt_rules.proofs.book.book_names.Marks.mark_numbers.Goals as goal
 
 pub index_mut-requires : goal.index_mut-requires

@@ -1,6 +1,6 @@
 use Rattle.std.proofs.Common.{◌≡◌, drop, length}
-use Rattle.kt_list.specs.Names.{names_at}
-use Rattle.kt_rules.proofs.MarkLemmas.{IsMarkedFrom}
+use Rattle.kt_list.specs.views.Names.{names_at}
+use Rattle.kt_rules.proofs.lemmas.book.MarkLemmas.{IsMarkedFrom}
 use Rattle.kt_rules.proofs.book.book_names.Marks.mark_numbers.Given as goal
 
 abbrev pub invariant-loop-number : goal.invariant-loop-number

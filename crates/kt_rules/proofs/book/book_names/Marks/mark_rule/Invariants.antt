@@ -2,8 +2,8 @@ use Rattle.std.proofs.Common.{◌≡◌, length, true}
 use Rattle.kt_rules.proofs.Common.{flat_map, entry_view}
 use Rattle.kt_rules.specs.Known.{named_with}
 use Rattle.kt_rules.specs.inner.Marks.{HasShared}
-use Rattle.kt_rules.proofs.MarkLemmas.{IsMarkedFrom}
-use Rattle.kt_rules.proofs.NumberedLemmas.{targets_from}
+use Rattle.kt_rules.proofs.lemmas.book.MarkLemmas.{IsMarkedFrom}
+use Rattle.kt_rules.proofs.lemmas.book.NumberedLemmas.{targets_from}
 use Rattle.kt_rules.proofs.book.book_names.Marks.mark_rule.Given as goal
 
 abbrev pub invariant-loop-number : goal.invariant-loop-number

@@ -1,7 +1,7 @@
 use Rattle.std.proofs.Common.{◌≡◌, ◌∙◌, ◌||◌, List, ap}
 use Rattle.kt_rules.proofs.Common.{on_ok_weaker, Text, is_among, names_view, needs_view}
 use Rattle.kt_rules.specs.inner.Marks.{is_marked}
-use Rattle.kt_rules.proofs.MarkLemmas.{marked_both}
+use Rattle.kt_rules.proofs.lemmas.book.MarkLemmas.{marked_both}
 use Rattle.kt_rules.proofs.book.book_names.Marks.mark_stemmed.Goals as goal
 
 pub returns-clause-marked : goal.returns-clause-marked

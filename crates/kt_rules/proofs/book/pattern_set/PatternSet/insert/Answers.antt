@@ -1,5 +1,5 @@
 use Rattle.std.proofs.Common.{◌∙◌, ap, not}
-use Rattle.kt_rules.proofs.PatternLemmas.{key_known}
+use Rattle.kt_rules.proofs.lemmas.book.PatternLemmas.{key_known}
 use Rattle.kt_rules.proofs.book.pattern_set.PatternSet.insert.Goals as goal
 
 pub returns-clause-told : goal.returns-clause-told

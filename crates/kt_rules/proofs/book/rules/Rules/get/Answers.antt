@@ -1,6 +1,6 @@
 use Rattle.std.proofs.Common.{◌∙◌, List, None, Some, ap, option_map, rules}
 use Rattle.kt_rules.proofs.Common.{entry_view, rule_held, RecipeLine}
-use Rattle.kt_rules.proofs.HeldLemmas.{rule_told}
+use Rattle.kt_rules.proofs.lemmas.book.HeldLemmas.{rule_told}
 use Rattle.kt_rules.proofs.book.rules.Rules.get.Goals as goal
 
 pub returns-in_err-row-clause-told : goal.returns-in_err-row-clause-told

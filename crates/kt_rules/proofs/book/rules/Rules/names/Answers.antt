@@ -1,6 +1,6 @@
 use Rattle.kt_rules.proofs.Common.{List, subst, All, Contains, flat_map, Text, Entry}
-use Rattle.kt_rules.specs.Known.{names_in}
-use Rattle.kt_rules.proofs.TableLemmas.{all_among}
+use Rattle.kt_rules.specs.views.Known.{names_in}
+use Rattle.kt_rules.proofs.lemmas.book.TableLemmas.{all_among}
 use Rattle.kt_rules.proofs.book.rules.Rules.names.Goals as goal
 
 pub returns-clause-all : goal.returns-clause-all

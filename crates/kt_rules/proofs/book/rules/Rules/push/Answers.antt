@@ -1,6 +1,6 @@
 use Rattle.std.proofs.Common.{◌∙◌, ◌++◌, ◌∷◌, [], List, option_map, refl, unwrap_or, subst, sym, ap}
 use Rattle.kt_rules.proofs.Common.{is_some-map, Text, on_err, RecipeLine, Entry, AreHeld, AreRuleNumbers, rules_held}
-use Rattle.kt_rules.proofs.HeldLemmas.{grown_held, grown_rules, pushed_held, pushed_rule}
+use Rattle.kt_rules.proofs.lemmas.book.HeldLemmas.{grown_held, grown_rules, pushed_held, pushed_rule}
 use Rattle.kt_rules.specs.declared.book.row.Row.{Row}
 use Rattle.kt_rules.proofs.book.rules.Rules.push.Goals as goal
 
@@ -48,8 +48,8 @@ invariant_of-self-2 c =
     (unwrap_or (option_map (λ own. own.items) entry.recipe) []) row entry.targets entry.pattern entry.needs c.in_ok-numbers.ensures.grown c.self.invariant
     (subst (λ (targets : List Text). AreRuleNumbers new targets entry.pattern entry.needs numbers) c.as_slice.ensures (c.in_ok-numbers.ensures.numbered c.self.invariant.remembered))
     c.in_ok-add_lines.ensures.added (c.push_reserved.ensures.items ∙ (λ j. c.in_ok-reserve.ensures.items j ++ row ∷ []))
-    c.with-self-inside.result c.remember.new.last c.with-self-inside.ensures.kept c.with-self-inside.ensures.added
-    (λ before. c.remember.ensures new before (c.in_ok-numbers.ensures.numbered c.self.invariant.remembered).of_needs)
+    c.with-self-inside.result c.remember.new.last c.with-self-inside.ensures.quick_kept c.with-self-inside.ensures.quick_added
+    (λ before. c.remember.ensures.quick new before (c.in_ok-numbers.ensures.numbered c.self.invariant.remembered).of_needs)
 
 pub returns-clause-pushed : goal.returns-clause-pushed
 returns-clause-pushed c =

@@ -1,4 +1,4 @@
-use Rattle.kt_rules.proofs.HeldLemmas.{first_held}
+use Rattle.kt_rules.proofs.lemmas.book.HeldLemmas.{first_held}
 use Rattle.kt_rules.proofs.book.rules.Rules.truncate.Goals as goal
 
 pub invariant_of-self : goal.invariant_of-self

@@ -1,5 +1,5 @@
 use Rattle.kt_rules.proofs.Common.{refl, on_err}
-use Rattle.kt_rules.proofs.NoteLemmas.{grew_at_one}
+use Rattle.kt_rules.proofs.lemmas.book.NoteLemmas.{grew_at_one}
 use Rattle.kt_rules.proofs.book.spots.Spots.note.Goals as goal
 
 pub returns-in_err-note-2-clause-targets_refused : goal.returns-in_err-note-2-clause-targets_refused

@@ -1,6 +1,6 @@
 use Rattle.std.proofs.Common.{◌∙◌, ap, fold}
 use Rattle.kt_rules.proofs.Common.{with_name, all_needs, lengths_with, needs_view}
-use Rattle.kt_rules.proofs.SuffixLemmas.{by_result, needs_added}
+use Rattle.kt_rules.proofs.lemmas.book.SuffixLemmas.{by_result, needs_added}
 use Rattle.kt_rules.proofs.book.suffixes.Suffixes.add_needs.Goals as goal
 
 pub invariant_of-self-2 : goal.invariant_of-self-2

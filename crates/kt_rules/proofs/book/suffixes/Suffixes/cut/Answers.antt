@@ -1,6 +1,6 @@
 use Rattle.std.proofs.Common.{◌≡◌, ◌∙◌, ap}
 use Rattle.kt_rules.proofs.Common.{first_cut, suffix_cut}
-use Rattle.kt_rules.proofs.SuffixLemmas.{all_cuts, cut_within}
+use Rattle.kt_rules.proofs.lemmas.book.SuffixLemmas.{all_cuts, cut_within}
 use Rattle.kt_rules.proofs.book.suffixes.Suffixes.cut.Goals as goal
 
 pub returns-clause-within : goal.returns-clause-within

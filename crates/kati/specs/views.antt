@@ -1,0 +1,4 @@
+-- What only users of one crate are promised, and words between crates: what the programs promise is said without them.
+pub mod AfterRun
+pub mod Limits
+pub mod Plans

@@ -1,0 +1,2 @@
+-- What only contracts of private functions and proofs cite: none of this is needed to read the public contracts.
+pub mod Faults

@@ -1,0 +1,3 @@
+-- Calls that expand a text.
+pub mod Calls
+pub mod Pure

@@ -1,0 +1,3 @@
+-- What a read leaves, and files in memory.
+pub mod Files
+pub mod Memory

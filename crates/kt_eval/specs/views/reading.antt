@@ -1,0 +1,2 @@
+-- Calls that read makefiles.
+pub mod Machine

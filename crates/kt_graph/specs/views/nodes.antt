@@ -1,0 +1,3 @@
+-- Nodes in the code's own types, and the law of groups.
+pub mod Groups
+pub mod Node

@@ -1,0 +1,2 @@
+-- What a search has asked so far.
+pub mod Search

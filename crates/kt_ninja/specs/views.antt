@@ -1,0 +1,5 @@
+-- What only users of one crate are promised, and words between crates: what the programs promise is said without them.
+pub mod Memory
+pub mod Plan
+pub mod View
+pub mod Writable

@@ -1,0 +1,3 @@
+-- What only users of one crate are promised, and words between crates: what the programs promise is said without them.
+pub mod Automatic
+pub mod Commands

@@ -1,0 +1,19 @@
+-- Lemmas about the rules of a makefile.
+pub mod SpotLemmas
+pub mod FindLemmas
+pub mod NoteLemmas
+pub mod HeldLemmas
+pub mod TableLemmas
+pub mod StartLemmas
+pub mod GroupLemmas
+pub mod BookLemmas
+pub mod MarkLemmas
+pub mod GoalLemmas
+pub mod AlikeLemmas
+pub mod NumberLemmas
+pub mod AddLemmas
+pub mod SuffixLemmas
+pub mod PatternLemmas
+pub mod NumberedLemmas
+pub mod OverrideLemmas
+pub mod SparedLemmas

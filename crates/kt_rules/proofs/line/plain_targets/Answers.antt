@@ -1,5 +1,0 @@
-use Rattle.std.proofs.Common.{arith}
-use Rattle.kt_rules.proofs.line.plain_targets.Goals as goal
-
-pub loop-word-preserved : goal.loop-word-preserved
-loop-word-preserved c = grind arith

@@ -1,0 +1,26 @@
+-- Lemmas about terms, kinds and parts of lines, and about blocks.
+pub mod BlankLemmas
+pub mod Closing
+pub mod CondensedBegins
+pub mod HeadLemmas
+pub mod Kinding
+pub mod LeadingForms
+pub mod LeadingWords
+pub mod Masking
+pub mod ModifierLemmas
+pub mod NestingLemmas
+pub mod OwnPlaces
+pub mod OwnRuns
+pub mod OwnSymbols
+pub mod ReadingOn
+pub mod RecipeLemmas
+pub mod RoleLemmas
+pub mod Runs
+pub mod Sound
+pub mod Splitting
+pub mod StepListLemmas
+pub mod SymbolLemmas
+pub mod Uncommenting
+pub mod ItemLemmas
+pub mod Unsigned
+pub mod WholeTree
