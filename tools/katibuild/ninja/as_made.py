@@ -35,19 +35,6 @@ def to_log(text: NinjaText, present: Collection[str], make_rebuilds: Collection[
             if all(name in present and name not in make_rebuilds for name in one.outputs)}
 
 
-def of_folders(text: NinjaText, log: Log, time_of_folder: TimeOf) -> Dict[str, Entry]:
-    """Entries for folders whose rules have no inputs and have another command than the log: make never runs such a
-    rule for a text, and `mkdir` would fail. `time_of_folder` answers None for what is no folder."""
-    found: Dict[str, Entry] = {}
-    for one in commanded(text):
-        if one.inputs or is_current(one, log):
-            continue
-        times = [(name, time_of_folder(name)) for name in one.outputs]
-        if all(time is not None for _, time in times):
-            found.update((name, Entry(time, hashed(log.kind, one.command))) for name, time in times)
-    return found
-
-
 def same_build(before: NinjaText, now: NinjaText, log: Log, is_late: Callable[[str], bool]) -> Dict[str, Entry]:
     """Entries for statements whose text alone differs from before, as make never rebuilds for a text.
 
@@ -92,6 +79,8 @@ def by_turns(text: NinjaText, log: Log, time_of: TimeOf, depfiles: Mapping[str, 
     made: Dict[str, Entry] = {}
     gone: List[str] = []
     for one in commanded(text):
+        if one.is_bare and one.outputs[0] not in depfiles:
+            continue
         older = [name for name in one.outputs if name in times_before and (time_of(name) or 0) < times_before[name]]
         gone += older
         if not older and is_current(one, log):
