@@ -2,11 +2,12 @@
 from __future__ import annotations
 
 import re
-from typing import Dict, List, Optional, Sequence, Set, Tuple
+from typing import Dict, Iterable, List, Mapping, Optional, Sequence, Set, Tuple
 
 from .database import Database
 
 SIGNS = re.compile(r"[\s@+-]*")
+NAME = re.compile(r"[\w.-]+")
 AUTOMATIC = re.compile(r"[@<^+?*|%][DF]?")
 NOTHING = ("eval", "info", "warning", "error")     # functions that expand to nothing
 DEPTH = 8                                          # of variables that name variables
@@ -74,6 +75,20 @@ class Heads:
             return None
         known = {self.truth(one, depth + 1) for one in self.values.get(found.group(1), ("",))}
         return known.pop() if len(known) == 1 else None
+
+
+def naming(values: Mapping[str, str], names: Iterable[str]) -> Set[str]:
+    """These variables, and all whose values name one of them by a word, through others too; linear."""
+    users: Dict[str, List[str]] = {}
+    for name, text in values.items():
+        for word in set(NAME.findall(text)):
+            users.setdefault(word, []).append(name)
+    found, work = set(names), list(names)
+    while work:
+        more = [name for name in users.get(work.pop(), ()) if name not in found]
+        found.update(more)
+        work += more
+    return found
 
 
 def behind_reference(line: str, at: int) -> int:

@@ -1,16 +1,17 @@
-"""What counts as made although Ninja did not make it: lines for Ninja's log.
+"""What counts as made although Ninja did not make it, and what is a user's own now: lines for Ninja's log.
 
-Outputs that exist before their statements do and that make would leave alone, outputs that make has rebuilt since, and
-statements whose text alone says something else, as make never rebuilds for a text.
+Three kinds count as made: outputs that are older than their statements and that make would leave alone; outputs that
+make has rebuilt since ninja ran; and outputs whose commands have another text alone, for which make rebuilds nothing.
 """
 from __future__ import annotations
 
 import json
 import os
 import re
-from typing import Callable, Dict, FrozenSet, Iterable, List, Mapping, Optional, Set, TYPE_CHECKING, Tuple
+from typing import Callable, Dict, FrozenSet, Iterable, List, Mapping, Optional, TYPE_CHECKING, Tuple
 
 from ..ask.answer import Answer
+from ..ask.heads import NAME, naming
 from ..base import files
 from ..base.files import ninja_name
 from ..base.message import Status, Stop
@@ -26,7 +27,6 @@ if TYPE_CHECKING:
     from .asked import Asked
 
 ASKS = re.compile(r"\$[({](?:shell|wildcard|file|realpath)\b")
-WORD = re.compile(r"[\w.-]+")
 PLAIN = re.compile(r"[\w./+-]+", re.ASCII)   # a name that a depfile has as it is
 
 
@@ -80,7 +80,7 @@ def is_late(answer: Answer) -> Callable[[str], bool]:
         recipes.setdefault(ninja_name(rule.targets[0]), []).extend(rule.recipe)
 
     def late(output: str) -> bool:
-        return any(ASKS.search(line) or asking.intersection(WORD.findall(line))
+        return any(ASKS.search(line) or asking.intersection(NAME.findall(line))
                    for line in recipes.get(output, ()) if "$" in line)
 
     return late
@@ -88,19 +88,8 @@ def is_late(answer: Answer) -> Callable[[str], bool]:
 
 def asking_variables(answer: Answer) -> FrozenSet[str]:
     """The deferred variables that ask the machine each time they are used, through others too."""
-    words = {name: set(WORD.findall(answer.variables[name])) for name in answer.deferred
-             if "$" in answer.variables.get(name, "")}
-    found = {name for name in words if ASKS.search(answer.variables[name])}
-    used_by: Dict[str, Set[str]] = {}
-    for name, some in words.items():
-        for word in some & words.keys():
-            used_by.setdefault(word, set()).add(name)
-    work = list(found)
-    while work:
-        for name in used_by.get(work.pop(), set()) - found:
-            found.add(name)
-            work.append(name)
-    return frozenset(found)
+    values = {name: answer.variables[name] for name in answer.deferred if "$" in answer.variables.get(name, "")}
+    return frozenset(naming(values, [name for name, value in values.items() if ASKS.search(value)]))
 
 
 # -- the log -----------------------------------------------------------------------------------------------------------

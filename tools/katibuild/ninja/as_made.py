@@ -14,7 +14,7 @@ NAME = re.compile(r"(?:\\.|[^\s\\])+")
 
 
 class Turns(NamedTuple):
-    """What the log gets since the last run of ninja, and what it loses."""
+    """The log's new entries for what make has rebuilt since ninja ran, and the outputs whose entries go."""
 
     made: Mapping[str, Entry]
     gone: Tuple[str, ...]
