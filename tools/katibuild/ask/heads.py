@@ -92,7 +92,7 @@ def naming(values: Mapping[str, str], names: Iterable[str]) -> Set[str]:
 
 
 def behind_reference(line: str, at: int) -> int:
-    """Where the text goes on behind the reference that begins at `at`."""
+    """The place behind the reference that begins at `at`."""
     opening = line[at + 1:at + 2]
     closing = {"(": ")", "{": "}"}.get(opening)
     at += 2

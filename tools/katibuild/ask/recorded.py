@@ -10,12 +10,12 @@ from ..base.message import Status, Stop
 from .answer import Environment, Line
 from .database import Database
 from .heads import naming
+from .question import runs_make
 from .recorder import CALL, END, ENVIRONMENT, SEPARATOR, TARGET, Recorder
 
 # Variables that make or the shell sets by itself.
 OWN = frozenset({"MAKEFLAGS", "MFLAGS", "MAKELEVEL", "MAKE_TERMOUT", "MAKE_TERMERR", "MAKEOVERRIDES", "MAKE_RESTARTS",
                  "SHLVL", "_", "OLDPWD", TARGET})
-MAKE = re.compile(r"(?:^|[\s;&|(`'\"])(?:\S*/)?g?make(?:[\s;&|)`'\"]|$)")
 INNER = ("MAKEFLAGS", "MFLAGS", "MAKELEVEL")
 TAKES_ARGUMENT = "CfIjloOW"   # letters of make's options that have an argument
 EXPORT = re.compile(r"(?m):(?:[^\n:=]*\s)?export\s+(?:(?:override|private|define)\s+)*([^\s:=+?!]+)")
@@ -100,11 +100,6 @@ def letters_of(inner: Environment) -> str:
             letters += word[1:]
         letters += {"--silent": "s", "--quiet": "s", "--ignore-errors": "i"}.get(word, "")
     return letters
-
-
-def runs_make(text: str) -> bool:
-    """Whether a line of a recipe calls make."""
-    return "make" in text and bool(MAKE.search(text))
 
 
 def with_inner(lines: List[Line], inner: Environment) -> Iterator[Line]:

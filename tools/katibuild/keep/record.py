@@ -42,7 +42,7 @@ class Dependencies(NamedTuple):
     is_all_shown: bool = False                   # a call lists hidden names, as `find` does
     literal: Tuple[str, ...] = ()                # hidden names that a makefile or a call has
     timed: Tuple[str, ...] = ()                  # what makefiles are made from: make remakes them for a time alone
-    unseen: Tuple[str, ...] = ()                 # what else there is that nobody can see to have changed
+    unseen: Tuple[str, ...] = ()                 # what may change unseen, for `--why`
     wildcards: Tuple[str, ...] = ()              # words of `$(wildcard ..)`: a depfile that fits may be included
 
 

@@ -84,12 +84,12 @@ def read_products(record: Optional[BuildRecord], found: Asked) -> FrozenSet[str]
 
 
 def is_late(record: Optional[BuildRecord], found: Asked, text: NinjaText) -> Callable[[str], bool]:
-    """Tells of an output whether its new text must run: its recipe asks the machine, or it needs a makefile that the
-    build itself has made anew, which make would have read before."""
+    """A function that says of an output whether its new text must run: its recipe calls `shell` or the like, or it
+    needs a makefile that the build itself has rebuilt, and that make would have read before."""
     before, now = record.dependencies.files if record else {}, found.dependencies.files
-    anew = {name for name in set(record.made_includes).intersection(record.outputs) if name in before
+    rebuilt = {name for name in set(record.made_includes).intersection(record.outputs) if name in before
             and stale.is_other(before[name], now.get(name), False)} if record else set()
-    users = {output for one in text.statements if anew.intersection(one.inputs) for output in one.outputs}
+    users = {output for one in text.statements if rebuilt.intersection(one.inputs) for output in one.outputs}
     asks = turns.is_late(found.answer)
     return lambda output: output in users or asks(output)
 
@@ -197,7 +197,7 @@ def write(run: Run, record: BuildRecord, made: GraphFile, statements: bytes, mor
     record = record._replace(dependencies=depends, ninja_sha256=files.digest(data))
     save(place.record, record)
     if not files.replace(place.ninja_file, data) and is_new:
-        os.utime(place.ninja_file)               # Ninja reads all anew only if this file has another time
+        os.utime(place.ninja_file)               # Ninja reads its files again only if this one has another time
     folder.delete_unused_scripts()
     settle(place, record)
 

@@ -11,7 +11,6 @@ import re
 from typing import Callable, Dict, FrozenSet, Iterable, List, Mapping, Optional, TYPE_CHECKING, Tuple
 
 from ..ask.answer import Answer
-from ..ask.heads import NAME, naming
 from ..base import files
 from ..base.files import ninja_name
 from ..base.message import Status, Stop
@@ -26,7 +25,7 @@ from .request import Place, Run
 if TYPE_CHECKING:
     from .asked import Asked
 
-ASKS = re.compile(r"\$[({](?:shell|wildcard|file|realpath)\b")
+CALL = re.compile(r"\$[({](?:shell|wildcard|file|realpath)\b")
 PLAIN = re.compile(r"[\w./+-]+", re.ASCII)   # a name that a depfile has as it is
 
 
@@ -70,26 +69,23 @@ def seen_before(record: Optional[BuildRecord], others: FrozenSet[str]) -> Frozen
     return others.union(record.seen_outputs if record else ())
 
 
-# -- recipes that ask the machine --------------------------------------------------------------------------------------
+# -- recipes that call `shell` or the like -----------------------------------------------------------------------------
 
 def is_late(answer: Answer) -> Callable[[str], bool]:
-    """Tells of an output whether its recipe, or a deferred variable that it names, asks the machine."""
-    asking = asking_variables(answer)
+    """A function that says of an output whether its recipe calls `shell` or the like, by deferred variables too."""
+    # loaded here alone, as in `remade`
+    from ..ask.heads import NAME, naming
+    values = {name: answer.variables[name] for name in answer.deferred if "$" in answer.variables.get(name, "")}
+    calling = naming(values, [name for name, value in values.items() if CALL.search(value)])
     recipes: Dict[str, List[str]] = {}
     for rule in answer.rules:
         recipes.setdefault(ninja_name(rule.targets[0]), []).extend(rule.recipe)
 
     def late(output: str) -> bool:
-        return any(ASKS.search(line) or asking.intersection(NAME.findall(line))
+        return any(CALL.search(line) or calling.intersection(NAME.findall(line))
                    for line in recipes.get(output, ()) if "$" in line)
 
     return late
-
-
-def asking_variables(answer: Answer) -> FrozenSet[str]:
-    """The deferred variables that ask the machine each time they are used, through others too."""
-    values = {name: answer.variables[name] for name in answer.deferred if "$" in answer.variables.get(name, "")}
-    return frozenset(naming(values, [name for name, value in values.items() if ASKS.search(value)]))
 
 
 # -- the log -----------------------------------------------------------------------------------------------------------

@@ -38,8 +38,8 @@ def to_log(text: NinjaText, present: Collection[str], make_rebuilds: Collection[
 def same_build(before: NinjaText, now: NinjaText, log: Log, is_late: Callable[[str], bool]) -> Dict[str, Entry]:
     """Entries for statements whose text alone differs from before, as make never rebuilds for a text.
 
-    `is_late` tells whether an output's recipe asks the machine for something when it is expanded: that text may say
-    what the build has just made.
+    `is_late` says whether an output's recipe calls `shell`, `wildcard` or the like: its text may then say what the
+    build has just made.
     """
     known = {one.outputs: one for one in commanded(before)}
     found: Dict[str, Entry] = {}

@@ -4,7 +4,7 @@ from __future__ import annotations
 from dataclasses import replace
 from typing import Iterator
 
-from ..ask.recorded import runs_make
+from ..ask.question import runs_make
 from ..graph import scripts
 from ..graph.node import Command, Graph, Node
 from .text import Block, NinjaText
