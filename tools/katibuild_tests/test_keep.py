@@ -70,6 +70,14 @@ class Keep(Tree):
         self.put({"k.c": ""})
         self.assertIn("this folder has k.c", self.build("--why").said)
 
+    def test_why_lists_newer_prerequisites(self):
+        """`$?`, also where a variable names it through another, is listed with its place."""
+        for recipe, is_listed in (("echo $?", True), ("$(call new,$@)", True), ("echo $^ $(call old)", False)):
+            self.put({"Makefile": f"any = $(filter-out F,$?)\nnew = echo $(any)\nold = $<\nout: in\n\t{recipe}\n",
+                      "in": ""})
+            self.build()
+            self.assertEqual(is_listed, "Makefile:5: '$?' in the recipe of 'out'" in self.build("--why").said, recipe)
+
     def test_no_ninja(self):
         self.put(FILES)
         self.assertEqual(0, self.build("--no-ninja").status)

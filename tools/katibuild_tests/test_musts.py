@@ -46,6 +46,23 @@ SEQUENCES = (
         "configure": CONFIGURE, "a.c": ""}, (
             Step("chmod +x configure; ./configure extra"), Step("touch configure; sleep 0.02; ./configure extra"),
             Step("touch configure; sleep 0.02; ./configure other; echo > a.c"), Step(by=NINJA))),
+    Sequence("config.h of ./configure, which is no makefile", {
+        "Makefile": "prog: a.c config.h\n\t@@ cat a.c config.h > $@\nconfig.h: configure\n"
+                    "\t@echo please run ./configure; exit 1\n",
+        "configure": "#!/bin/sh\necho ${1:-defaults} > config.h\n", "a.c": "a\n"}, (
+            Step("chmod +x configure; sleep 0.02; ./configure extra"), Step(words=("CFLAGS=-g",), may_run=("prog",)),
+            Step("echo b > a.c"), Step("touch configure; sleep 0.02; ./configure other", by=NINJA),
+            Step("touch configure", by=NINJA), Step("./configure more"))),
+    Sequence("an include without a dash that looks like a depfile", {
+        "Makefile": "include deps.mk\nprog: in\n\t@@ cat $^ > $@\n", "deps.mk": "prog: extra\n", "in": "1\n",
+        "extra": "2\n"}, (
+            Step(), Step("echo 3 > extra", by=NINJA), Step("echo 'prog: more' >> deps.mk; echo 4 > more", by=NINJA),
+            Step("echo 5 > more"))),
+    Sequence("header dependencies of automake", {
+        "Makefile": "include ./.deps/m.Po\nprog: m.o\n\t@@ cc -o $@ m.o\nm.o: m.c\n\t@@ cc -MT $@ -MD -MP "
+                    "-MF .deps/m.Tpo -c -o $@ m.c && mv .deps/m.Tpo .deps/m.Po\n.DEFAULT_GOAL := prog\n",
+        ".deps/m.Po": "# dummy\n", "m.c": "#include \"h.h\"\nint main(void){return H;}\n", "h.h": "#define H 3\n"}, (
+            Step(), header(4, NINJA), header(5, "build"), header(6, MAKE), Step("echo >> m.c"), header(7, NINJA))),
     Sequence("a rule and its file come by a pull", {
         "Makefile": "prog: a.c\n\t@@ cat a.c > $@\n", "a.c": "a\n"}, (
             Step(), Step("printf 'prog: a.c p.c\\n\\tcat a.c p.c > $@\\np.c: p.y\\n\\tcp p.y p.c\\n' > Makefile; "

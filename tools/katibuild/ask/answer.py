@@ -80,3 +80,7 @@ class Answer(NamedTuple):
     unmade: Tuple[str, ...] = ()                 # prerequisites without a rule, which another recipe leaves
     patterns: Tuple[Rule, ...] = ()              # implicit rules of the makefile, their targets with `%`
     deferred: FrozenSet[str] = frozenset()       # names of the variables that make expands at each use
+
+    def deferred_texts(self) -> Mapping[str, str]:
+        """The deferred variables that name something, with their texts."""
+        return {name: self.variables[name] for name in self.deferred if "$" in self.variables.get(name, "")}

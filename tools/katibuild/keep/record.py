@@ -57,6 +57,7 @@ class BuildRecord(NamedTuple):
     absent_includes: Tuple[str, ...] = ()
     seen_outputs: Tuple[str, ...] = ()           # of all readings of this folder so far
     separated: Tuple[str, ...] = ()              # targets that are not joined again
+    left_alone: Tuple[str, ...] = ()             # text files that make would leave alone, and that Ninja never made
     written_while_read: Tuple[str, ...] = ()     # files that each reading writes
     without_effect: Tuple[str, ...] = ()         # products that reading opened, and that changed no graph
     made_includes: Tuple[str, ...] = ()          # includes that make remakes

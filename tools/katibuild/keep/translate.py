@@ -45,23 +45,26 @@ def translate(run: Run, record: Optional[BuildRecord], changes: Optional[Changes
     new = record_of(run, record, found, made, text)
     if is_same and changes is not None:
         new = without_effect(new, record, changes)
-    log, spared = with_lines(log, run, record, found, text, before, changes)
-    renewing = turns.renewing(run.place, text, log, known)
-    write(run, new, made, with_blocks(found, text, renewing), goals.phony_goals(run, found, text))
+    log, spared, left = with_lines(log, run, record, found, text, before, changes)
+    new, renewing = new._replace(left_alone=tuple(sorted(left))), turns.renewing(run.place, text, log, known)
+    write(run, new, made, with_blocks(found, text, renewing, left), goals.phony_goals(run, found, text))
     return Written(new, has_news(before, text, spared, renewing))
 
 
 def with_lines(log: Log, run: Run, record: Optional[BuildRecord], found: Asked, text: NinjaText,
-               before: Optional[NinjaText], changes: Optional[Changes]) -> Tuple[Log, FrozenSet[str]]:
-    """Writes lines for outputs that count as made to Ninja's log; answers the log, and which outputs need not run."""
+               before: Optional[NinjaText], changes: Optional[Changes]) -> Tuple[Log, FrozenSet[str], FrozenSet[str]]:
+    """Writes lines for outputs that count as made to Ninja's log; answers the log, and which outputs need not run and
+    which are left alone."""
     seen = turns.seen_before(record, folder.other_outputs(run.place))
     commands = {} if run.is_anew else turns.taken(found, text, seen)
+    left = turns.left_alone(run, record, commands, log)
     if not commands and before is None:
-        return log, frozenset()
+        return log, frozenset(), left
     is_only_built = before is not None and changes is not None and record is not None and not users_own(record, found)
-    lines = turns.as_taken(commands, log)
-    if lines:
-        message.say(Message(f"{counted(lines)} taken as make left {'it' if len(lines) == 1 else 'them'} "
+    lines = turns.as_taken({name: command for name, command in commands.items() if name not in left}, log)
+    new = sorted({*lines, *left.intersection(commands)})
+    if new:
+        message.say(Message(f"{counted(new)} taken as make left {'it' if len(new) == 1 else 'them'} "
                             "(kati-build --anew rebuilds)"))
     needs_run = is_late(record, found, text)
     same = as_made.same_build(before, text, log, needs_run) if is_only_built else {}
@@ -69,7 +72,7 @@ def with_lines(log: Log, run: Run, record: Optional[BuildRecord], found: Asked, 
         lines.update(same)
     turns.add(log, lines)
     spared = frozenset((*lines, *same, *(as_made.always_run(before, text, needs_run) if is_only_built else ())))
-    return log._replace(entries={**log.entries, **lines}), spared
+    return log._replace(entries={**log.entries, **lines}), spared, left
 
 
 def read_products(record: Optional[BuildRecord], found: Asked) -> FrozenSet[str]:
@@ -120,10 +123,10 @@ def without_effect(new: BuildRecord, record: BuildRecord, changes: Changes) -> B
     return new._replace(without_effect=tuple(sorted(quiet)))
 
 
-def with_blocks(found: Asked, text: NinjaText, renewing: Mapping[str, str]) -> bytes:
+def with_blocks(found: Asked, text: NinjaText, renewing: Mapping[str, str], left: FrozenSet[str]) -> bytes:
     """The statements with depfiles, `restat`, descriptions and the like; a check holds them against kati's text."""
     depfiles = {output: path for path, output in found.hidden.items()}
-    more = blocks.added(text, found.graph, depfiles, os.path.isfile, renewing)
+    more = blocks.added(text, found.graph, depfiles, os.path.isfile, renewing, left)
     return blocks.with_blocks(text, more, found.hidden)
 
 

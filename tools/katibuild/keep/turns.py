@@ -64,6 +64,14 @@ def archive_of(name: str) -> str:
     return os.path.normpath(name.partition("(")[0] if name.endswith(")") else name)
 
 
+def left_alone(run: Run, record: Optional[BuildRecord], now_taken: Iterable[str], found: Log) -> FrozenSet[str]:
+    """The text files that count as made, as config.h of ./configure or a shipped parser.c, until Ninja makes them.
+    Without lines in the log, Ninja compares their times with those of inputs, as make does, and nothing else."""
+    before = [one.left_alone for one in (record, *folder.records(run.place.room)) if one and not run.is_anew]
+    texts = [name for name in now_taken if b"\0" not in (files.read(name) or b"\0")]
+    return frozenset(name for some in (*before, texts) for name in some if name not in found.entries)
+
+
 def seen_before(record: Optional[BuildRecord], others: FrozenSet[str]) -> FrozenSet[str]:
     """The outputs that a reading of this folder has had, of these goals or of others."""
     return others.union(record.seen_outputs if record else ())
@@ -75,7 +83,7 @@ def is_late(answer: Answer) -> Callable[[str], bool]:
     """A function that says of an output whether its recipe calls `shell` or the like, by deferred variables too."""
     # loaded here alone, as in `remade`
     from ..ask.heads import NAME, naming
-    values = {name: answer.variables[name] for name in answer.deferred if "$" in answer.variables.get(name, "")}
+    values = answer.deferred_texts()
     calling = naming(values, [name for name, value in values.items() if CALL.search(value)])
     recipes: Dict[str, List[str]] = {}
     for rule in answer.rules:

@@ -18,18 +18,18 @@ LONGEST = 2_000                  # letters of a description
 
 
 def added(text: NinjaText, graph: Graph, depfiles: Mapping[str, str], is_file: Callable[[str], bool],
-          renewing: Mapping[str, str]) -> List[Block]:
+          renewing: Mapping[str, str], left_alone: Collection[str] = ()) -> List[Block]:
     """All that is added to kati's text; `depfiles` are paths by outputs, and so are those of keep.turns.renewing."""
-    return [*headers.blocks(text, {**renewing, **depfiles}), *generators(text, depfiles), *restats(text, is_file),
-            *inner_makes.blocks(text, graph), *descriptions(text, graph)]
+    return [*headers.blocks(text, {**renewing, **depfiles}), *generators(text, depfiles, left_alone),
+            *restats(text, is_file), *inner_makes.blocks(text, graph), *descriptions(text, graph)]
 
 
-def generators(text: NinjaText, depfiles: Container[str]) -> Iterator[Block]:
+def generators(text: NinjaText, depfiles: Container[str], left_alone: Collection[str] = ()) -> Iterator[Block]:
     """`generator` for each statement without inputs, order-only ones aside: make runs such a recipe only where the file
     is absent. By `generator` neither another command nor a lost log makes the file stale, which the user may have
-    edited, and `ninja -t clean` leaves the file alone."""
+    edited, and `ninja -t clean` leaves the file alone. So it is for `left_alone`, too."""
     for one in text.statements:
-        if one.is_bare and one.outputs[0] not in depfiles:
+        if (one.is_bare or all(name in left_alone for name in one.outputs)) and one.outputs[0] not in depfiles:
             yield Block(one.line, (("generator", "1"),))
 
 
