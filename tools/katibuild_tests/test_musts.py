@@ -63,6 +63,11 @@ SEQUENCES = (
                     "-MF .deps/m.Tpo -c -o $@ m.c && mv .deps/m.Tpo .deps/m.Po\n.DEFAULT_GOAL := prog\n",
         ".deps/m.Po": "# dummy\n", "m.c": "#include \"h.h\"\nint main(void){return H;}\n", "h.h": "#define H 3\n"}, (
             Step(), header(4, NINJA), header(5, "build"), header(6, MAKE), Step("echo >> m.c"), header(7, NINJA))),
+    Sequence("settings that a build keeps after it has cleaned", {
+        "Makefile": "-include .settings\nall: prog\nifneq ($(F),new)\n.pre: keep\nendif\nprog: a.o\n"
+                    "\t@@ cat a.o > $@\na.o: a.c .pre\n\t@@ echo '[$(F)]' > $@\n.pre:\n\t@touch $@\n"
+                    "keep: clean\n\t@echo F=new > .settings\nclean:\n\t@rm -f *.o\n.PHONY: all keep clean\n",
+        "a.c": "a\n"}, (Step(), Step(), Step("touch a.c", by=NINJA))),
     Sequence("a rule and its file come by a pull", {
         "Makefile": "prog: a.c\n\t@@ cat a.c > $@\n", "a.c": "a\n"}, (
             Step(), Step("printf 'prog: a.c p.c\\n\\tcat a.c p.c > $@\\np.c: p.y\\n\\tcp p.y p.c\\n' > Makefile; "

@@ -36,7 +36,7 @@ def to_log(text: NinjaText, present: Collection[str], make_rebuilds: Collection[
 
 
 def same_build(before: NinjaText, now: NinjaText, log: Log, is_late: Callable[[str], bool]) -> Dict[str, Entry]:
-    """Entries for statements whose text alone differs from before, as make never rebuilds for a text.
+    """Entries for statements whose text differs from before, as make never rebuilds for a text or for a lost input.
 
     `is_late` says whether an output's recipe calls `shell`, `wildcard` or the like: its text may then say what the
     build has just made.
@@ -45,7 +45,7 @@ def same_build(before: NinjaText, now: NinjaText, log: Log, is_late: Callable[[s
     found: Dict[str, Entry] = {}
     for one in commanded(now):
         old = known.get(one.outputs)
-        if old and old.command != one.command and (old.inputs, old.order_only) == (one.inputs, one.order_only) \
+        if old and old.command != one.command and {*old.inputs, *old.order_only} >= {*one.inputs, *one.order_only} \
                 and is_current(old, log) and not any(map(is_late, one.outputs)):
             new = hashed(log.kind, one.command)
             found.update((name, Entry(log.entries[name].modified, new)) for name in one.outputs)
