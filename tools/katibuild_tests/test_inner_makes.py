@@ -16,6 +16,8 @@ J := $(T)1 $(T)2 $(T)3
 all: $(J)
 $(J): ; echo + >> ../log; sleep 0.3; echo - >> ../log; echo '$(V) $(W)' $(MAKELEVEL) > $@
 """
+FLAGS = "MAKEFLAGS += -rR --no-print-directory\nall: ; $(MAKE) -C sub\n"
+OF_FLAGS = "all: ; @echo '$(filter-out -j% --jobserver%,$(MAKEFLAGS))' $(origin CC) $(.SUFFIXES) > flags\n"
 KILLS = "all: ; kill -9 `ps -o ppid= -p $$PPID`\n"
 
 
@@ -66,6 +68,12 @@ class InnerMakes(Tree):
         self.put({"log": ""})
         ran = self.build(KATI_JOBS="no")
         self.assertEqual((0, 12), (ran.status, self.most()[1]), ran.said)
+
+    def test_the_flags_of_the_makefile(self):
+        self.put({"Makefile": FLAGS, "sub/Makefile": OF_FLAGS})
+        found = [(build().status, self.read("sub/flags")) for build in (self.make, self.build, self.ninja)]
+        self.assertIn("rR --no-print-directory undefined\n", found[0][1])
+        self.assertEqual([(0, found[0][1])] * 3, found)
 
     def test_a_killed_make_takes_no_job_away(self):
         self.put({"sub/Makefile": KILLS})

@@ -3,6 +3,7 @@ from __future__ import annotations
 
 import os
 import re
+import shutil
 import signal
 import subprocess
 import time
@@ -68,6 +69,14 @@ class Keep(Tree):
             self.assertIn(text, ran.said)
         self.put({"k.c": ""})
         self.assertIn("this folder has k.c", self.build("--why").said)
+
+    def test_why_lists_newer_prerequisites(self):
+        """`$?`, also where a variable names it through another, is listed with its place."""
+        for recipe, is_listed in (("echo $?", True), ("$(call new,$@)", True), ("echo $^ $(call old)", False)):
+            self.put({"Makefile": f"any = $(filter-out F,$?)\nnew = echo $(any)\nold = $<\nout: in\n\t{recipe}\n",
+                      "in": ""})
+            self.build()
+            self.assertEqual(is_listed, "Makefile:5: '$?' in the recipe of 'out'" in self.build("--why").said, recipe)
 
     def test_no_ninja(self):
         self.put(FILES)
@@ -272,6 +281,23 @@ class Keep(Tree):
                             self.assertIn("up to date", self.make().said, ran.said)
                         else:
                             self.assertIn("error", ran.said)
+
+    def test_a_ninja_with_another_log_is_refused(self):
+        other = self.top.parent / "ninja"
+        other.write_text(f"#!/bin/sh\n{shutil.which('ninja')} \"$@\" || exit\nfor one in .ninja_log .kati/.ninja_log; "
+                         "do [ ! -e $one ] || sed -i '1s/v[0-9]*/v99/' $one; done\n")
+        other.chmod(0o755)
+        self.put({"Makefile": "all: a c.h\na: s ; echo >> log; cp s a\nc.h: ; echo >> log; touch c.h\n", "s": "1\n",
+                  "c.h": "mine\n", "a": "shipped\n"})
+        for edit in ("true", "touch s"):
+            self.sh(edit)
+            before = self.contents()
+            ran = self.build(NINJA=str(other))
+            self.assertEqual(3, ran.status, ran.said)
+            self.assertIn(f"{other} writes a log that kati-build does not know\nhelp: ", ran.said)
+            self.assertEqual((before, None), (self.contents(), self.read("build.ninja")))
+        self.assertEqual(0, self.build().status)
+        self.assertEqual(("mine\n", "\n"), (self.read("c.h"), self.read("log")))
 
     def test_scripts_that_are_gone(self):
         self.put({"Makefile": "export X = 1\nprog: a\n\techo $$X > $@\n", "a": ""})

@@ -140,6 +140,15 @@ class Losses(Tree):
                 built = self.read("out")
                 self.assertEqual((0, self.by_make()), (ran.status, built), ran.said)
 
+    def test_edit_after_edit_by_plain_ninja(self):
+        """A file without inputs is ninja's, however often a plain ninja makes it, until the user edits it."""
+        self.start(shell("cat ver.txt"))
+        for edit, text in (("echo 2 > ver.txt", "2\n"), ("echo 3 > ver.txt", "3\n"),
+                           ("echo mine > out; echo 4 > ver.txt", "mine\n")):
+            self.sh(f"sleep 0.05; {edit}")
+            ran = self.ninja()
+            self.assertEqual((0, text), (ran.status, self.read("out")), ran.said)
+
     def test_what_is_nothing(self):
         for edit, name in NOTHING:
             with self.subTest(name):

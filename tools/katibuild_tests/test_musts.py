@@ -4,6 +4,7 @@ from __future__ import annotations
 import unittest
 
 from sequences import MAKE, NINJA, Compared, Sequence, Step
+from trees import BUILD
 
 C = {"a.c": "int f(void){return 1;}\n", "b.c": "int g(void){return 2;}\n", "h.h": "#define H 3\n",
      "m.c": "#include \"h.h\"\nint f(void);int main(void){return H+f();}\n"}
@@ -45,6 +46,28 @@ SEQUENCES = (
         "configure": CONFIGURE, "a.c": ""}, (
             Step("chmod +x configure; ./configure extra"), Step("touch configure; sleep 0.02; ./configure extra"),
             Step("touch configure; sleep 0.02; ./configure other; echo > a.c"), Step(by=NINJA))),
+    Sequence("config.h of ./configure, which is no makefile", {
+        "Makefile": "prog: a.c config.h\n\t@@ cat a.c config.h > $@\nconfig.h: configure\n"
+                    "\t@echo please run ./configure; exit 1\n",
+        "configure": "#!/bin/sh\necho ${1:-defaults} > config.h\n", "a.c": "a\n"}, (
+            Step("chmod +x configure; sleep 0.02; ./configure extra"), Step(words=("CFLAGS=-g",), may_run=("prog",)),
+            Step("echo b > a.c"), Step("touch configure; sleep 0.02; ./configure other", by=NINJA),
+            Step("touch configure", by=NINJA), Step("./configure more"))),
+    Sequence("an include without a dash that looks like a depfile", {
+        "Makefile": "include deps.mk\nprog: in\n\t@@ cat $^ > $@\n", "deps.mk": "prog: extra\n", "in": "1\n",
+        "extra": "2\n"}, (
+            Step(), Step("echo 3 > extra", by=NINJA), Step("echo 'prog: more' >> deps.mk; echo 4 > more", by=NINJA),
+            Step("echo 5 > more"))),
+    Sequence("header dependencies of automake", {
+        "Makefile": "include ./.deps/m.Po\nprog: m.o\n\t@@ cc -o $@ m.o\nm.o: m.c\n\t@@ cc -MT $@ -MD -MP "
+                    "-MF .deps/m.Tpo -c -o $@ m.c && mv .deps/m.Tpo .deps/m.Po\n.DEFAULT_GOAL := prog\n",
+        ".deps/m.Po": "# dummy\n", "m.c": "#include \"h.h\"\nint main(void){return H;}\n", "h.h": "#define H 3\n"}, (
+            Step(), header(4, NINJA), header(5, "build"), header(6, MAKE), Step("echo >> m.c"), header(7, NINJA))),
+    Sequence("settings that a build keeps after it has cleaned", {
+        "Makefile": "-include .settings\nall: prog\nifneq ($(F),new)\n.pre: keep\nendif\nprog: a.o\n"
+                    "\t@@ cat a.o > $@\na.o: a.c .pre\n\t@@ echo '[$(F)]' > $@\n.pre:\n\t@touch $@\n"
+                    "keep: clean\n\t@echo F=new > .settings\nclean:\n\t@rm -f *.o\n.PHONY: all keep clean\n",
+        "a.c": "a\n"}, (Step(), Step(), Step("touch a.c", by=NINJA))),
     Sequence("a rule and its file come by a pull", {
         "Makefile": "prog: a.c\n\t@@ cat a.c > $@\n", "a.c": "a\n"}, (
             Step(), Step("printf 'prog: a.c p.c\\n\\tcat a.c p.c > $@\\np.c: p.y\\n\\tcp p.y p.c\\n' > Makefile; "
@@ -101,6 +124,9 @@ SEQUENCES = (
     Sequence("older files of a checkout", {"Makefile": WITH_DEPFILES, **C}, (
         Step("mkdir ../old; cp -p *.c *.h ../old"), Step("echo '#define H 9' > h.h; echo >> a.c"),
         Step("cp ../old/* .", by=NINJA), Step("rm -r ../old"))),
+    Sequence("a rule of :: without prerequisites", {
+        "Makefile": "all: x y z\nx::\n\t@@ echo x >> x\ny: x\n\t@@ cp x y\nz:: a\n\t@@ cp a z\n", "a": ""}, (
+            Step(), Step(), Step("touch a", by=NINJA)), is_settled=False),
     Sequence("an intermediate source", {
         "Makefile": "SRCS := $(wildcard *.c)\nOBJS := $(SRCS:.c=.o) gram.o\nprog: $(OBJS)\n\t@@ cc -o $@ $(OBJS)\n"
                     ".c.o:\n\t@@ cc -c -o $@ $<\n.y.c:\n\t@@ cp $< $@\n",
@@ -116,6 +142,25 @@ SEQUENCES = (
 )
 
 
+SUCKLESS = """\
+prog: prog.c config.h
+	cat prog.c config.h > $@
+CP = cp
+config.h: | out ; $(CP) config.def.h $@
+out: ; mkdir $@
+"""
+# name, what happens after a first build; OTHER gives the recipe of config.h another text
+EDITED = (
+    ("ninja -t clean", "echo mine > config.h; ninja -t clean; ninja"),
+    ("the log is lost", "echo mine > config.h; rm .kati/.ninja_log; ninja"),
+    ("another ninja's log", "echo mine > config.h; sed -i '1s/v[0-9]*/v4/' .kati/.ninja_log; ninja"),
+    ("another text", "echo mine > config.h; $OTHER; ninja; ninja"),
+    ("a file of before", "echo mine > old; touch -d 1999-01-01 old; cp -p old config.h; ninja"),
+    ("clean after another text", "$OTHER; ninja; echo mine > config.h; ninja -t clean; ninja"),
+    ("a file of before, after another text", "echo mine > old; $OTHER; ninja; cp -p old config.h; ninja; $BUILD"),
+    ("clean after another text by kati-build", "$OTHER; $BUILD; echo mine > config.h; ninja -t clean; $BUILD"),
+    ("--anew", "echo mine > config.h; $BUILD --anew"),
+)
 # How makefiles read a file that the build makes, while make reads them.
 OF_A_PRODUCT = ("V := $(shell cat ver 2>/dev/null)", "V != cat ver 2>/dev/null || :", "V := $(file < ver)",
                 "F = ver\nV := $(if $(wildcard $F),$(shell cat $F))", "W := $(shell cat ver 2>/dev/null)\nV = $(W)")
@@ -142,6 +187,30 @@ class Musts(Compared):
                     second = self.ninja() if number % 2 else self.build()
                     self.assertEqual((0, "out\n", f"[{text}]\n"), (second.status, self.read("log"), self.read("out")))
                 self.assertFalse(self.build().has_work)
+
+    def test_a_file_without_inputs_is_the_users(self):
+        """What a user has made of such a file stays, whatever ninja or kati-build do."""
+        for name, steps in EDITED:
+            with self.subTest(name):
+                self.start_again()
+                self.put({"Makefile": SUCKLESS, "prog.c": "p\n", "config.def.h": "def\n"})
+                self.assertEqual(0, self.build().status)
+                self.assertEqual("def\n", self.read("config.h"))
+                steps = steps.replace("; ", "; sleep 0.02; ").replace("$OTHER", "sed -i 's/= cp/= cp -f/' Makefile")
+                self.sh(f"BUILD='{' '.join(BUILD)}'; {steps}")
+                self.assertEqual("mine\n", self.read("config.h"))
+                self.sh("rm config.h; ninja")
+                self.assertEqual("def\n", self.read("config.h"))
+
+    def test_a_file_without_inputs_and_another_text(self):
+        """A file that is as the build left it is built by the new text, once."""
+        self.put({"Makefile": "V = 1\nout: ; echo $(V) >> out\n"})
+        self.build()
+        for number, by in enumerate((self.ninja, self.build, self.ninja, self.ninja), 2):
+            self.sh(f"sed -i 's/^V = .*/V = {number}/' Makefile")
+            by()
+            self.assertFalse(by().has_work)
+        self.assertEqual("1\n2\n3\n4\n5\n", self.read("out"))
 
     def test_two_stages_in_one_run(self):
         self.put({"Makefile": "ifeq ($(wildcard conf),)\nall: conf\nelse\nall: prog\nendif\nconf: ; touch $@\n"

@@ -175,13 +175,22 @@ class Blocks(Folder):
         self.text = translated(self.graph)[1]
 
     def test_all_that_is_added(self):
-        found = blocks.added(self.text, self.graph, {"m.o": "m $.d"}, lambda name: True)
+        found = blocks.added(self.text, self.graph, {"m.o": "m $.d"}, lambda name: True, {})
         data = blocks.with_blocks(self.text, found, {"m $.d"})
         for line in (b" depfile = m $$.d\n", b" restat = 1\n", b" description = cc -c m.c\n"):
             self.assertIn(line, data)
         self.assertEqual(1, data.count(b"restat"))
         self.assertEqual(self.text.data, blocks.kati_data(data))
         self.assertEqual(self.text.statements, text.parse(blocks.kati_data(data)).statements)
+
+    def test_generator_only_without_inputs(self):
+        rules = [rule("all", "a b c d e p"), rule("a"), rule("b"), rule("c", "s"), rule("d"), rule("e", "p"),
+                 rule("p", is_phony=True)]
+        rules[2] = rules[2]._replace(order_only=("a",))
+        graph = graph_of(answer("all", rules, [(name, f"touch {name}") for name in "abcdep"]), self.top)
+        found = blocks.generators(translated(graph)[1], {"d": "d.d"})
+        lines = translated(graph)[1].data.decode().split("\n")
+        self.assertEqual(["build a: ", "build b: "], [lines[one.line - 1][:9] for one in found])
 
     def test_a_text_that_is_not_katis_is_refused(self):
         data = blocks.with_blocks(self.text, ())

@@ -190,6 +190,16 @@ class Clean(Compared):
         self.ninja("-t", "clean")
         self.assertEqual(("read me\n", "mine\n", None), tuple(map(self.read, ("install", "config.h", "prog"))))
 
+    def test_clean_leaves_a_file_that_came_with_the_tree(self):
+        """Until its inputs change, and Ninja makes it."""
+        self.put({"Makefile": "prog: p.c\n\tcp p.c $@\np.c: p.y\n\tcp p.y $@\n", "p.y": "y\n"})
+        self.sh("sleep 0.02; echo shipped > p.c")
+        for edit, left in ((":", "shipped\n"), ("sleep 0.02; echo z > p.y", None)):
+            self.sh(edit)
+            self.assertEqual((0, 0), (self.build().status, self.build("X=1").status))
+            self.ninja("-t", "clean")
+            self.assertEqual((left, None), tuple(map(self.read, ("p.c", "prog"))))
+
 
 if __name__ == "__main__":
     unittest.main()

@@ -20,8 +20,8 @@ class Line(NamedTuple):
     environment: Environment = ()                # what differs from the user's: (name, value), None where it is unset
     is_echoed: bool = True
     is_ignored: bool = False                     # make goes on if the line fails
-    place: Optional[Place] = None                # of the recipe; it tells the rules of `::` apart
-    is_mark_known: bool = True                   # False: nothing tells whether make goes on; it is taken to stop
+    place: Optional[Place] = None                # of the recipe; each rule of `::` has its own
+    is_mark_known: bool = True                   # False: whether make goes on is not known; it is taken to stop
 
 
 class Rule(NamedTuple):
@@ -49,7 +49,7 @@ class Include(NamedTuple):
 
 
 class Reading(NamedTuple):
-    """What the first run of make tells, which brings the makefiles up to date."""
+    """What the first run of make prints. That run brings the makefiles up to date."""
 
     makefiles: Tuple[str, ...]                   # in the order in which make read them, each once
     absent_includes: Tuple[str, ...]
@@ -80,3 +80,7 @@ class Answer(NamedTuple):
     unmade: Tuple[str, ...] = ()                 # prerequisites without a rule, which another recipe leaves
     patterns: Tuple[Rule, ...] = ()              # implicit rules of the makefile, their targets with `%`
     deferred: FrozenSet[str] = frozenset()       # names of the variables that make expands at each use
+
+    def deferred_texts(self) -> Mapping[str, str]:
+        """The deferred variables that name something, with their texts."""
+        return {name: self.variables[name] for name in self.deferred if "$" in self.variables.get(name, "")}

@@ -4,6 +4,7 @@ from __future__ import annotations
 import dataclasses
 import os
 import re
+import shlex
 from typing import Dict, FrozenSet, Iterable, List, Mapping, NamedTuple, Optional, Set, Tuple
 
 from ..base.files import bytes_of, replace, text_of
@@ -18,7 +19,7 @@ from .opened import Watch
 from .printed import Recipe
 from .question import Question, arguments, make_environment, makefile_of, program
 from .reading import failure, texts_of
-from .recorder import ENVIRONMENT, Recorder, install, only, quoted
+from .recorder import ENVIRONMENT, Recorder, install, only
 
 NO_RULE = re.compile(r"No rule to make target '([^']*)', needed by '([^']*)'")
 PRINTED, RECORDED, NOW = ("-n", "-B", "--trace"), ("-B", "--trace"), ("-n", "--trace")
@@ -148,9 +149,9 @@ def as_left(line: Line, setting: Setting, rules: Mapping[str, Tuple[Rule, ...]],
         mine.head, own.recipe, ".ONESHELL" in rules)
     # Variables of targets reach a recipe from the goals above.
     goals = goals_of(question, setting.reading) if setting.reading.database.of_targets else (line.target,)
-    given = [quoted(one) for one in (makefile_of(question), *question.variables, *goals)]
+    given = [shlex.quote(one) for one in (makefile_of(question), *question.variables, *goals)]
     text = only(setting.recorder, line.target, {"first": first, "last": last},
-                [quoted(program(question)), "-n", "-B", "-f", '"$kati_room/first"', "-f", given[0],
+                [shlex.quote(program(question)), "-n", "-B", "-f", '"$kati_room/first"', "-f", given[0],
                  "-f", '"$kati_room/last"', *given[1:]])
     return line._replace(text=text, shell=("/bin/sh", "-c"), environment=(), is_echoed=False, place=own.place)
 

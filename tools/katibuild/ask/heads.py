@@ -2,11 +2,12 @@
 from __future__ import annotations
 
 import re
-from typing import Dict, List, Optional, Sequence, Set, Tuple
+from typing import Dict, Iterable, List, Mapping, Optional, Sequence, Set, Tuple
 
 from .database import Database
 
 SIGNS = re.compile(r"[\s@+-]*")
+NAME = re.compile(r"[\w.-]+")
 AUTOMATIC = re.compile(r"[@<^+?*|%][DF]?")
 NOTHING = ("eval", "info", "warning", "error")     # functions that expand to nothing
 DEPTH = 8                                          # of variables that name variables
@@ -76,8 +77,22 @@ class Heads:
         return known.pop() if len(known) == 1 else None
 
 
+def naming(values: Mapping[str, str], names: Iterable[str]) -> Set[str]:
+    """These variables, and all whose values name one of them by a word, through others too; linear."""
+    users: Dict[str, List[str]] = {}
+    for name, text in values.items():
+        for word in set(NAME.findall(text)):
+            users.setdefault(word, []).append(name)
+    found, work = set(names), list(names)
+    while work:
+        more = [name for name in users.get(work.pop(), ()) if name not in found]
+        found.update(more)
+        work += more
+    return found
+
+
 def behind_reference(line: str, at: int) -> int:
-    """Where the text goes on behind the reference that begins at `at`."""
+    """The place behind the reference that begins at `at`."""
     opening = line[at + 1:at + 2]
     closing = {"(": ")", "{": "}"}.get(opening)
     at += 2

@@ -3,17 +3,16 @@ from __future__ import annotations
 
 import fnmatch
 import re
-from typing import Dict, FrozenSet, Iterable, Iterator, List, Mapping, NamedTuple, Optional, Set, Tuple
+from typing import Dict, FrozenSet, Iterable, Iterator, Mapping, NamedTuple, Optional, Set, Tuple
 
 from ..base.files import ninja_name
 from ..base.message import Stop
 from .answer import Rule
 from .database import Database, Variable
 from .extra_makefiles import name_text
-from .heads import behind_reference
+from .heads import NAME, behind_reference, naming
 
 CALL = re.compile(r"\$[({](shell|wildcard|file|realpath)\s")
-NAME = re.compile(r"[\w.-]+")
 WORD = re.compile(r"[^\s'\"`;|&<>(){}$,=]+")
 INPUTS = re.compile(r"\$[({]?[<^?+|]")
 WRITES = re.compile(r"\s*>")
@@ -30,22 +29,12 @@ class Left(NamedTuple):
 
 def late_names(found: Database) -> FrozenSet[str]:
     """The deferred variables that call such a function, through others too."""
-    own = {name: one for name, one in found.variables.items() if one.is_deferred and "$" in one.value
+    own = {name: one.value for name, one in found.variables.items() if one.is_deferred and "$" in one.value
            and one.origin not in ("default", "automatic")}
     for one in found.of_targets:
         if one.is_deferred and "$" in one.value:
-            own[one.name] = one
-    late = {name for name, one in own.items() if CALL.search(one.value)}
-    users: Dict[str, List[str]] = {}
-    for name, one in own.items():
-        for word in set(NAME.findall(one.value)):
-            users.setdefault(word, []).append(name)
-    work = list(late)
-    while work:
-        more = [name for name in users.get(work.pop(), ()) if name not in late]
-        late.update(more)
-        work += more
-    return frozenset(late)
+            own[one.name] = one.value
+    return frozenset(naming(own, [name for name, value in own.items() if CALL.search(value)]))
 
 
 def head_of(rule: Rule) -> str:

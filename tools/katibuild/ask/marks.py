@@ -19,7 +19,7 @@ class Mark(NamedTuple):
     is_echoed: bool = True
     is_ignored: bool = False
     is_ignored_by_text: bool = False   # the unexpanded line itself has `-`
-    is_known: bool = True              # False: whether a failure is ignored depends on what the text does not tell
+    is_known: bool = True              # False: whether a failure is ignored depends on what the text does not show
 
 
 class Unexpanded(NamedTuple):

@@ -88,7 +88,7 @@ def head_of(line: str, rules: Mapping[str, Tuple[Rule, ...]]) -> Optional[Recipe
 
 
 def ends_open(line: str) -> bool:
-    """Whether the line goes on: it ends with an odd number of backslashes."""
+    """Whether the next line continues this one, which then ends with an odd number of backslashes."""
     return line.endswith("\\") and (len(line) - len(line.rstrip("\\"))) % 2 == 1
 
 

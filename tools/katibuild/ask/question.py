@@ -2,6 +2,7 @@
 from __future__ import annotations
 
 import os
+import re
 import shutil
 from dataclasses import dataclass
 from typing import Mapping, Optional, Tuple
@@ -10,6 +11,7 @@ from ..base.message import Stop
 
 MAKEFILES = ("GNUmakefile", "makefile", "Makefile")   # GNU make manual, "What Name to Give Your Makefile"
 MAKE_OWN = ("MAKEFLAGS", "MFLAGS", "MAKELEVEL", "MAKEFILES", "GNUMAKEFLAGS", "MAKE_RESTARTS", "MAKEOVERRIDES")
+CALL = re.compile(r"(?:^|[\s;&|(`'\"])(?:\S*/)?g?make(?:[\s;&|)`'\"]|$)")
 
 
 @dataclass(frozen=True)
@@ -25,7 +27,7 @@ class Question:
 
 
 def environment_of(environ: Mapping[str, str]) -> Mapping[str, str]:
-    """The environment without the variables by which a make tells its inner makes what to do."""
+    """The environment without the variables by which a make controls its inner makes."""
     return {name: value for name, value in environ.items() if name not in MAKE_OWN}
 
 
@@ -47,6 +49,11 @@ def program(question: Question) -> str:
     name = os.path.basename(question.make)
     found = shutil.which(name, path=question.environment.get("PATH", os.defpath))
     return name if found and question.make in (name, os.path.abspath(found)) else question.make
+
+
+def runs_make(text: str) -> bool:
+    """Whether a line of a recipe calls make."""
+    return "make" in text and bool(CALL.search(text))
 
 
 def arguments(question: Question) -> Tuple[str, ...]:

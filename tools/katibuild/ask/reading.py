@@ -37,7 +37,7 @@ def read(question: Question, keep: bool = False) -> Reading:
 
 
 def reading_of(question: Question, finished: Finished, written: dict, room: str) -> Reading:
-    """What the run told."""
+    """What the run printed and wrote."""
     said, text = database.split(text_of(finished.output))
     found = database.parse(text, database.SPECIAL)
     makefiles, absent = makefiles_of(question.folder, said, written["makefiles"].split(), room)

@@ -9,18 +9,18 @@ from ..base.files import text_of
 from ..base.message import Status, Stop
 from .answer import Environment, Line
 from .database import Database
+from .heads import naming
+from .question import runs_make
 from .recorder import CALL, END, ENVIRONMENT, SEPARATOR, TARGET, Recorder
 
 # Variables that make or the shell sets by itself.
 OWN = frozenset({"MAKEFLAGS", "MFLAGS", "MAKELEVEL", "MAKE_TERMOUT", "MAKE_TERMERR", "MAKEOVERRIDES", "MAKE_RESTARTS",
                  "SHLVL", "_", "OLDPWD", TARGET})
-MAKE = re.compile(r"(?:^|[\s;&|(`'\"])(?:\S*/)?g?make(?:[\s;&|)`'\"]|$)")
 INNER = ("MAKEFLAGS", "MFLAGS", "MAKELEVEL")
 TAKES_ARGUMENT = "CfIjloOW"   # letters of make's options that have an argument
 EXPORT = re.compile(r"(?m):(?:[^\n:=]*\s)?export\s+(?:(?:override|private|define)\s+)*([^\s:=+?!]+)")
 AUTOMATIC = re.compile(r"(?<!\$)(?:\$\$)*\$[({]?[@<^+?*|%]")
 INFO = re.compile(r"\$[({]info\b")
-WORD = re.compile(r"[\w.-]+")
 
 
 class Recorded(NamedTuple):
@@ -105,7 +105,7 @@ def letters_of(inner: Environment) -> str:
 def with_inner(lines: List[Line], inner: Environment) -> Iterator[Line]:
     """The lines with MAKEFLAGS and the like in their environment, where they have a value or the recipe runs make."""
     is_given = any(value and name == "MAKEFLAGS" for name, value in inner)
-    calling = (line.target for line in lines if "make" in line.text and MAKE.search(line.text))
+    calling = (line.target for line in lines if runs_make(line.text))
     callers = frozenset(calling if not is_given else ())
     for line in lines:
         if is_given or line.target in callers:
@@ -137,16 +137,7 @@ def reason(found: Database, names: FrozenSet[str], makefiles: Iterable[str]) -> 
 
 def depends_on_target(found: Database, exported: Iterable[str], own: Set[str]) -> bool:
     """Whether an exported deferred variable uses `$@` or a variable of a target, through others too."""
-    seen: Set[str] = set()
-    work = [name for name in exported if not name.startswith("KATI_")]
-    while work:
-        name = work.pop()
-        one = found.variables.get(name)
-        if name in seen or one is None or not one.is_deferred or "$" not in one.value:
-            continue
-        seen.add(name)
-        words = set(WORD.findall(one.value))
-        if AUTOMATIC.search(one.value) or words & own:
-            return True
-        work += words
-    return False
+    values = {name: one.value for name, one in found.variables.items()
+              if one.is_deferred and "$" in one.value and not name.startswith("KATI_")}
+    using = [name for name, value in values.items() if AUTOMATIC.search(value)]
+    return not naming(values, [*own, *using]).isdisjoint(exported)

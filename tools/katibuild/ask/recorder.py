@@ -3,6 +3,7 @@ from __future__ import annotations
 
 import os
 import re
+import shlex
 import shutil
 from dataclasses import dataclass
 from typing import Mapping, Sequence
@@ -114,10 +115,5 @@ def only(recorder: Recorder, target: str, texts: Mapping[str, str], make: Sequen
     pairs = [((shell.split() or ["/bin/sh"])[0], path.split()[0]) for shell, path in recorder.paths.items()]
     shells = "".join(ONLY_SHELL.format(number=number, name=os.path.basename(path), program=shell)
                      for number, (shell, path) in enumerate(pairs))
-    return ONLY.format(shells=shells, target=quoted(target), make=" ".join(make),
+    return ONLY.format(shells=shells, target=shlex.quote(target), make=" ".join(make),
                        **{name: text.replace(recorder.room, "$(KATI_ROOM)") for name, text in texts.items()})
-
-
-def quoted(text: str) -> str:
-    """The text as one word of a shell."""
-    return "'" + text.replace("'", "'\\''") + "'"

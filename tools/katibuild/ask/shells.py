@@ -60,7 +60,7 @@ def value_of(name: str, variables: Mapping[str, Variable]) -> str:
 def refuse_foreign(question: Question, reading: Reading) -> None:
     """Stops with status 2 if a recipe may set a SHELL by `eval`, or MAKEFLAGS sets one.
 
-    Lines that make runs under `-n` would then run for real, or with another shell than make tells.
+    Lines that make runs under `-n` would then run for real, and others would have another shell than the answer.
     """
     found = reading.database
     shell = found.variables.get("SHELL")
@@ -130,7 +130,7 @@ def late_texts(found: Database) -> Iterator[Tuple[str, Optional[Place]]]:
 
 
 def place_in(folder: str, makefiles: Iterable[str]) -> Optional[Place]:
-    """The first line that names MAKEFLAGS and SHELL: make itself does not tell where MAKEFLAGS was set."""
+    """The first line that names MAKEFLAGS and SHELL: make itself does not say where MAKEFLAGS was set."""
     for name in makefiles:
         text = text_of(read(os.path.join(folder, name)) or b"")
         for number, line in enumerate(text.split("\n"), 1):

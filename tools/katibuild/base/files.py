@@ -31,7 +31,7 @@ def bytes_of(text: str) -> bytes:
 
 
 def replace(path: str, data: bytes, mode: int = 0o644) -> bool:
-    """Puts a file in place as a whole, and only if its bytes differ; tells whether it did. Stops with status 3."""
+    """Puts a file in place as a whole, and only if its bytes differ; answers whether they did. Stops with status 3."""
     try:
         if not os.path.islink(path) and read(path) == data:
             return False
@@ -75,7 +75,7 @@ def ninja_name(name: str) -> str:
 
 
 def is_below(path: str, folder: str) -> bool:
-    """Whether an absolute path is the folder or lies below it."""
+    """Whether an absolute path is the folder or is below it."""
     return path == folder or path.startswith(folder.rstrip("/") + "/")
 
 

@@ -2,9 +2,10 @@
 from __future__ import annotations
 
 import re
-from typing import Callable, Dict, Iterator, List
+from typing import Callable, Dict, Iterator, List, Set
 
 from ..ask.answer import Answer, Rule
+from ..ask.heads import NAME, naming
 from .node import Difference, Graph
 from .order import makes_folder
 from .walk import key_of
@@ -18,22 +19,24 @@ def differences(answer: Answer, graph: Graph, exists: Callable[[str], bool]) -> 
     for rule in answer.rules:
         if rule.is_target:
             rules.setdefault(key_of(rule.targets[0]), []).append(rule)
-    between = set(names_between(graph, exists))
+    between, values = set(names_between(graph, exists)), answer.deferred_texts()
+    newer = naming(values, [name for name, value in values.items() if NEWER.search(value)])
     for place in dict.fromkeys(line.place for line in answer.lines if not line.is_mark_known):
         yield Difference("whether make ignores failures of all lines of a recipe is not known: Ninja stops", place)
     for name, node in graph.nodes.items():
         is_file = bool(node.commands) and not makes_folder(name, node, lambda one: False)
-        for text in of_rules(name, rules.get(name, []), is_file):
+        for text in of_rules(name, rules.get(name, []), is_file, newer):
             yield Difference(text, node.place)
         if name in between:
             yield Difference(f"'{name}' has no file and no recipe: what needs it is rebuilt only if a prerequisite "
                              "is newer, by make each time", node.place)
 
 
-def of_rules(name: str, rules: List[Rule], is_file: bool) -> Iterator[str]:
-    """What differs by the rules of one target."""
+def of_rules(name: str, rules: List[Rule], is_file: bool, newer: Set[str]) -> Iterator[str]:
+    """What differs by the rules of one target; `newer` are variables that name `$?`."""
     recipes = [line for rule in rules for line in rule.recipe]
-    if any("?" in line and NEWER.search(line) for line in recipes):
+    if any(NEWER.search(line) or newer and not newer.isdisjoint(NAME.findall(line))
+           for line in recipes if "$" in line):
         yield f"'$?' in the recipe of '{name}' is all prerequisites"
     if sum(rule.is_double_colon for rule in rules) > 1:
         yield f"the rules of '{name}' with '::' run all or none"

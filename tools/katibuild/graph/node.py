@@ -30,7 +30,7 @@ class Node:
     is_left: bool = False                        # make runs the recipe at build time
     place: Optional[Place] = None
     is_double_colon: bool = False
-    made_with: Tuple[str, ...] = ()              # what the recipe makes beside the outputs, by make's database
+    made_with: Tuple[str, ...] = ()              # what else the recipe makes, by make's database
     waits: Tuple[int, ...] = ()                  # positions in `inputs` before which the makefile has `.WAIT`
 
 

@@ -10,6 +10,7 @@ from .node import Command, Graph, Node
 from .scripts import quoted
 
 WAIT = ".WAIT"
+EACH_TIME = ".kati/each-time"    # never there: what needs it is built each time
 
 
 class Draft:
@@ -21,7 +22,7 @@ class Draft:
         self.waits: List[int] = []
         self.made_with: List[str] = []
         self.lines: Dict[str, List[Tuple[int, Line]]] = {}      # by the spelling of the target that they make
-        self.is_phony = self.is_double_colon = self.is_left = False
+        self.is_phony = self.is_double_colon = self.is_left = self.is_each_time = False
         self.place: Optional[Place] = None
 
 
@@ -114,6 +115,7 @@ class Walk:
         """Adds a rule to a draft; answers the names that the rule needs."""
         draft.is_phony |= rule.is_phony
         draft.is_double_colon |= rule.is_double_colon
+        draft.is_each_time |= rule.is_double_colon and has_recipe(rule) and not rule.inputs
         draft.place = draft.place or rule.place
         for name in rule.inputs:
             if name == WAIT:
@@ -162,6 +164,8 @@ def node_of(key: str, draft: Draft) -> Node:
         draft.waits = [one - (one > at) for one in draft.waits]
         del draft.inputs[key]
     order_only = tuple(dict.fromkeys(name for name in draft.order_only if name not in draft.inputs and name != key))
+    if draft.is_each_time and not draft.is_phony:
+        draft.inputs[EACH_TIME] = None
     return Node((key,), tuple(draft.inputs), order_only, tuple(map(command_of, lines_of(draft))), draft.is_phony,
                 draft.is_left, draft.place, draft.is_double_colon, tuple(dict.fromkeys(draft.made_with)),
                 tuple(draft.waits))
@@ -191,5 +195,7 @@ def graph_of(answer: Answer, exists: Callable[[str], bool], known: Collection[st
     walk.take_all([*answer.goals, *sorted(always)])
     nodes = {key: node_of(key, draft) for key, draft in sorted(walk.drafts.items(), key=first_line)}
     nodes.update(left_beside(nodes, {key_of(name) for name in answer.unmade}))
+    if any(draft.is_each_time for draft in walk.drafts.values()):
+        nodes[EACH_TIME] = Node((EACH_TIME,))
     goals = dict.fromkeys(map(key_of, (*answer.goals, *sorted(always))))
     return Graph(nodes, tuple(goals), is_not_parallel=answer.is_not_parallel)

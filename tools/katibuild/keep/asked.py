@@ -56,7 +56,13 @@ def ask(question: Question, record: Optional[BuildRecord], known: FrozenSet[str]
     visible = frozenset(record.visible) if record else frozenset()
     depfiles, seen = known_depfiles(record), None
     for _ in range(MOST_HIDINGS):
-        before, seen = seen, read(question, record, known, depfiles, keep)
+        try:
+            before, seen = seen, read(question, record, known, depfiles, keep)
+        except Stop:
+            if not depfiles:
+                raise
+            visible, depfiles = visible.union(depfiles), {}      # an `include` without a dash needs one of them
+            continue
         visible |= needed_by_graph(question, depfiles, before, seen)
         found = depfiles_of(question, seen, depfiles, visible)
         if found == depfiles:

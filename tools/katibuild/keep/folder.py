@@ -14,6 +14,7 @@ from .request import GOALS, NINJA_FILE, Place, ROOM
 
 LOCK, HIDDEN, RUN = f"{ROOM}/lock", f"{ROOM}/hidden", f"{ROOM}/run"
 BUILDING = f"{ROOM}/building"        # locked while a build runs; LOCK, while the makefile is read
+AGAIN = "again"
 LOG, DEPENDENCY_LOG = f"{ROOM}/.ninja_log", f"{ROOM}/.ninja_deps"
 FIRST_LINE = b"# kati-build wrote this file."   # as ninja.top writes it
 OLD_FIRST_LINE = b"# Written by kati-build, which"   # of the package that writes to build.kati

@@ -1,4 +1,4 @@
-"""Goals beside the default one: `ninja clean` runs make, and each goal of kati-build has a Ninja file of its own."""
+"""Goals that are not the default: `ninja clean` runs make, and each goal of kati-build has its own Ninja file."""
 from __future__ import annotations
 
 import os

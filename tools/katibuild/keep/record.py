@@ -42,7 +42,7 @@ class Dependencies(NamedTuple):
     is_all_shown: bool = False                   # a call lists hidden names, as `find` does
     literal: Tuple[str, ...] = ()                # hidden names that a makefile or a call has
     timed: Tuple[str, ...] = ()                  # what makefiles are made from: make remakes them for a time alone
-    unseen: Tuple[str, ...] = ()                 # what else there is that nobody can see to have changed
+    unseen: Tuple[str, ...] = ()                 # what may change unseen, for `--why`
     wildcards: Tuple[str, ...] = ()              # words of `$(wildcard ..)`: a depfile that fits may be included
 
 
@@ -57,6 +57,7 @@ class BuildRecord(NamedTuple):
     absent_includes: Tuple[str, ...] = ()
     seen_outputs: Tuple[str, ...] = ()           # of all readings of this folder so far
     separated: Tuple[str, ...] = ()              # targets that are not joined again
+    left_alone: Tuple[str, ...] = ()             # text files that make would leave alone, and that Ninja never made
     written_while_read: Tuple[str, ...] = ()     # files that each reading writes
     without_effect: Tuple[str, ...] = ()         # products that reading opened, and that changed no graph
     made_includes: Tuple[str, ...] = ()          # includes that make remakes

@@ -29,7 +29,7 @@ def is_same_build(one: Request, other: Request) -> bool:
 
 
 def difference(earlier: Request, given: Request) -> str:
-    """What a request has otherwise than an earlier one, as the reason to read the makefile again."""
+    """How a request differs from an earlier one, as the reason to read the makefile again."""
     if earlier.makefile != given.makefile:
         return f"the makefile is {given.makefile or 'the default one'} now"
     added = [one for one in given.variables if one not in earlier.variables]

@@ -3,7 +3,7 @@ from __future__ import annotations
 
 import os
 import shlex
-from typing import Callable, FrozenSet, Iterable, NamedTuple, Optional, Sequence
+from typing import Callable, Container, FrozenSet, Iterable, Mapping, NamedTuple, Optional, Sequence, Tuple
 
 from ..ask.question import Question, environment_of
 from ..base import files, message
@@ -12,6 +12,7 @@ from ..base.message import Message, Status, Stop
 from ..graph import writer
 from ..graph.writer import GraphFile
 from ..ninja import as_made, blocks, kati, top
+from ..ninja.log import Log
 from ..ninja.text import NinjaText
 from ..ninja.top import PhonyGoal
 from . import asked, dependencies, environment, folder, goals, stale, turns
@@ -33,7 +34,8 @@ def translate(run: Run, record: Optional[BuildRecord], changes: Optional[Changes
 
     `changes` are given in a later round: what the build has changed since the last reading.
     """
-    known = turns.unedited(run.place.times, record)
+    log = turns.log_of(run.programs)             # before make is asked: not every Ninja's log is known
+    known = turns.unedited(run.place.times, record, log)
     found = asked.ask(question_of(run, record), record, known, run.is_debug)
     refuse_differences(found, run)
     made = writer.write(found.graph)
@@ -43,31 +45,34 @@ def translate(run: Run, record: Optional[BuildRecord], changes: Optional[Changes
     new = record_of(run, record, found, made, text)
     if is_same and changes is not None:
         new = without_effect(new, record, changes)
-    lines = log_lines(run, record, found, text, before, changes)
-    write(run, new, made, with_blocks(found, text), goals.phony_goals(run, found, text))
-    return Written(new, has_news(before, text, lines))
+    log, spared, left = with_lines(log, run, record, found, text, before, changes)
+    new, renewing = new._replace(left_alone=tuple(sorted(left))), turns.renewing(run.place, text, log, known)
+    write(run, new, made, with_blocks(found, text, renewing, left), goals.phony_goals(run, found, text))
+    return Written(new, has_news(before, text, spared, renewing))
 
 
-def log_lines(run: Run, record: Optional[BuildRecord], found: Asked, text: NinjaText, before: Optional[NinjaText],
-              changes: Optional[Changes]) -> FrozenSet[str]:
-    """Writes lines for outputs that count as made to Ninja's log; answers the outputs that need not run for a text."""
+def with_lines(log: Log, run: Run, record: Optional[BuildRecord], found: Asked, text: NinjaText,
+               before: Optional[NinjaText], changes: Optional[Changes]) -> Tuple[Log, FrozenSet[str], FrozenSet[str]]:
+    """Writes lines for outputs that count as made to Ninja's log; answers the log, and which outputs need not run and
+    which are left alone."""
     seen = turns.seen_before(record, folder.other_outputs(run.place))
     commands = {} if run.is_anew else turns.taken(found, text, seen)
+    left = turns.left_alone(run, record, commands, log)
+    if not commands and before is None:
+        return log, frozenset(), left
     is_only_built = before is not None and changes is not None and record is not None and not users_own(record, found)
-    log = turns.log_of(run.programs) if commands or before is not None else None
-    if log is None:
-        return frozenset()
-    lines = turns.as_taken(commands, log)
-    if lines:
-        message.say(Message(f"{counted(lines)} taken as make left {'it' if len(lines) == 1 else 'them'} "
+    lines = turns.as_taken({name: command for name, command in commands.items() if name not in left}, log)
+    new = sorted({*lines, *left.intersection(commands)})
+    if new:
+        message.say(Message(f"{counted(new)} taken as make left {'it' if len(new) == 1 else 'them'} "
                             "(kati-build --anew rebuilds)"))
     needs_run = is_late(record, found, text)
     same = as_made.same_build(before, text, log, needs_run) if is_only_built else {}
     if not read_products(record, found):
         lines.update(same)
-    lines.update(as_made.of_folders(text, log, turns.time_of_folder))
     turns.add(log, lines)
-    return frozenset((*lines, *same, *(as_made.always_run(before, text, needs_run) if is_only_built else ())))
+    spared = frozenset((*lines, *same, *(as_made.always_run(before, text, needs_run) if is_only_built else ())))
+    return log._replace(entries={**log.entries, **lines}), spared, left
 
 
 def read_products(record: Optional[BuildRecord], found: Asked) -> FrozenSet[str]:
@@ -82,12 +87,12 @@ def read_products(record: Optional[BuildRecord], found: Asked) -> FrozenSet[str]
 
 
 def is_late(record: Optional[BuildRecord], found: Asked, text: NinjaText) -> Callable[[str], bool]:
-    """Tells of an output whether its new text must run: its recipe asks the machine, or it needs a makefile that the
-    build itself has made anew, which make would have read before."""
+    """A function that says of an output whether its new text must run: its recipe calls `shell` or the like, or it
+    needs a makefile that the build itself has rebuilt, and that make would have read before."""
     before, now = record.dependencies.files if record else {}, found.dependencies.files
-    anew = {name for name in set(record.made_includes).intersection(record.outputs) if name in before
+    rebuilt = {name for name in set(record.made_includes).intersection(record.outputs) if name in before
             and stale.is_other(before[name], now.get(name), False)} if record else set()
-    users = {output for one in text.statements if anew.intersection(one.inputs) for output in one.outputs}
+    users = {output for one in text.statements if rebuilt.intersection(one.inputs) for output in one.outputs}
     asks = turns.is_late(found.answer)
     return lambda output: output in users or asks(output)
 
@@ -118,10 +123,11 @@ def without_effect(new: BuildRecord, record: BuildRecord, changes: Changes) -> B
     return new._replace(without_effect=tuple(sorted(quiet)))
 
 
-def with_blocks(found: Asked, text: NinjaText) -> bytes:
-    """The statements with depfiles, `restat` and descriptions; a check holds them against kati's text."""
+def with_blocks(found: Asked, text: NinjaText, renewing: Mapping[str, str], left: FrozenSet[str]) -> bytes:
+    """The statements with depfiles, `restat`, descriptions and the like; a check holds them against kati's text."""
     depfiles = {output: path for path, output in found.hidden.items()}
-    return blocks.with_blocks(text, blocks.added(text, found.graph, depfiles, os.path.isfile), found.hidden)
+    more = blocks.added(text, found.graph, depfiles, os.path.isfile, renewing, left)
+    return blocks.with_blocks(text, more, found.hidden)
 
 
 def question_of(run: Run, record: Optional[BuildRecord]) -> Question:
@@ -148,10 +154,12 @@ def by_kati(run: Run, made: GraphFile) -> NinjaText:
     return found
 
 
-def has_news(before: Optional[NinjaText], now: NinjaText, logged: FrozenSet[str]) -> bool:
-    """Whether a statement is new, or has other inputs or another command than before, and is not in the log."""
+def has_news(before: Optional[NinjaText], now: NinjaText, spared: FrozenSet[str], renewing: Container[str]) -> bool:
+    """Whether a statement is new, or has other inputs or another command than before, and Ninja would run it."""
     known = {one.outputs: one[3:] for one in before.statements} if before else {}
-    return any(known.get(one.outputs) != one[3:] and one.outputs[0] not in logged for one in now.statements)
+    return any(known.get(one.outputs) != one[3:] and one.outputs[0] not in spared and (
+        not one.is_bare or one.outputs[0] in renewing or not all(map(os.path.lexists, one.outputs)))
+               for one in now.statements)
 
 
 def record_of(run: Run, earlier: Optional[BuildRecord], found: Asked, made: GraphFile,
@@ -192,7 +200,7 @@ def write(run: Run, record: BuildRecord, made: GraphFile, statements: bytes, mor
     record = record._replace(dependencies=depends, ninja_sha256=files.digest(data))
     save(place.record, record)
     if not files.replace(place.ninja_file, data) and is_new:
-        os.utime(place.ninja_file)               # Ninja reads all anew only if this file has another time
+        os.utime(place.ninja_file)               # Ninja reads its files again only if this one has another time
     folder.delete_unused_scripts()
     settle(place, record)
 

@@ -1,18 +1,19 @@
-"""What counts as made although Ninja did not make it: lines for Ninja's log.
+"""What counts as made although Ninja did not make it, and what is a user's own now: lines for Ninja's log.
 
-Outputs that exist before their statements do and that make would leave alone, outputs that make has rebuilt since, and
-statements whose text alone says something else, as make never rebuilds for a text.
+Three kinds count as made: outputs that are older than their statements and that make would leave alone; outputs that
+make has rebuilt since ninja ran; and outputs whose commands have another text alone, for which make rebuilds nothing.
 """
 from __future__ import annotations
 
 import json
 import os
 import re
-from typing import Callable, Dict, FrozenSet, Iterable, List, Mapping, Optional, Set, TYPE_CHECKING, Tuple
+from typing import Callable, Dict, FrozenSet, Iterable, List, Mapping, Optional, TYPE_CHECKING, Tuple
 
 from ..ask.answer import Answer
 from ..base import files
 from ..base.files import ninja_name
+from ..base.message import Status, Stop
 from ..base.programs import Programs
 from ..ninja import as_made, blocks, log
 from ..ninja.log import Entry, Log
@@ -24,8 +25,8 @@ from .request import Place, Run
 if TYPE_CHECKING:
     from .asked import Asked
 
-ASKS = re.compile(r"\$[({](?:shell|wildcard|file|realpath)\b")
-WORD = re.compile(r"[\w.-]+")
+CALL = re.compile(r"\$[({](?:shell|wildcard|file|realpath)\b")
+PLAIN = re.compile(r"[\w./+-]+", re.ASCII)   # a name that a depfile has as it is
 
 
 def statements_of(place: Place) -> Optional[NinjaText]:
@@ -42,7 +43,9 @@ def taken(found: Asked, text: NinjaText, seen: FrozenSet[str]) -> Dict[str, str]
     `seen` are the outputs of all readings of this folder so far. An output that is new to them and that exists is
     asked of make, which knows times and depfiles: half-written files and stale ones are rebuilt.
     """
-    outputs = {name for one in text.statements if not one.is_phony for name in one.outputs}
+    depfiles = frozenset(found.hidden.values())
+    outputs = {name for one in text.statements if not one.is_phony for name in one.outputs
+               if not one.is_bare or name in depfiles}
     present = {name for name in outputs - seen if os.path.isfile(name) and name not in found.answer.made}
     if not present:
         return {}
@@ -61,52 +64,52 @@ def archive_of(name: str) -> str:
     return os.path.normpath(name.partition("(")[0] if name.endswith(")") else name)
 
 
+def left_alone(run: Run, record: Optional[BuildRecord], now_taken: Iterable[str], found: Log) -> FrozenSet[str]:
+    """The text files that count as made, as config.h of ./configure or a shipped parser.c, until Ninja makes them.
+    Without lines in the log, Ninja compares their times with those of inputs, as make does, and nothing else."""
+    before = [one.left_alone for one in (record, *folder.records(run.place.room)) if one and not run.is_anew]
+    texts = [name for name in now_taken if b"\0" not in (files.read(name) or b"\0")]
+    return frozenset(name for some in (*before, texts) for name in some if name not in found.entries)
+
+
 def seen_before(record: Optional[BuildRecord], others: FrozenSet[str]) -> FrozenSet[str]:
     """The outputs that a reading of this folder has had, of these goals or of others."""
     return others.union(record.seen_outputs if record else ())
 
 
-# -- recipes that ask the machine --------------------------------------------------------------------------------------
+# -- recipes that call `shell` or the like -----------------------------------------------------------------------------
 
 def is_late(answer: Answer) -> Callable[[str], bool]:
-    """Tells of an output whether its recipe, or a deferred variable that it names, asks the machine."""
-    asking = asking_variables(answer)
+    """A function that says of an output whether its recipe calls `shell` or the like, by deferred variables too."""
+    # loaded here alone, as in `remade`
+    from ..ask.heads import NAME, naming
+    values = answer.deferred_texts()
+    calling = naming(values, [name for name, value in values.items() if CALL.search(value)])
     recipes: Dict[str, List[str]] = {}
     for rule in answer.rules:
         recipes.setdefault(ninja_name(rule.targets[0]), []).extend(rule.recipe)
 
     def late(output: str) -> bool:
-        return any(ASKS.search(line) or asking.intersection(WORD.findall(line))
+        return any(CALL.search(line) or calling.intersection(NAME.findall(line))
                    for line in recipes.get(output, ()) if "$" in line)
 
     return late
 
 
-def asking_variables(answer: Answer) -> FrozenSet[str]:
-    """The deferred variables that ask the machine each time they are used, through others too."""
-    words = {name: set(WORD.findall(answer.variables[name])) for name in answer.deferred
-             if "$" in answer.variables.get(name, "")}
-    found = {name for name in words if ASKS.search(answer.variables[name])}
-    used_by: Dict[str, Set[str]] = {}
-    for name, some in words.items():
-        for word in some & words.keys():
-            used_by.setdefault(word, set()).add(name)
-    work = list(found)
-    while work:
-        for name in used_by.get(work.pop(), set()) - found:
-            found.add(name)
-            work.append(name)
-    return frozenset(found)
-
-
 # -- the log -----------------------------------------------------------------------------------------------------------
 
-def log_of(programs: Programs) -> Optional[Log]:
-    """Ninja's log of this folder; None if this ninja's log is of no known kind."""
+def log_of(programs: Programs) -> Log:
+    """Ninja's log of this folder; stops with status 3 if this ninja's log is of no known kind.
+
+    Without lines in the log, Ninja would build again what make would leave alone.
+    """
     data = files.read(folder.LOG)
     kinds = [log.Kind(*one) for one in log.HEADS if data is not None and data.startswith(one[0] + b"\n")]
     kind = kinds[0] if kinds else log.kind_of(programs)
-    return None if kind is None else log.read(data, kind)
+    if kind is None:
+        raise Stop(f"{programs.ninja} writes a log that kati-build does not know", Status.DEVICE,
+                   help="name another ninja by the environment variable NINJA")
+    return log.read(data, kind)
 
 
 def add(found: Log, made: Mapping[str, Entry], gone: Iterable[str] = ()) -> None:
@@ -130,11 +133,6 @@ def time_of(name: str) -> Optional[int]:
         return None
 
 
-def time_of_folder(name: str) -> Optional[int]:
-    """The time of a folder in nanoseconds; None if there is none."""
-    return time_of(name) if os.path.isdir(name) else None
-
-
 def times(outputs: Iterable[str]) -> Dict[str, int]:
     """The times of the outputs that are files."""
     found = {name: time_of(name) for name in outputs}
@@ -156,13 +154,29 @@ def remembered(path: str) -> Dict[str, int]:
     return found if isinstance(found, dict) else {}
 
 
-def unedited(path: str, record: Optional[BuildRecord]) -> FrozenSet[str]:
-    """The outputs that are as ninja's last run left them, or absent. Others may be the user's now: a file without
-    inputs, as config.h, is edited after it was made, and make would never make it again."""
+def unedited(path: str, record: Optional[BuildRecord], found: Log) -> FrozenSet[str]:
+    """The outputs that are as ninja left them, or absent. Others may be the user's now: a file without inputs, as
+    config.h, is edited after it was made, and make would never make it again."""
     if record is None:
         return frozenset()
-    before = remembered(path)
-    return frozenset(name for name in record.outputs if time_of(name) in (None, before.get(name)))
+    # kati-build has not seen what a plain ninja made; by `generator` the log has a file's own time
+    before, made = remembered(path), found.entries
+    now = ((name, time_of(name)) for name in record.outputs)
+    return frozenset(name for name, time in now if time in (None, before.get(name))
+                     or name in made and made[name].modified == time)
+
+
+def renewing(place: Place, text: NinjaText, found: Log, known: FrozenSet[str]) -> Dict[str, str]:
+    """By output the depfile by which Ninja builds a file without inputs for another text: the depfile names the
+    statements, which are newer than the file until then. A file that somebody has edited is not in `known`."""
+    some = [one.outputs[0] for one in text.statements if one.is_bare and known.issuperset(one.outputs)
+            and found.entries.keys() >= set(one.outputs) and not as_made.is_current(one, found)
+            and all(map(os.path.isfile, one.outputs)) and PLAIN.fullmatch(one.outputs[0])]
+    depfiles = {name: f"{place.room}/{folder.AGAIN}/{files.digest(files.bytes_of(name))[:16]}" for name in some}
+    for name, path in depfiles.items():
+        os.makedirs(os.path.dirname(path), exist_ok=True)
+        files.replace(path, files.bytes_of(f"{name}: {place.statements}\n"))
+    return depfiles
 
 
 def take_turn(run: Run, record: BuildRecord) -> None:
@@ -175,11 +189,10 @@ def take_turn(run: Run, record: BuildRecord) -> None:
     if text is None or times(record.outputs) == before:
         return
     found = log_of(run.programs)
-    if found is not None:
-        named: Dict[str, List[str]] = {output: as_made.names_in_depfile(files.read(path) or b"")
-                                       for path, output in record.hidden.items()}
-        turn = as_made.by_turns(text, found, time_of, named, before)
-        add(found, turn.made, turn.gone)
+    named: Dict[str, List[str]] = {output: as_made.names_in_depfile(files.read(path) or b"")
+                                   for path, output in record.hidden.items()}
+    turn = as_made.by_turns(text, found, time_of, named, before)
+    add(found, turn.made, turn.gone)
 
 
 def torn(place: Place, record: BuildRecord) -> Tuple[str, ...]:

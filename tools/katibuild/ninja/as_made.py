@@ -14,7 +14,7 @@ NAME = re.compile(r"(?:\\.|[^\s\\])+")
 
 
 class Turns(NamedTuple):
-    """What the log gets since the last run of ninja, and what it loses."""
+    """The log's new entries for what make has rebuilt since ninja ran, and the outputs whose entries go."""
 
     made: Mapping[str, Entry]
     gone: Tuple[str, ...]
@@ -35,30 +35,17 @@ def to_log(text: NinjaText, present: Collection[str], make_rebuilds: Collection[
             if all(name in present and name not in make_rebuilds for name in one.outputs)}
 
 
-def of_folders(text: NinjaText, log: Log, time_of_folder: TimeOf) -> Dict[str, Entry]:
-    """Entries for folders whose rules have no inputs and have another command than the log: make never runs such a
-    rule for a text, and `mkdir` would fail. `time_of_folder` answers None for what is no folder."""
-    found: Dict[str, Entry] = {}
-    for one in commanded(text):
-        if one.inputs or is_current(one, log):
-            continue
-        times = [(name, time_of_folder(name)) for name in one.outputs]
-        if all(time is not None for _, time in times):
-            found.update((name, Entry(time, hashed(log.kind, one.command))) for name, time in times)
-    return found
-
-
 def same_build(before: NinjaText, now: NinjaText, log: Log, is_late: Callable[[str], bool]) -> Dict[str, Entry]:
-    """Entries for statements whose text alone differs from before, as make never rebuilds for a text.
+    """Entries for statements whose text differs from before, as make never rebuilds for a text or for a lost input.
 
-    `is_late` tells whether an output's recipe asks the machine for something when it is expanded: that text may say
-    what the build has just made.
+    `is_late` says whether an output's recipe calls `shell`, `wildcard` or the like: its text may then say what the
+    build has just made.
     """
     known = {one.outputs: one for one in commanded(before)}
     found: Dict[str, Entry] = {}
     for one in commanded(now):
         old = known.get(one.outputs)
-        if old and old.command != one.command and (old.inputs, old.order_only) == (one.inputs, one.order_only) \
+        if old and old.command != one.command and {*old.inputs, *old.order_only} >= {*one.inputs, *one.order_only} \
                 and is_current(old, log) and not any(map(is_late, one.outputs)):
             new = hashed(log.kind, one.command)
             found.update((name, Entry(log.entries[name].modified, new)) for name in one.outputs)
@@ -92,6 +79,8 @@ def by_turns(text: NinjaText, log: Log, time_of: TimeOf, depfiles: Mapping[str, 
     made: Dict[str, Entry] = {}
     gone: List[str] = []
     for one in commanded(text):
+        if one.is_bare and one.outputs[0] not in depfiles:
+            continue
         older = [name for name in one.outputs if name in times_before and (time_of(name) or 0) < times_before[name]]
         gone += older
         if not older and is_current(one, log):

@@ -2,7 +2,7 @@
 from __future__ import annotations
 
 import re
-from typing import Callable, Collection, Dict, Iterable, Iterator, List, Mapping
+from typing import Callable, Collection, Container, Dict, Iterable, Iterator, List, Mapping
 
 from ..base.files import bytes_of
 from ..base.message import Status, Stop
@@ -12,15 +12,25 @@ from . import headers, inner_makes
 from .text import ALWAYS, Block, NinjaText, escaped_value
 
 # No line of kati's begins as these.
-ADDED = re.compile(rb"^ (?:depfile|description|pool|restat) = .*\n", re.MULTILINE)
+ADDED = re.compile(rb"^ (?:depfile|description|generator|pool|restat) = .*\n", re.MULTILINE)
 DEPFILE = re.compile(rb"^ depfile = (.*)$", re.MULTILINE)
 LONGEST = 2_000                  # letters of a description
 
 
-def added(text: NinjaText, graph: Graph, depfiles: Mapping[str, str], is_file: Callable[[str], bool]) -> List[Block]:
-    """All that is added to kati's text; `depfiles` are paths by outputs."""
-    return [*headers.blocks(text, depfiles), *restats(text, is_file), *inner_makes.blocks(text, graph),
-            *descriptions(text, graph)]
+def added(text: NinjaText, graph: Graph, depfiles: Mapping[str, str], is_file: Callable[[str], bool],
+          renewing: Mapping[str, str], left_alone: Collection[str] = ()) -> List[Block]:
+    """All that is added to kati's text; `depfiles` are paths by outputs, and so are those of keep.turns.renewing."""
+    return [*headers.blocks(text, {**renewing, **depfiles}), *generators(text, depfiles, left_alone),
+            *restats(text, is_file), *inner_makes.blocks(text, graph), *descriptions(text, graph)]
+
+
+def generators(text: NinjaText, depfiles: Container[str], left_alone: Collection[str] = ()) -> Iterator[Block]:
+    """`generator` for each statement without inputs, order-only ones aside: make runs such a recipe only where the file
+    is absent. By `generator` neither another command nor a lost log makes the file stale, which the user may have
+    edited, and `ninja -t clean` leaves the file alone. So it is for `left_alone`, too."""
+    for one in text.statements:
+        if (one.is_bare or all(name in left_alone for name in one.outputs)) and one.outputs[0] not in depfiles:
+            yield Block(one.line, (("generator", "1"),))
 
 
 def restats(text: NinjaText, is_file: Callable[[str], bool]) -> Iterator[Block]:

@@ -1,17 +1,16 @@
 """Commands that run make: all makes of a build share as many jobs as there are processors."""
 from __future__ import annotations
 
-import re
 from dataclasses import replace
 from typing import Iterator
 
+from ..ask.question import runs_make
 from ..graph import scripts
 from ..graph.node import Command, Graph, Node
 from .text import Block, NinjaText
 
 POOL = "kati_not_parallel"
 POOL_LINES = (f"pool {POOL}", " depth = 1")
-MAKE = re.compile(r"(?:^|[\s;&|(`'\"])(?:\S*/)?g?make(?:[\s;&|)`'\"]|$)")
 # Each command takes a token, and gives it back when it ends; its make takes further tokens, as make's own jobserver has
 # it. A command that was killed has kept tokens: who finds that nobody else has the FIFO locked fills it again. A wait
 # ends after two seconds and looks again.
@@ -39,11 +38,6 @@ variables=
 case " $MAKEFLAGS" in *" -- "*) variables=" -- ${MAKEFLAGS#*-- }" MAKEFLAGS=${MAKEFLAGS%%-- *} ;; esac
 MAKEFLAGS="${MAKEFLAGS% } -j --jobserver-auth=8,8$variables" "$@"
 """
-
-
-def runs_make(text: str) -> bool:
-    """Whether a line of a recipe calls make."""
-    return "make" in text and bool(MAKE.search(text))
 
 
 def with_tokens(graph: Graph) -> Graph:

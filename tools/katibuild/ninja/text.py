@@ -24,6 +24,11 @@ class Statement(NamedTuple):
     command: str                                 # as Ninja runs it; empty for phony statements
     is_phony: bool = False
 
+    @property
+    def is_bare(self) -> bool:
+        """Whether make runs the recipe only where an output is absent: nothing but order-only inputs."""
+        return not self.is_phony and not self.inputs
+
 
 class NinjaText(NamedTuple):
     """`data` is kati's own, byte for byte."""
