@@ -46,7 +46,11 @@ def translate(run: Run, record: Optional[BuildRecord], changes: Optional[Changes
     if is_same and changes is not None:
         new = without_effect(new, record, changes)
     log, spared, left = with_lines(log, run, record, found, text, before, changes)
-    new, renewing = new._replace(left_alone=tuple(sorted(left))), turns.renewing(run.place, text, log, known)
+    renewing = turns.renewing(run.place, text, log, known)
+    # a file to be built for another text may be edited before that, and is no longer built then
+    own = {name: stale.file_state(name) for name in renewing}
+    depends = new.dependencies._replace(files={**new.dependencies.files, **own})
+    new = new._replace(dependencies=depends, left_alone=tuple(sorted(left)))
     write(run, new, made, with_blocks(found, text, renewing, left), goals.phony_goals(run, found, text))
     return Written(new, has_news(before, text, spared, renewing))
 
