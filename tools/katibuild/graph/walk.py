@@ -26,7 +26,6 @@ class Draft:
         self.place: Optional[Place] = None
 
 
-
 def archive_of(name: str) -> str:
     """`lib.a` of the member `lib.a(x.o)`; other names as they are."""
     if not name.endswith(")"):

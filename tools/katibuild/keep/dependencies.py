@@ -51,7 +51,7 @@ def of(answer: Answer, question: Question, hidden: Mapping[str, str], outputs: I
     texts = texts_of(answer, hidden)
     variables = environment.named(texts.all(), answer.variables, question.environment,
                                   bool(texts.calls or texts.other))
-    git = {text: environment.printed(text) for text in environment.git_commands(texts.calls)}
+    git = {text: environment.printed(text) for text in dict.fromkeys(texts.calls) if environment.is_git(text)}
     states = file_states(names_of_files(answer, question, texts, bool(git)), {*hidden, *written})
     timed = tuple(sorted({ninja_name(name) for one in answer.includes for name in one.made_from}))
     counted = Dependencies(states, {}, variables, git, *counted_names(answer, texts, hidden, outputs), timed,

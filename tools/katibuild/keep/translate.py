@@ -59,7 +59,7 @@ def with_lines(log: Log, run: Run, record: Optional[BuildRecord], found: Asked, 
                before: Optional[NinjaText], changes: Optional[Changes]) -> Tuple[Log, FrozenSet[str], FrozenSet[str]]:
     """Writes lines for outputs that count as made to Ninja's log; answers the log, and which outputs need not run and
     which are left alone."""
-    seen = turns.seen_before(record, folder.other_outputs(run.place))
+    seen = folder.other_outputs(run.place).union(record.seen_outputs if record else ())
     commands = {} if run.is_anew else turns.taken(found, text, seen)
     left = turns.left_alone(run, record, commands, log)
     if not commands and before is None:

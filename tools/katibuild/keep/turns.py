@@ -72,11 +72,6 @@ def left_alone(run: Run, record: Optional[BuildRecord], now_taken: Iterable[str]
     return frozenset(name for some in (*before, texts) for name in some if name not in found.entries)
 
 
-def seen_before(record: Optional[BuildRecord], others: FrozenSet[str]) -> FrozenSet[str]:
-    """The outputs that a reading of this folder has had, of these goals or of others."""
-    return others.union(record.seen_outputs if record else ())
-
-
 # -- recipes that call `shell` or the like -----------------------------------------------------------------------------
 
 def is_late(answer: Answer) -> Callable[[str], bool]:
