@@ -52,7 +52,7 @@ def translate(run: Run, record: Optional[BuildRecord], changes: Optional[Changes
     depends = new.dependencies._replace(files={**new.dependencies.files, **own})
     new = new._replace(dependencies=depends, left_alone=tuple(sorted(left)))
     write(run, new, made, with_blocks(found, text, renewing, left), goals.phony_goals(run, found, text))
-    return Written(new, has_news(before, text, spared, renewing))
+    return Written(new, has_news(before, text, spared, renewing) and not next_makefiles(record, found))
 
 
 def with_lines(log: Log, run: Run, record: Optional[BuildRecord], found: Asked, text: NinjaText,
@@ -88,6 +88,16 @@ def read_products(record: Optional[BuildRecord], found: Asked) -> FrozenSet[str]
     before, now = record.dependencies.files, found.dependencies.files
     return frozenset(name for name in set(opened).intersection(record.outputs).difference(record.made_includes)
                      if stale.is_other(before.get(name), now.get(name), False))
+
+
+def next_makefiles(record: Optional[BuildRecord], found: Asked) -> FrozenSet[str]:
+    """The makefiles that the build has written, and that make does not remake before it builds. make sees what they
+    say in its next run, and so does Ninja."""
+    if record is None:
+        return frozenset()
+    before, now = record.dependencies.files, found.dependencies.files
+    return frozenset(name for name in set(map(ninja_name, found.answer.makefiles)).difference(record.made_includes)
+                     if name in now and stale.is_other(before.get(name), now[name], False))
 
 
 def is_late(record: Optional[BuildRecord], found: Asked, text: NinjaText) -> Callable[[str], bool]:

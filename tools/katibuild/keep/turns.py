@@ -25,7 +25,9 @@ from .request import Place, Run
 if TYPE_CHECKING:
     from .asked import Asked
 
-CALL = re.compile(r"\$[({](?:shell|wildcard|file|realpath)\b")
+# A call that asks the clock or the system alone says nothing of what a build has made.
+CALL = re.compile(r"\$[({](?:shell\b(?!\s+(?:date|hostname|id|nproc|uname|whoami)\b(?!.*-r)[^|;&<`$(){}]*[)}])"
+                  r"|wildcard\b|file\b|realpath\b)")
 PLAIN = re.compile(r"[\w./+-]+", re.ASCII)   # a name that a depfile has as it is
 
 
