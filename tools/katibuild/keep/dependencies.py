@@ -105,7 +105,7 @@ def counted_names(answer: Answer, texts: Texts, hidden: Iterable[str], outputs: 
     """Which names count beside those that are not hidden: the last fields of Dependencies."""
     includes = [ninja_name(one.path) for one in answer.includes]
     literal = {one for text in texts.all() for one in HIDDEN.findall(text)}
-    shown = {parent for name in (*includes, *hidden, *outputs) for parent in parents(name)}
+    shown = {parent for name in (*includes, *hidden, *outputs) if "/" in name for parent in parents(name)}
     kinds = {(os.path.dirname(name) or ".", os.path.splitext(name)[1]) for name in (*includes, *hidden)
              if os.path.basename(name).startswith(".") and os.path.splitext(name)[1]}
     is_all_shown = any(LISTS_HIDDEN.search(text) for text in (*texts.calls, *texts.other))

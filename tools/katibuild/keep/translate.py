@@ -140,7 +140,9 @@ def without_effect(new: BuildRecord, record: BuildRecord, changes: Changes) -> B
 def with_blocks(found: Asked, text: NinjaText, renewing: Mapping[str, str], left: FrozenSet[str]) -> bytes:
     """The statements with depfiles, `restat`, descriptions and the like; a check holds them against kati's text."""
     depfiles = {output: path for path, output in found.hidden.items()}
-    more = blocks.added(text, found.graph, depfiles, os.path.isfile, renewing, left)
+    there = files.present({name for one in text.statements for name in one.outputs})
+    more = blocks.added(text, found.graph, depfiles, lambda name: name in there and os.path.isfile(name), renewing,
+                        left)
     return blocks.with_blocks(text, more, found.hidden)
 
 

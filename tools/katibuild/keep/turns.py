@@ -48,7 +48,7 @@ def taken(found: Asked, text: NinjaText, seen: FrozenSet[str]) -> Dict[str, str]
     depfiles = frozenset(found.hidden.values())
     outputs = {name for one in text.statements if not one.is_phony for name in one.outputs
                if not one.is_bare or name in depfiles}
-    present = {name for name in outputs - seen if os.path.isfile(name) and name not in found.answer.made}
+    present = {name for name in files.present(outputs - seen) if os.path.isfile(name) and name not in found.answer.made}
     if not present:
         return {}
     return as_made.to_log(text, present, remade(found))
