@@ -24,7 +24,10 @@ def reads_output(above):
             pass
     return False
 if {mark} not in environment and not reads_output("/proc/%d" % os.getppid()):
-    parts = [b"\\0".join(os.fsencode(one) for one in sys.argv[1:]),
+    words = [os.fsencode(one) for one in sys.argv[1:]]
+    if words and words[-1].startswith(b". .kati/run/"):   # a text of several lines: Ninja has no such commands
+        words[-1] = open(words[-1][2:], "rb").read()
+    parts = [b"\\0".join(words),
              b"\\0".join(name + b"=" + value for name, value in sorted(environment.items()))]
     with open("{folder}/%d" % os.getpid(), "ab") as file:
         file.write(b"\\0\\0".join(parts) + b"\\0\\0\\0")

@@ -159,6 +159,9 @@ EDITED = (
     ("clean after another text", "$OTHER; ninja; echo mine > config.h; ninja -t clean; ninja"),
     ("a file of before, after another text", "echo mine > old; $OTHER; ninja; cp -p old config.h; ninja; $BUILD"),
     ("clean after another text by kati-build", "$OTHER; $BUILD; echo mine > config.h; ninja -t clean; $BUILD"),
+    ("a failed build for another text", "$OTHER; echo 'prog: x' >> Makefile; echo 'x: s; cp s x; exit 1' >> Makefile; "
+     "touch s; ! ninja; echo mine > config.h; sed -i 's/; exit 1//' Makefile; ninja"),
+    ("no build for another text", "$OTHER; $BUILD --no-ninja; echo mine > config.h; ninja"),
     ("--anew", "echo mine > config.h; $BUILD --anew"),
 )
 # How makefiles read a file that the build makes, while make reads them.

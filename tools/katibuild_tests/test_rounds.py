@@ -21,6 +21,14 @@ ROWS = (
     Row("a file's recipe names what is built", "N := $(words $(wildcard *.o))\nall: a.o b.o prog\n"
         "%.o: %.c\n\techo $@ $(N) >> log; cp $< $@\nprog: a.o b.o\n\techo prog $(N) >> log; cat $^ > $@\n",
         {"a.c": "a", "b.c": "b"}),
+    Row("an always-run recipe asks the clock", "NOW = $(shell date +%N)\nall: header prog\nheader:\n"
+        "\techo header >> log; : $(NOW)\nprog: $(wildcard *.in)\n\techo prog >> log; touch $@ $@.o\n", {"a.in": ""}),
+    Row("a built makefile is included if it is there", "all: .depend prog\n.depend: ; echo 'prog.o: h' > $@\n"
+        "%.o: %.c\n\techo $@ >> log; cp $< $@\n%: %.o\n\techo $@ by .o >> log; cp $< $@\n"
+        "%: %.c\n\techo $@ by .c >> log; cp $< $@\nifneq ($(wildcard .depend),)\ninclude .depend\nendif\n",
+        {"prog.c": "", "h": ""}),
+    Row("a recipe writes the makefile", "WAS = new\nall: conf\n\techo all $(WAS) >> log\nconf:\n"
+        "\techo conf >> log; touch $@; sed '1s/new/configured/' Makefile > m; mv m Makefile\n"),
 )
 
 

@@ -35,6 +35,11 @@ class Recording(Tree):
         self.assertRegex(found[1], r"^  - 'echo made [ab] > [ab]'$")
         self.assertRegex(found[2], r"^  \+ 'echo .*shell echo made|^  \+ .*echo made")
 
+    def test_a_text_that_the_shell_reads_from_a_file(self):
+        self.put_all({"Makefile": ".ONESHELL:\nall:\n\tA=1\n\techo $$A\n"})
+        ran = self.run_in(sys.executable, SCRIPT, "--ask", ".")
+        self.assertIn(".: same, 1 commands;", ran.all)
+
     def test_makefiles_of_a_list(self):
         self.put_all({"one/Makefile": "all: ; @echo\n", "two/sub/x.mk": "all: ; @echo $(A)\n",
                       "three/Makefile": "all: absent\n",

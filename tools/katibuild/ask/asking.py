@@ -68,7 +68,7 @@ def ask(question: Question, reading: Reading, watch: Optional[Watch] = None, bui
             done = traced(setting, RECORDED, done.absent, kept)
             lines = recorded_lines(done, rules)
         made = frozenset(names_in(question.folder) - before)
-        lines = list(recorded.with_inner(lines, done.wrote.inner))
+        lines = recorded.with_inner(lines, done.wrote.inner)
         marked = frozenset(line.target for line in lines if line.text == extra_makefiles.MARKER)
         if marked:
             # The same text for all goals, if no makefile names them: Ninja runs a command again if its text differs.

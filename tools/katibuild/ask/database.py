@@ -18,7 +18,6 @@ VARIABLE = re.compile(r"([^\s#:=]+) (:{0,3}|\+)= ?(.*)$", re.DOTALL)
 ORIGIN = re.compile(r"# (makefile|default|environment|'override' directive|command line|automatic|environment under -e|"
                     r"'undefine'd|undefined)( private)?(?: \(from '(.*)', line (\d+)\))?$")
 UNCLOSED = re.compile(r"(?m)^(?![#\t]).*?: define \S+$(?![\s\S]*^endef$)")   # of a variable of a target
-RECIPE = re.compile(r"#  recipe to execute \((?:from '(.*)', line (\d+))?.*")
 
 
 class Variable(NamedTuple):
@@ -107,24 +106,20 @@ def pattern_variables(text: str) -> Iterator[Variable]:
             yield from variables_of(re.sub(r"(?m)^(# .*\n)# ", r"\1", rest, count=1).split("\n"), head[:-2])
 
 
-class Record(NamedTuple):
-    """A rule, and its prerequisites as make prints them: names with blanks are known only when all rules are read."""
-
-    rule: Rule
-    needs: str
-    others: str                                  # the targets that are made with it
-    is_builtin: bool                             # a suffix rule of make's own
+# A rule, its prerequisites, and the targets that are made with it, as make prints them: names with blanks are known
+# only when all rules are read.
+Record = Tuple[Rule, str, str]
 
 
 def rules_of(text: str, of_targets: List[Variable], beginnings: Tuple[str, ...]) -> Dict[str, Tuple[Rule, ...]]:
     """The rules by target. Variables of targets are appended to `of_targets`."""
     known: Dict[str, tuple] = {}
-    records = [one for one in (record_of(part, of_targets, known) for part in parts(text)
-                               if not beginnings or part.startswith(beginnings)) if one and not one.is_builtin]
-    blanks = blank_names(one.rule.targets[0] for one in records if " " in one.rule.targets[0])
+    records = [one for one in [record_of(part, of_targets, known) for part in parts(text)
+                               if not beginnings or part.startswith(beginnings)] if one is not None]
+    blanks = blank_names(rule.targets[0] for rule, _, _ in records if " " in rule.targets[0])
     rules: Dict[str, Tuple[Rule, ...]] = {}
-    for record in records:
-        rule = with_names(record, blanks) if blanks or record.others else record.rule
+    for rule, needs, others in records:
+        rule = with_names(rule, needs, others, blanks) if blanks or others else rule
         name = rule.targets[0]
         rules[name] = (*rules[name], rule) if name in rules else (rule,)
     return rules
@@ -144,7 +139,7 @@ def parts(text: str) -> Iterator[str]:
 
 
 def record_of(text: str, of_targets: List[Variable], known: Dict[str, tuple]) -> Optional[Record]:
-    """The record of one file, or None if the text has none. `known` keeps recipes: many files have one recipe."""
+    """The record of one file, or None; `known` keeps recipes: many files have one recipe."""
     prefix, is_target = "\t", True
     if text[:1] in ".#":
         if text.startswith(".RECIPEPREFIX = "):
@@ -164,15 +159,17 @@ def record_of(text: str, of_targets: List[Variable], known: Dict[str, tuple]) ->
     at = rest.find(HEAD)
     while at > 0 and rest[at - 1] != "\n":
         at = rest.find(HEAD, at + 1)
-    if at >= 0 and rest[at:] not in known:
-        known[rest[at:]] = recipe_of(rest, at, prefix)
-    recipe, place = known[rest[at:]] if at >= 0 else ((), None)
-    comments = rest if at < 0 else rest[:at]
+    comments, last = (rest[:at], rest[at:]) if at >= 0 else (rest, "")
+    if last and last not in known:
+        known[last] = recipe_of(last, prefix)
+    recipe, place = known[last] if last else ((), None)
     others = comments.partition("#  Also makes: ")[2].partition("\n")[0] if "#  Also makes: " in comments else ""
-    inputs, order_only = divided(needs.split())
-    return Record(Rule((name,), inputs, order_only, "#  Phony target" in comments, is_double_colon,
-                       "#  File is an intermediate" in comments, recipe, place,
-                       is_target or bool(recipe or needs)), needs, others, not is_target and BUILTIN in comments)
+    inputs, order_only = divided(needs.split()) if "|" in needs else (tuple(needs.split()), ())
+    if not is_target and BUILTIN in comments:
+        return None
+    return Rule((name,), inputs, order_only, "#  Phony target" in comments, is_double_colon,
+                "#  File is an intermediate" in comments, recipe, place,
+                is_target or bool(recipe or needs)), needs, others
 
 
 def divided(needs: List[str]) -> Tuple[Tuple[str, ...], Tuple[str, ...]]:
@@ -195,12 +192,16 @@ def without_variables(text: str, of_targets: List[Variable]) -> Tuple[str, bool]
     return "\n".join(lines[at if is_target else at + 1:]), is_target
 
 
-def recipe_of(text: str, at: int, prefix: str) -> Tuple[Tuple[str, ...], Optional[Place]]:
-    """The logical lines of the recipe whose head is at `at`, and its place; an empty recipe is one empty line."""
-    found = RECIPE.match(text, at)
-    place = Place(found.group(1), int(found.group(2))) if found.group(1) else None
+def recipe_of(text: str, prefix: str) -> Tuple[Tuple[str, ...], Optional[Place]]:
+    """The logical lines of a recipe behind its head, and its place; an empty recipe is one empty line."""
+    head, _, body = text.partition("\n")
+    file, has_place, number = head[len(HEAD):].rpartition("', line ")
+    place = Place(file[len("from '"):], int(number.rstrip("):"))) if has_place else None
+    body = body.rstrip("\n")
+    if body.startswith(prefix) and "\n" not in body and "\\" not in body:
+        return (body[1:],), place
     recipe, line = [], ""
-    for one in text[found.end() + 1:].rstrip("\n").split("\n"):
+    for one in body.split("\n"):
         line = f"{line}\n{one}" if line else one[1:] if one.startswith(prefix) else one
         if not (line.endswith("\\") and (len(line) - len(line.rstrip("\\"))) % 2):
             recipe.append(line)
@@ -209,12 +210,12 @@ def recipe_of(text: str, at: int, prefix: str) -> Tuple[Tuple[str, ...], Optiona
     return tuple(recipe), place
 
 
-def with_names(record: Record, blanks: Mapping[str, List[Tuple[str, ...]]]) -> Rule:
+def with_names(rule: Rule, needs: str, others: str, blanks: Mapping[str, List[Tuple[str, ...]]]) -> Rule:
     """The rule with the names of prerequisites that have blanks, and those of the targets that are made with it."""
-    inputs, order_only = divided(words_of(record.needs, blanks))
-    name = record.rule.targets[0]
-    others = (one for one in words_of(record.others, blanks) if one != name)
-    return record.rule._replace(targets=(name, *others), inputs=inputs, order_only=order_only)
+    inputs, order_only = divided(words_of(needs, blanks))
+    name = rule.targets[0]
+    beside = (one for one in words_of(others, blanks) if one != name)
+    return rule._replace(targets=(name, *beside), inputs=inputs, order_only=order_only)
 
 
 def blank_names(names: Iterator[str]) -> Mapping[str, List[Tuple[str, ...]]]:
@@ -242,5 +243,5 @@ def implicit_rules(text: str) -> Iterator[Rule]:
     """The makefile's own implicit rules; the built-in ones are left out."""
     for part in parts(text):
         record = record_of(part.partition("\n# Implicit Rules\n")[2] or part, [], {})
-        if record is not None and record.rule.place is not None:
-            yield record.rule._replace(targets=tuple(record.rule.targets[0].split()))
+        if record is not None and record[0].place is not None:
+            yield record[0]._replace(targets=tuple(record[0].targets[0].split()))

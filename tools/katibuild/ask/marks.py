@@ -52,13 +52,14 @@ class Marker:
 
     def by_text(self, recipe: Tuple[str, ...], texts: Sequence[str]) -> List[Mark]:
         """The marks that the recipe's own text gives its expanded lines."""
-        if not any(line.lstrip().startswith(("@", "+", "-", "$")) for line in recipe):
-            return [self.plain] * len(texts)
         if recipe not in self.known:
-            lines = ("\n".join(recipe),) if self.is_one_shell else recipe
+            is_plain = not any(line.lstrip().startswith(("@", "+", "-", "$")) for line in recipe)
+            lines = () if is_plain else ("\n".join(recipe),) if self.is_one_shell else recipe
             self.known[recipe] = tuple(one for line in lines
                                        for one in self.unexpanded(line, SIGNS.match(line).group()))
         before = self.known[recipe]
+        if not before:
+            return [self.plain] * len(texts)
         kinds = {self.mark_of(one) for one in before}
         if len(kinds) == 1:
             return list(kinds) * len(texts)

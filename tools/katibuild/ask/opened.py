@@ -115,7 +115,7 @@ def tree(top: str) -> Tuple[List[str], List[str]]:
 def above(top: str, texts: Iterable[str]) -> Set[str]:
     """The folders that texts name by `..`, and those between them and the tree."""
     found = set()
-    for name in {one for text in texts for one in ABOVE.findall(text)}:
+    for name in {one for text in texts if ".." in text for one in ABOVE.findall(text)}:
         parts = name.rstrip("/").split("/")
         found.update(os.path.normpath(os.path.join(top, *parts[:count])) for count in range(1, len(parts) + 1))
     return found

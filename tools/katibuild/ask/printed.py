@@ -8,6 +8,7 @@ from typing import Iterator, List, Mapping, NamedTuple, Optional, Tuple
 from ..base.message import Place
 from .answer import Rule
 
+ABSENT = "' does not exist"
 TRACED = re.compile(r"(?:(.+):(\d+)|<builtin>): (?:target '(.*)' does not exist|update target '(.*)' due to: .*)$",
                     re.DOTALL)
 BOURNE = ("sh", "bash", "dash", "ksh", "rksh", "zsh", "ash")   # make's own list
@@ -45,6 +46,9 @@ def recipes(output: str, rules: Mapping[str, Tuple[Rule, ...]], is_one_shell: bo
                 continue
         if current is None:
             continue
+        if line.isprintable() and line[-1:] not in ("\\", ":", " ", "") and not is_within and not is_one_shell:
+            current.texts.append(line)           # as most lines: a text of its own
+            continue
         buffer.append(line)
         if not is_one_shell and not ends_open(line):
             finish(current, buffer, is_one_shell, program)
@@ -74,17 +78,22 @@ def printed_lines(output: str, rules: Mapping[str, Tuple[Rule, ...]]) -> List[st
 
 def head_of(line: str, rules: Mapping[str, Tuple[Rule, ...]]) -> Optional[Recipe]:
     """The recipe that a head begins; a line that looks like a head, but names no rule of the database, is none."""
-    if not (line.endswith("' does not exist") or "' due to: " in line):
+    is_absent = line.endswith(ABSENT)
+    if not is_absent and "' due to: " not in line:
         return None
-    found = TRACED.match(line)
-    if not found:
-        return None
-    file, number, absent, updated = found.groups()
-    target = absent if absent is not None else updated
-    place = Place(file, int(number)) if file else None
-    some = rules.get(target, ())
-    is_known = some[0].place == place if len(some) == 1 else any(rule.place == place for rule in some)
-    return Recipe(target, place, []) if is_known or "(" in target else None
+    head, _, target = line[:-len(ABSENT)].rpartition(": target '") if is_absent else ("", "", "")
+    file, _, number = head.rpartition(":")
+    if not (file and number.isdecimal()):        # most lines need no regular expression
+        found = TRACED.match(line)
+        if not found:
+            return None
+        file, number, absent, updated = found.groups()
+        target = absent if absent is not None else updated
+    at = (file, int(number)) if file else None
+    for rule in rules.get(target, ()):
+        if rule.place == at:
+            return Recipe(target, rule.place, [])
+    return Recipe(target, Place(*at) if at else None, []) if "(" in target else None
 
 
 def ends_open(line: str) -> bool:

@@ -3,7 +3,7 @@ from __future__ import annotations
 
 import os
 import re
-from typing import Dict, FrozenSet, Iterable, Iterator, List, Mapping, NamedTuple, Set, Tuple
+from typing import Dict, FrozenSet, Iterable, List, Mapping, NamedTuple, Set, Tuple
 
 from ..base.files import text_of
 from ..base.message import Status, Stop
@@ -102,15 +102,13 @@ def letters_of(inner: Environment) -> str:
     return letters
 
 
-def with_inner(lines: List[Line], inner: Environment) -> Iterator[Line]:
+def with_inner(lines: List[Line], inner: Environment) -> List[Line]:
     """The lines with MAKEFLAGS and the like in their environment, where they have a value or the recipe runs make."""
     is_given = any(value and name == "MAKEFLAGS" for name, value in inner)
     calling = (line.target for line in lines if runs_make(line.text))
     callers = frozenset(calling if not is_given else ())
-    for line in lines:
-        if is_given or line.target in callers:
-            line = line._replace(environment=tuple(sorted({**dict(line.environment), **dict(inner)}.items())))
-        yield line
+    return [line._replace(environment=tuple(sorted({**dict(line.environment), **dict(inner)}.items())))
+            if is_given or line.target in callers else line for line in lines]
 
 
 # -- when printed lines do not say enough ------------------------------------------------------------------------------

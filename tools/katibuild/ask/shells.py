@@ -22,7 +22,8 @@ OTHER_EVAL = re.compile(rf"{EVAL.pattern}(?!{PLAIN})")
 # What an eval must meet to set SHELL: any eval a text that sets it, one whose text names no variable the mere word.
 MEETINGS = ((EVAL, SETS_SHELL), (OTHER_EVAL, BARE_SHELL))
 NAME = re.compile(r"[\w.-]+")
-COMPOSED = re.compile(r"([\w.-]+)\$[({\w@*<]")              # `set_$(1)` may name each variable that begins so
+COMPOSED = re.compile(r"(?<![\w.-])([\w.-]+)\$[({\w@*<]")   # `set_$(1)` may name each variable that begins so
+Mentions = Tuple[Set[str], Set[str]]
 DEPTH = 10                    # of variables that name variables
 OF_COMMAND_LINE = frozenset(("MAKEFLAGS", "MAKEOVERRIDES", "MFLAGS", "-*-command-variables-*-"))
 HELP = "set SHELL outside of recipes"
@@ -75,18 +76,22 @@ def refuse_evals(found: Database) -> None:
     """Stops with status 2 if a text that make expands late leads to an eval, and to what that could set SHELL by."""
     texts: Dict[str, Optional[Place]] = {}
     for text, place in late_texts(found):
-        texts.setdefault(text, place)
+        if "$" in text:                          # others expand to themselves
+            texts.setdefault(text, place)
     if not any("eval" in text and EVAL.search(text) for text in texts):
         return
     values = values_of(found, texts)
+    mentions = {name: mentioned(text) for name, text in values.items()}
     for is_eval, is_shell in MEETINGS:
-        evals, shells = ({name for name, text in values.items() if form.search(text)} for form in (is_eval, is_shell))
-        evals, shells = naming(values, evals), naming(values, shells)
+        evals = {name for name, text in values.items() if "eval" in text and is_eval.search(text)}
+        shells = {name for name, text in values.items() if "SHELL" in text and is_shell.search(text)}
+        evals, shells = naming(mentions, evals), naming(mentions, shells)
         for text, place in texts.items():
-            own = is_eval.search(text)
-            if (is_shell.search(text) or names_one(text, shells)) and (own or names_one(text, evals)):
+            own, said = "eval" in text and is_eval.search(text), mentioned(text)
+            if ("SHELL" in text and is_shell.search(text) or names_one(said, shells)) \
+                    and (own or names_one(said, evals)):
                 led = (one.place for one in (*found.variables.values(), *found.of_targets)
-                       if is_eval.search(one.value) and names_one(text, naming(values, {one.name})))
+                       if is_eval.search(one.value) and names_one(said, naming(mentions, {one.name})))
                 raise Stop("a recipe sets SHELL by $(eval)", place=place if own else next(led, place), help=HELP)
 
 
@@ -102,19 +107,23 @@ def values_of(found: Database, texts: Iterable[str]) -> Mapping[str, str]:
     return values
 
 
-def naming(values: Mapping[str, str], names: AbstractSet[str]) -> Set[str]:
+def naming(values: Mapping[str, Mentions], names: AbstractSet[str]) -> Set[str]:
     """These variables, and all whose values name one of them, through others too."""
     found, new = set(names), set(names)
     while new:
-        new = {name for name, text in values.items() if name not in found and names_one(text, new)}
+        new = {name for name, said in values.items() if name not in found and names_one(said, new)}
         found |= new
     return found
 
 
-def names_one(text: str, names: AbstractSet[str]) -> bool:
+def mentioned(text: str) -> Mentions:
+    """The words of a text, and what it has before references."""
+    return set(NAME.findall(text)), set(COMPOSED.findall(text)) if "$" in text else set()
+
+
+def names_one(said: Mentions, names: AbstractSet[str]) -> bool:
     """Whether a text has one of the names as a word, or the beginning of one before a reference."""
-    return bool(names) and (not names.isdisjoint(NAME.findall(text)) or any(
-        name.startswith(begin) for begin in COMPOSED.findall(text) for name in names))
+    return not names.isdisjoint(said[0]) or any(name.startswith(begin) for begin in said[1] for name in names)
 
 
 def late_texts(found: Database) -> Iterator[Tuple[str, Optional[Place]]]:

@@ -4,7 +4,7 @@ from __future__ import annotations
 import hashlib
 import os
 import posixpath
-from typing import Iterator, Optional
+from typing import Collection, Iterator, Optional, Set
 
 from .message import Status, Stop
 
@@ -70,8 +70,17 @@ def file_digest(path: str) -> Optional[str]:
 
 def ninja_name(name: str) -> str:
     """The name as Ninja spells it: `./a//b/../c` is `a/c`. make's `//a` is `/a`."""
+    if "/" not in name:
+        return name or "."
     short = posixpath.normpath(name)
     return short[1:] if short.startswith("//") else short
+
+
+def present(names: Collection[str]) -> Set[str]:
+    """Those of the names that exist, by lists of their folders: a look at each takes ten times as long."""
+    folders = {name[:name.rfind("/") + 1] for name in names}
+    there = [at for at in folders if os.path.isdir(at or ".") and os.access(at or ".", os.R_OK)]
+    return {at + name for at in there for name in os.listdir(at or ".")}.intersection(names)
 
 
 def is_below(path: str, folder: str) -> bool:

@@ -15,15 +15,16 @@ NEWER = re.compile(r"(?<!\$)(?:\$\$)*\$(?:\?|[({]\?[DF]?[)}])")
 
 def differences(answer: Answer, graph: Graph, exists: Callable[[str], bool]) -> Iterator[Difference]:
     """The differences of a graph, in the order of its nodes; each by the rule that it comes from."""
+    between, values = set(names_between(graph, exists)), answer.deferred_texts()
+    newer = naming(values, [name for name, value in values.items() if NEWER.search(value) and NAME.fullmatch(name)])
     rules: Dict[str, List[Rule]] = {}
     for rule in answer.rules:
-        if rule.is_target:
+        if rule.is_target and (newer or rule.is_double_colon or rule.is_intermediate or "?" in "".join(rule.recipe)):
             rules.setdefault(key_of(rule.targets[0]), []).append(rule)
-    between, values = set(names_between(graph, exists)), answer.deferred_texts()
-    newer = naming(values, [name for name, value in values.items() if NEWER.search(value)])
     for place in dict.fromkeys(line.place for line in answer.lines if not line.is_mark_known):
         yield Difference("whether make ignores failures of all lines of a recipe is not known: Ninja stops", place)
-    for name, node in graph.nodes.items():
+    for name in (one for one in graph.nodes if one in rules or one in between):
+        node = graph.nodes[name]
         is_file = bool(node.commands) and not makes_folder(name, node, lambda one: False)
         for text in of_rules(name, rules.get(name, []), is_file, newer):
             yield Difference(text, node.place)
@@ -46,9 +47,8 @@ def of_rules(name: str, rules: List[Rule], is_file: bool, newer: Set[str]) -> It
 
 def names_between(graph: Graph, exists: Callable[[str], bool]) -> Iterator[str]:
     """Names without a file and a recipe between files: Ninja takes them for their prerequisites."""
+    bare = {name for name, node in graph.nodes.items() if node.inputs and not node.commands and not node.is_left}
     for node in graph.nodes.values():
-        for name in node.inputs if node.commands and not node.is_phony else ():
-            other = graph.nodes.get(name)
-            if other is not None and other.inputs and not other.commands and not other.is_left and \
-                    (other.is_phony or not exists(name)):
-                yield name
+        if node.commands and not node.is_phony and not bare.isdisjoint(node.inputs):
+            yield from (name for name in bare.intersection(node.inputs)
+                        if graph.nodes[name].is_phony or not exists(name))

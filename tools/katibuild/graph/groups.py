@@ -5,6 +5,7 @@ from dataclasses import replace
 from typing import Collection, Dict, FrozenSet, Iterable, List, Optional, Tuple
 
 from ..ask.answer import Answer
+from ..base.message import Place
 from .node import Command, Graph, Node
 from .scripts import quoted
 from .walk import key_of
@@ -37,19 +38,23 @@ def join(nodes: Dict[str, Node], name: str, others: List[str]) -> None:
     inputs = dict.fromkeys(one for part in parts for one in part.inputs if one not in outputs)
     order_only = tuple(dict.fromkeys(one for part in parts for one in part.order_only
                                      if one not in outputs and one not in inputs))
-    whole = replace(parts[0], outputs=tuple(outputs), inputs=tuple(inputs), order_only=order_only)
+    whole = parts[0]._replace(outputs=tuple(outputs), inputs=tuple(inputs), order_only=order_only)
     nodes.update((one, whole) for one in outputs)
 
 
 def alike(nodes: Dict[str, Node], separated: Collection[str]) -> List[List[str]]:
     """Targets of one recipe that has the same text for each of them, as `y.c y.h: g.y`: make runs it for the first,
     and then finds the others."""
-    found: Dict[Tuple, List[str]] = {}
+    by_place: Dict[Place, List[str]] = {}
     for name, node in nodes.items():
-        if len(node.outputs) == 1 and node.place and node.inputs and node.commands and name not in separated \
+        if node.place and node.inputs and node.commands and len(node.outputs) == 1 and name not in separated \
                 and not (node.is_phony or node.is_double_colon or node.made_with or node.is_left):
-            texts = tuple((one.text, one.shell, one.environment) for one in node.commands)
-            found.setdefault((node.place, texts, node.inputs, node.order_only), []).append(name)
+            by_place.setdefault(node.place, []).append(name)
+    found: Dict[Tuple, List[str]] = {}
+    for name in (one for names in by_place.values() if len(names) > 1 for one in names):
+        node = nodes[name]
+        texts = tuple((one.text, one.shell, one.environment) for one in node.commands)
+        found.setdefault((node.place, texts, node.inputs, node.order_only), []).append(name)
     return [names for (_, _, inputs, order_only), names in found.items()
             if len(names) > 1 and not set(names) & {*inputs, *order_only}]
 
@@ -88,7 +93,7 @@ def inlined(graph: Graph, names: FrozenSet[str]) -> Graph:
         if user is not None:
             made = nodes[name]
             nodes[user] = with_commands(nodes[user], name, made)
-            nodes[name] = replace(made, commands=(), place=None)
+            nodes[name] = made._replace(commands=(), place=None)
     return replace(graph, nodes=nodes)
 
 
@@ -112,4 +117,4 @@ def with_commands(user: Node, name: str, made: Node) -> Node:
     order_only = tuple(dict.fromkeys(one for one in (*user.order_only, *made.order_only, name) if one not in inputs))
     last = user.commands[-1]
     deleting = Command(f"rm -f {quoted(name)}", last.shell, last.environment, is_echoed=False)
-    return replace(user, inputs=inputs, order_only=order_only, commands=(*made.commands, *user.commands, deleting))
+    return user._replace(inputs=inputs, order_only=order_only, commands=(*made.commands, *user.commands, deleting))

@@ -18,8 +18,7 @@ class Command(NamedTuple):
     is_ignored: bool = False
 
 
-@dataclass(frozen=True)
-class Node:
+class Node(NamedTuple):
     """One statement: outputs that the commands make from the inputs, or a phony name for its inputs."""
 
     outputs: Tuple[str, ...]

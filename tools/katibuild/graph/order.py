@@ -48,7 +48,7 @@ def with_edges(nodes: Nodes, edges: Iterable[Edge]) -> Dict[str, Node]:
         inputs = dict.fromkeys((*node.inputs, *(edge.earlier for edge in more if edge.is_input)))
         order_only = dict.fromkeys(one for one in (*node.order_only, *(edge.earlier for edge in more))
                                    if one not in inputs)
-        changed.update((one, replace(node, inputs=tuple(inputs), order_only=tuple(order_only)))
+        changed.update((one, node._replace(inputs=tuple(inputs), order_only=tuple(order_only)))
                        for one in node.outputs)
     return changed
 
@@ -59,7 +59,8 @@ def makes_folder(name: str, node: Node, is_folder: Callable[[str], bool]) -> boo
     """Whether a node's output is a folder: there is one, or the only command makes one of that name."""
     if node.is_phony or not node.commands:
         return False
-    found = MKDIR.match(node.commands[0].text) if len(node.commands) == 1 else None
+    text = node.commands[0].text if len(node.commands) == 1 else ""
+    found = MKDIR.match(text) if "mkdir" in text else None
     return bool(found and ninja_name(found.group(1)) == name) or is_folder(name)
 
 
@@ -69,8 +70,8 @@ def without_folder_inputs(graph: Graph, folders: Set[str]) -> Graph:
     for name, node in graph.nodes.items():
         moved = [one for one in node.inputs if one in folders] if node.commands else []
         if moved:
-            nodes[name] = replace(node, inputs=tuple(one for one in node.inputs if one not in folders),
-                                  order_only=tuple(dict.fromkeys((*node.order_only, *moved))))
+            nodes[name] = node._replace(inputs=tuple(one for one in node.inputs if one not in folders),
+                                        order_only=tuple(dict.fromkeys((*node.order_only, *moved))))
             found.update(dict.fromkeys(moved))
     return replace(graph, nodes=nodes, differences=(*graph.differences, *of_folders(graph.nodes, list(found))))
 
@@ -98,7 +99,7 @@ def waits(nodes: Nodes) -> Tuple[Dict[str, Node], List[Edge]]:
     """Prerequisites behind `.WAIT`, and what only those need, wait for a phony name of the prerequisites before."""
     gates: Dict[str, Node] = {}
     edges: List[Edge] = []
-    for node in nodes.values():
+    for node in (one for one in nodes.values() if one.waits):
         for number, at in enumerate(node.waits):
             until = node.waits[number + 1] if number + 1 < len(node.waits) else len(node.inputs)
             before = tuple(name for name in node.inputs[:at] if name in nodes)
@@ -135,8 +136,11 @@ def matching(names: List[str], pattern: str) -> List[str]:
 def removals(nodes: Nodes) -> Iterable[Edge]:
     """A file that an earlier recipe removes is made after it, as `all: clean prog` has it. The nodes are in the order
     in which make runs their recipes."""
+    removing = {name: node for name, node in nodes.items() for one in node.commands if "rm" in one.text}
+    if not removing:
+        return
     order, ordered_names = {name: number for number, name in enumerate(nodes)}, sorted(nodes)
-    for name, node in nodes.items():
+    for name, node in removing.items():
         for gone in removed(node):
             found = matching(ordered_names, gone) if PATTERN.search(gone) else [gone] if gone in nodes else []
             yield from (Edge(other, node.outputs[0], True) for other in found

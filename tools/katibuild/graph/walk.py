@@ -1,10 +1,10 @@
 """Walks make's answer from the goals to the leaves: what the goals need becomes nodes."""
 from __future__ import annotations
 
-from typing import Callable, Collection, Dict, List, Optional, Set, Tuple
+from operator import itemgetter
+from typing import Callable, Collection, Dict, List, Mapping, Optional, Sequence, Set, Tuple
 
 from ..ask.answer import Answer, Include, Line, Rule
-from ..base.message import Place
 from ..base.files import ninja_name
 from .node import Command, Graph, Node
 from .scripts import quoted
@@ -13,19 +13,12 @@ WAIT = ".WAIT"
 EACH_TIME = ".kati/each-time"    # never there: what needs it is built each time
 
 
-class Draft:
-    """A node while the walk collects it. Dictionaries keep the order of names and find one at once."""
+class Keys(dict):
+    """`key_of` by names, once for each; what is known is found without a call."""
 
-    def __init__(self) -> None:
-        self.inputs: Dict[str, None] = {}
-        self.order_only: List[str] = []
-        self.waits: List[int] = []
-        self.made_with: List[str] = []
-        self.lines: Dict[str, List[Tuple[int, Line]]] = {}      # by the spelling of the target that they make
-        self.is_phony = self.is_double_colon = self.is_left = self.is_each_time = False
-        self.place: Optional[Place] = None
-
-
+    def __missing__(self, name: str) -> str:
+        found = self[name] = key_of(name)
+        return found
 
 def archive_of(name: str) -> str:
     """`lib.a` of the member `lib.a(x.o)`; other names as they are."""
@@ -46,30 +39,24 @@ def has_recipe(rule: Rule) -> bool:
 
 
 class Walk:
-    """make's answer by names, and the drafts so far.
+    """make's answer by names, and what the walk has found: `names` are the spellings of each target by its key.
 
     `exists` tells whether a file was there before make was asked; `known` are outputs of earlier builds.
     """
 
     def __init__(self, answer: Answer, exists: Callable[[str], bool], known: Collection[str]):
-        self.answer, self.exists, self.known = answer, exists, known
+        self.exists, self.known = exists, known
         self.rules: Dict[str, List[Rule]] = {}
-        for rule in filter(is_made, answer.rules):
-            self.rules.setdefault(rule.targets[0], []).append(rule)
+        for rule in answer.rules:
+            if rule.is_target or rule.inputs or has_recipe(rule):    # others are known as prerequisites alone
+                self.rules.setdefault(rule.targets[0], []).append(rule)
         self.lines: Dict[str, List[Tuple[int, Line]]] = {}
-        for number, line in enumerate(answer.lines):
-            self.lines.setdefault(line.target, []).append((number, line))
+        for numbered in enumerate(answer.lines):
+            self.lines.setdefault(numbered[1].target, []).append(numbered)
         self.remade = {ninja_name(one.path) for one in answer.includes if is_remade(one)}
         self.left = {key_of(name) for name in answer.left}
-        self.keys: Dict[str, str] = {}
-        self.drafts: Dict[str, Draft] = {}
-
-    def key(self, name: str) -> str:
-        """`key_of`, once for each name."""
-        found = self.keys.get(name)
-        if found is None:
-            found = self.keys[name] = key_of(name)
-        return found
+        self.keys = Keys()
+        self.names: Dict[str, List[str]] = {}
 
     def take_all(self, goals: Collection[str]) -> None:
         """Takes the goals, and all that they need."""
@@ -81,50 +68,73 @@ class Walk:
                 seen.add(name)
                 work += self.take(name)
 
-    def take(self, name: str) -> List[str]:
-        """Adds what make says of a name to its draft; answers the names that it needs."""
-        rules, made_by = self.rules.get(name, []), self.lines_by_spelling(name)
-        if not rules and not made_by or name == WAIT or self.is_source(name, rules):
-            return []
-        key = self.key(name)
-        draft = self.drafts.setdefault(key, Draft())
-        draft.is_left |= key in self.left
-        draft.lines.update(made_by)
-        needed: List[str] = []
-        for rule in rules:
-            needed += self.add(draft, key, rule)
-        return needed
+    def take(self, name: str) -> Sequence[str]:
+        """Takes a name if something makes it; answers the names that it needs."""
+        rules = self.rules.get(name, ())
+        if not rules and not self.lines_by_spelling(name) or name == WAIT or self.is_source(name, rules):
+            return ()
+        self.names.setdefault(self.keys[name], []).append(name)
+        return [one for rule in rules for one in rule.inputs + rule.order_only]
+
+    def nodes(self) -> Dict[str, Node]:
+        """The node of each key, in the order in which make runs the first lines of their recipes."""
+        found = (self.plain_node(key, names) or self.whole_node(key, names) for key, names in self.names.items())
+        return {node.outputs[0]: node for _, node in sorted(found, key=itemgetter(0))}
+
+    def plain_node(self, key: str, names: List[str]) -> Optional[Tuple[int, Node]]:
+        """The same as `whole_node`, in less time, of a target with one spelling, one rule and nothing unusual."""
+        rules = self.rules.get(names[0], ())
+        if len(names) != 1 or len(rules) != 1 or names[0].endswith(")"):
+            return None
+        rule, lines = rules[0], self.lines.get(names[0], ())
+        inputs = dict.fromkeys([self.keys[name] for name in rule.inputs])
+        if rule.order_only or rule.is_double_colon or len(rule.targets) > 1 or WAIT in inputs or key in inputs:
+            return None
+        commands = tuple([command_of(line) for _, line in lines])
+        return lines[0][0] if lines else -1, Node((key,), tuple(inputs), (), commands, rule.is_phony,
+                                                  key in self.left, rule.place)
+
+    def whole_node(self, key: str, names: List[str]) -> Tuple[int, Node]:
+        """When make runs the first line of a recipe, and its node, by all spellings of the target and all rules."""
+        rules = [rule for name in names for rule in self.rules.get(name, ())]
+        inputs: Dict[str, None] = {}             # a dictionary keeps the order of names, and finds one at once
+        waits: List[int] = []
+        for name in (one for rule in rules for one in rule.inputs):
+            if name == WAIT:
+                waits.append(len(inputs))
+            else:
+                inputs[self.keys[name]] = None
+        if key in inputs:      # make drops a file's own name, as Ninja spells it, from the prerequisites
+            at = list(inputs).index(key)
+            waits = [one - (one > at) for one in waits]
+            del inputs[key]
+        order_only = dict.fromkeys(self.keys[name] for rule in rules for name in rule.order_only
+                                   if name != WAIT and self.keys[name] not in inputs and self.keys[name] != key)
+        is_phony = any(rule.is_phony for rule in rules)
+        if not is_phony and any(rule.is_double_colon and has_recipe(rule) and not rule.inputs for rule in rules):
+            inputs[EACH_TIME] = None
+        made_with = dict.fromkeys(self.keys[name] for rule in rules for name in rule.targets[1:])
+        lines = {spelling: some for name in names for spelling, some in self.lines_by_spelling(name).items()}
+        return min((some[0][0] for some in lines.values()), default=-1), Node(
+            (key,), tuple(inputs), tuple(order_only), tuple(map(command_of, lines_of(lines))), is_phony,
+            key in self.left, next((rule.place for rule in rules if rule.place), None),
+            any(rule.is_double_colon for rule in rules), tuple(made_with), tuple(waits))
 
     def lines_by_spelling(self, name: str) -> Dict[str, List[Tuple[int, Line]]]:
         """The numbered lines that make a name; those of a member of an archive may have the archive as their target."""
         spellings = (name, archive_of(name)) if name.endswith(")") else (name,)
         return {one: self.lines[one] for one in spellings if one in self.lines}
 
-    def is_source(self, name: str, rules: List[Rule]) -> bool:
+    def is_source(self, name: str, rules: Sequence[Rule]) -> bool:
         """Whether make leaves a file alone: a makefile that make itself remakes, or a file without inputs that is
         there and that no build of ours made."""
-        if any(rule.is_phony or rule.is_double_colon for rule in rules):
+        key = self.keys[name]
+        if key not in self.remade and any([rule.inputs for rule in rules]) or \
+                any([rule.is_phony or rule.is_double_colon for rule in rules]):
             return False
-        key = self.key(name)
         if key in self.remade:
             return bool(rules)
-        is_bare = not any(rule.inputs for rule in rules) and any(map(has_recipe, rules))
-        return is_bare and key not in self.known and self.exists(key)
-
-    def add(self, draft: Draft, key: str, rule: Rule) -> Tuple[str, ...]:
-        """Adds a rule to a draft; answers the names that the rule needs."""
-        draft.is_phony |= rule.is_phony
-        draft.is_double_colon |= rule.is_double_colon
-        draft.is_each_time |= rule.is_double_colon and has_recipe(rule) and not rule.inputs
-        draft.place = draft.place or rule.place
-        for name in rule.inputs:
-            if name == WAIT:
-                draft.waits.append(len(draft.inputs))
-            else:
-                draft.inputs[self.key(name)] = None
-        draft.order_only += [self.key(name) for name in rule.order_only if name != WAIT]
-        draft.made_with += map(self.key, rule.targets[1:])
-        return rule.inputs + rule.order_only
+        return any(map(has_recipe, rules)) and key not in self.known and self.exists(key)
 
 
 def is_remade(include: Include) -> bool:
@@ -132,43 +142,17 @@ def is_remade(include: Include) -> bool:
     return include.has_rule and include.is_present and not include.is_always_made
 
 
-def is_made(rule: Rule) -> bool:
-    """Whether a rule makes something, and is not a file known as a prerequisite alone."""
-    return rule.is_target or has_recipe(rule) or bool(rule.inputs)
-
-
-def lines_of(draft: Draft) -> List[Line]:
-    """The lines of a draft in make's order. Of two spellings of one file only the first recipe counts: make finds the
+def lines_of(by_spelling: Mapping[str, List[Tuple[int, Line]]]) -> List[Line]:
+    """The lines of a target in make's order. Of two spellings of one file only the first recipe counts: make finds the
     file after it. Members of an archive have a recipe each."""
-    if len(draft.lines) == 1:
-        return [line for lines in draft.lines.values() for _, line in lines]
-    spellings = sorted(draft.lines.items(), key=lambda one: one[1][0][0])
+    spellings = sorted(by_spelling.items(), key=lambda one: one[1][0][0])
     numbered = [pair for name, lines in spellings if archive_of(name) == archive_of(spellings[0][0]) for pair in lines]
     return [line for _, line in sorted(numbered, key=lambda pair: pair[0])]
-
-
-def first_line(named: Tuple[str, Draft]) -> int:
-    """When make runs the first line of a draft's recipe."""
-    return min((lines[0][0] for lines in named[1].lines.values()), default=-1)
 
 
 def command_of(line: Line) -> Command:
     """The command that a line is."""
     return Command(line.text, line.shell, line.environment, line.is_echoed, line.is_ignored)
-
-
-def node_of(key: str, draft: Draft) -> Node:
-    """The node that a draft became."""
-    if key in draft.inputs:      # make drops a file's own name, as Ninja spells it, from the prerequisites
-        at = list(draft.inputs).index(key)
-        draft.waits = [one - (one > at) for one in draft.waits]
-        del draft.inputs[key]
-    order_only = tuple(dict.fromkeys(name for name in draft.order_only if name not in draft.inputs and name != key))
-    if draft.is_each_time and not draft.is_phony:
-        draft.inputs[EACH_TIME] = None
-    return Node((key,), tuple(draft.inputs), order_only, tuple(map(command_of, lines_of(draft))), draft.is_phony,
-                draft.is_left, draft.place, draft.is_double_colon, tuple(dict.fromkeys(draft.made_with)),
-                tuple(draft.waits))
 
 
 def left_beside(nodes: Dict[str, Node], names: Set[str]) -> Dict[str, Node]:
@@ -193,9 +177,9 @@ def graph_of(answer: Answer, exists: Callable[[str], bool], known: Collection[st
     walk = Walk(answer, exists, known)
     always = [one.path for one in answer.includes if one.has_rule and one.is_always_made]
     walk.take_all([*answer.goals, *sorted(always)])
-    nodes = {key: node_of(key, draft) for key, draft in sorted(walk.drafts.items(), key=first_line)}
+    nodes = walk.nodes()
     nodes.update(left_beside(nodes, {key_of(name) for name in answer.unmade}))
-    if any(draft.is_each_time for draft in walk.drafts.values()):
+    if any(node.is_double_colon and EACH_TIME in node.inputs for node in nodes.values()):
         nodes[EACH_TIME] = Node((EACH_TIME,))
     goals = dict.fromkeys(map(key_of, (*answer.goals, *sorted(always))))
     return Graph(nodes, tuple(goals), is_not_parallel=answer.is_not_parallel)

@@ -4,8 +4,7 @@ from __future__ import annotations
 import itertools
 import re
 from collections import Counter
-from dataclasses import replace
-from typing import Dict, Iterable, List, Mapping, NamedTuple, Optional, Tuple
+from typing import Callable, Dict, Iterable, List, Mapping, NamedTuple, Optional, Tuple
 
 from ..base.files import bytes_of, digest
 from ..base.message import Place, Stop
@@ -39,16 +38,12 @@ class GraphFile(NamedTuple):
     """The makefile; where each of its lines comes from; the scripts that its commands run; and the goals for kati."""
 
     text: bytes
-    places: Mapping[int, Place]
+    places: Mapping[int, Optional[Place]]
     scripts: Mapping[str, bytes]
     goals: Tuple[str, ...]
 
 
-class Written(NamedTuple):
-    """What a node became: its shell, and the lines of its recipe."""
-
-    shell: str
-    lines: Tuple[str, ...]
+Written = Tuple[str, Tuple[str, ...]]    # what a node became: its shell, and the lines of its recipe
 
 
 def doubled(text: str) -> str:
@@ -74,19 +69,28 @@ def macro_text(name: str) -> str:
 
 def refuse_names(graph: Graph) -> None:
     """Stops where kati has no word for a name, with the place of the rule that makes the file or needs it."""
-    for node in nodes_of(graph):
-        for name in node.outputs:
-            if REFUSED.search(name) or REFUSED_TARGET.search(name):
-                raise Stop(f"the target '{name}' cannot be translated", place=node.place, help=HELP)
-    for node in nodes_of(graph):
+    nodes = list(nodes_of(graph))
+    targets = {name: node for node in nodes for name in node.outputs}
+    for name in targets:
+        if REFUSED.search(name) or REFUSED_TARGET.search(name):
+            raise Stop(f"the target '{name}' cannot be translated", place=targets[name].place, help=HELP)
+    refused = {name for name in set().union(*(node.inputs + node.order_only for node in nodes)).difference(targets)
+               if REFUSED.search(name)}
+    for node in nodes if refused else ():
         for name in (*node.inputs, *node.order_only):
-            if REFUSED.search(name):
+            if name in refused:
                 raise Stop(f"the prerequisite '{name}' cannot be translated", place=node.place, help=HELP)
 
 
 def size(text: str) -> int:
     """How many bytes a text has between single quotes."""
     return (len(text) if text.isascii() else len(bytes_of(text))) + 3 * text.count("'")
+
+
+def is_simple(text: str, longest: int) -> bool:
+    """Whether a text is surely short, and one line that shells and kati read as it is."""
+    return text.isascii() and text.isprintable() and 2 * len(text) < longest and "'" not in text and "\\" not in text \
+        and text.strip() != "" and not text.startswith(scripts.MARKS)
 
 
 class Scripts:
@@ -114,6 +118,9 @@ class Scripts:
 
     def written(self, node: Node) -> Written:
         """The shell and the recipe of a node. Commands that differ in their shells are scripts as a whole."""
+        if len(node.commands) == 1 and is_simple(node.commands[0].text, self.longest):
+            one = node.commands[0]
+            return self.shell(one, node.place), (f"\t{'-' if one.is_ignored else ''}{doubled(one.text)}",)
         commands = [one for one in node.commands if one.text.strip()]
         shells = {self.shell(one, node.place) for one in commands}
         texts = [one_line(one.text) for one in commands]
@@ -127,18 +134,15 @@ class Scripts:
         marked = [(text, one.is_ignored) for text, one in zip(texts, commands)]
         if sum(size(text) + len(shell) + AROUND for text in texts) > LONGEST:
             marked, shell = [(self.path(scripts.recipe_script(shell, marked)), False)], USUAL
-        return Written(shell, tuple(f"\t{'-' if is_ignored else ''}{doubled(text)}" for text, is_ignored in marked))
+        return shell, tuple(f"\t{'-' if is_ignored else ''}{doubled(text)}" for text, is_ignored in marked)
 
 
-def rule_line(node: Node) -> str:
-    """The line of a node's targets and prerequisites."""
-    mark = " &" if len(node.outputs) > 1 else ""
-    inputs, order_only = "".join([f" {name_text(one)}" for one in node.inputs]), ""
-    if node.order_only:
-        order_only = " |" + "".join(f" {name_text(one)}" for one in node.order_only)
+def rule_line(node: Node, spelled: Callable[[str], str]) -> str:
+    """The line of a node's targets and prerequisites, each as it is `spelled`."""
+    outputs, inputs = " ".join(map(spelled, node.outputs)), "".join([" " + spelled(one) for one in node.inputs])
     # an empty reference, since the first of several names may be a word of kati's, as `include`
-    first = "$()" if mark else ""
-    return f"{first}{' '.join(map(name_text, node.outputs))}{mark}:{inputs}{order_only}"
+    line = f"{outputs}:{inputs}" if len(node.outputs) == 1 else f"$(){outputs} &:{inputs}"
+    return f"{line} | {' '.join(map(spelled, node.order_only))}" if node.order_only else line
 
 
 def shell_lines(shells: Mapping[str, str]) -> List[str]:
@@ -170,7 +174,7 @@ def apart(node: Node) -> Tuple[Node, ...]:
     if not node.is_phony or node.inputs and not node.commands:
         return (node,)
     own = phony_path(node.outputs[0])
-    return replace(node, outputs=(own,), is_phony=bool(node.commands)), Node(node.outputs, (own,), place=node.place)
+    return node._replace(outputs=(own,), is_phony=bool(node.commands)), Node(node.outputs, (own,), place=node.place)
 
 
 def by_output(graph: Graph) -> Dict[str, Node]:
@@ -191,18 +195,21 @@ def write(graph: Graph) -> GraphFile:
 
 def written_by(graph: Graph, kept: Scripts) -> GraphFile:
     """The makefile, with scripts in the place of commands that are too long."""
-    places, shells = {}, {}
-    written: List[Tuple[Node, Written]] = []
+    shells: Dict[str, str] = {}
+    is_usual = not SPECIAL.search("".join({name for node in nodes_of(graph) for name in (*node.outputs, *node.inputs,
+                                                                                         *node.order_only)}))
+    written: List[Tuple[Node, Tuple[str, ...]]] = []
     for node in itertools.chain.from_iterable(map(apart, nodes_of(graph))):
-        found = kept.written(node)
-        if found.shell:
-            shells[min(node.outputs, key=bytes_of) if len(node.outputs) > 1 else node.outputs[0]] = found.shell
-        written.append((node, found))
+        shell, recipe = kept.written(node)
+        if shell:
+            shells[min(node.outputs, key=bytes_of) if len(node.outputs) > 1 else node.outputs[0]] = shell
+        written.append((node, recipe))
     lines = [*HEAD.split("\n")[:-1], *shell_lines(shells)]
-    for node, found in written:
-        block = [f".PHONY: {name_text(node.outputs[0])}"] if node.is_phony else []
-        block += [rule_line(node), *found.lines]
-        if node.place:
-            places.update((len(lines) + number, node.place) for number in range(1, len(block) + 1))
-        lines += block
-    return GraphFile(bytes_of("\n".join(lines) + "\n"), places, {**graph.scripts, **kept.all}, graph.goals)
+    places: List[Optional[Place]] = [None] * len(lines)
+    for node, recipe in written:
+        lines += [f".PHONY: {name_text(node.outputs[0])}"] if node.is_phony else []
+        lines.append(rule_line(node, str if is_usual else name_text))
+        lines += recipe
+        places += [node.place] * (len(lines) - len(places))
+    return GraphFile(bytes_of("\n".join(lines) + "\n"), dict(enumerate(places, 1)), {**graph.scripts, **kept.all},
+                     graph.goals)

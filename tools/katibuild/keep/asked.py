@@ -169,7 +169,8 @@ def graph_of(answer: Answer, record: Optional[BuildRecord], known: FrozenSet[str
 
     walked = groups.inlined(walk.graph_of(answer, exists, known), groups.intermediates(answer))
     graph = groups.joined(walked, record.separated if record else ())
-    graph = order.ordered(graph, os.path.isdir)
+    there = files.present(graph.nodes)
+    graph = order.ordered(graph, lambda name: name in there and os.path.isdir(name))
     graph = inner_makes.with_tokens(graph)
     return replace(graph, differences=(*differences.differences(answer, graph, exists), *graph.differences))
 

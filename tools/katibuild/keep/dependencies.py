@@ -51,7 +51,7 @@ def of(answer: Answer, question: Question, hidden: Mapping[str, str], outputs: I
     texts = texts_of(answer, hidden)
     variables = environment.named(texts.all(), answer.variables, question.environment,
                                   bool(texts.calls or texts.other))
-    git = {text: environment.printed(text) for text in environment.git_commands(texts.calls)}
+    git = {text: environment.printed(text) for text in dict.fromkeys(texts.calls) if environment.is_git(text)}
     states = file_states(names_of_files(answer, question, texts, bool(git)), {*hidden, *written})
     timed = tuple(sorted({ninja_name(name) for one in answer.includes for name in one.made_from}))
     counted = Dependencies(states, {}, variables, git, *counted_names(answer, texts, hidden, outputs), timed,
@@ -105,7 +105,7 @@ def counted_names(answer: Answer, texts: Texts, hidden: Iterable[str], outputs: 
     """Which names count beside those that are not hidden: the last fields of Dependencies."""
     includes = [ninja_name(one.path) for one in answer.includes]
     literal = {one for text in texts.all() for one in HIDDEN.findall(text)}
-    shown = {parent for name in (*includes, *hidden, *outputs) for parent in parents(name)}
+    shown = {parent for name in (*includes, *hidden, *outputs) if "/" in name for parent in parents(name)}
     kinds = {(os.path.dirname(name) or ".", os.path.splitext(name)[1]) for name in (*includes, *hidden)
              if os.path.basename(name).startswith(".") and os.path.splitext(name)[1]}
     is_all_shown = any(LISTS_HIDDEN.search(text) for text in (*texts.calls, *texts.other))

@@ -50,11 +50,6 @@ def named(texts: Iterable[str], variables: Iterable[str], environ: Mapping[str, 
     return {name: environ.get(name) for name in sorted(found - OWN)}
 
 
-def git_commands(calls: Iterable[str]) -> Tuple[str, ...]:
-    """The calls that only read a git repository, each once."""
-    return tuple(text for text in dict.fromkeys(calls) if is_git(text))
-
-
 def is_git(text: str) -> bool:
     """Whether a shell text runs git, and only to read."""
     found = GIT.findall(text)

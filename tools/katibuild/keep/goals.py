@@ -11,7 +11,7 @@ from ..base.files import ninja_name
 from ..ninja import top
 from ..ninja.text import NinjaText
 from ..ninja.top import PhonyGoal
-from .request import NINJA_FILE, ROOM, Run, default_of, place_of
+from .request import NINJA_FILE, ROOM, Run, place_of
 
 if TYPE_CHECKING:
     from .asked import Asked
@@ -43,8 +43,7 @@ def is_goal(rule: Rule) -> bool:
 
 def command(run: Run, goal: str) -> str:
     """How make builds a goal."""
-    makefile = ("-f", run.request.makefile) if run.request.makefile else ()
-    return " ".join(map(shlex.quote, (run.programs.make, *makefile, *run.request.variables, goal)))
+    return " ".join(map(shlex.quote, (run.programs.make, *arguments(run), goal)))
 
 
 def write_boot(run: Run) -> None:
@@ -54,7 +53,7 @@ def write_boot(run: Run) -> None:
     """
     if not run.request.goals or os.path.lexists(NINJA_FILE):
         return
-    place = place_of(default_of(run.request))
+    place = place_of(run.request._replace(goals=()))
     words: Tuple[str, ...] = (*run.look, place.room, *arguments(run))
     files.replace(place.statements, b"")
     files.replace(place.ninja_file, top.text(" ".join(map(shlex.quote, words)), (), top.Paths(
@@ -62,7 +61,7 @@ def write_boot(run: Run) -> None:
 
 
 def arguments(run: Run) -> Iterator[str]:
-    """The makefile and the variables, as kati-build takes them."""
+    """The makefile and the variables, as make and kati-build take them."""
     if run.request.makefile:
         yield from ("-f", run.request.makefile)
     yield from run.request.variables

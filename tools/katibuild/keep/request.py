@@ -41,11 +41,6 @@ def difference(earlier: Request, given: Request) -> str:
     return "the command line is different"
 
 
-def default_of(given: Request) -> Request:
-    """The request for the default goal that a request for a goal implies: the same makefile and variables."""
-    return given._replace(goals=())
-
-
 class Place(NamedTuple):
     """Where the files of one build are: the folder's own, or those of other goals."""
 

@@ -166,16 +166,10 @@ def reason(record: BuildRecord, environ: Optional[Mapping[str, str]] = None,
 
 # -- the shell line ----------------------------------------------------------------------------------------------------
 
-
 def seconds(nanoseconds: int) -> str:
     """A time as stat(1) prints it by `%.9Y`."""
     sign = "-" if nanoseconds < 0 else ""
     return f"{sign}{abs(nanoseconds) // SECOND}.{abs(nanoseconds) % SECOND:09d}"
-
-
-def watched_names(depends: Dependencies) -> List[str]:
-    """What the shell line looks at."""
-    return [*depends.files, *depends.folders]
 
 
 def stat_text(depends: Dependencies) -> str:
@@ -193,8 +187,8 @@ def shell_line(room: str) -> str:
 
 def write_look(room: str, depends: Dependencies) -> None:
     """Writes what the shell line compares."""
-    names = watched_names(depends)
-    files.replace(f"{room}/watched", files.bytes_of("".join(f"{name}\0" for name in names)))
+    names = "".join(f"{name}\0" for name in (*depends.files, *depends.folders))
+    files.replace(f"{room}/watched", files.bytes_of(names))
     files.replace(f"{room}/stat", files.bytes_of(stat_text(depends)))
 
 

@@ -46,16 +46,20 @@ def translate(run: Run, record: Optional[BuildRecord], changes: Optional[Changes
     if is_same and changes is not None:
         new = without_effect(new, record, changes)
     log, spared, left = with_lines(log, run, record, found, text, before, changes)
-    new, renewing = new._replace(left_alone=tuple(sorted(left))), turns.renewing(run.place, text, log, known)
+    renewing = turns.renewing(run.place, text, log, known)
+    # a file to be built for another text may be edited before that, and is no longer built then
+    own = {name: stale.file_state(name) for name in renewing}
+    depends = new.dependencies._replace(files={**new.dependencies.files, **own})
+    new = new._replace(dependencies=depends, left_alone=tuple(sorted(left)))
     write(run, new, made, with_blocks(found, text, renewing, left), goals.phony_goals(run, found, text))
-    return Written(new, has_news(before, text, spared, renewing))
+    return Written(new, has_news(before, text, spared, renewing) and not next_makefiles(record, found))
 
 
 def with_lines(log: Log, run: Run, record: Optional[BuildRecord], found: Asked, text: NinjaText,
                before: Optional[NinjaText], changes: Optional[Changes]) -> Tuple[Log, FrozenSet[str], FrozenSet[str]]:
     """Writes lines for outputs that count as made to Ninja's log; answers the log, and which outputs need not run and
     which are left alone."""
-    seen = turns.seen_before(record, folder.other_outputs(run.place))
+    seen = folder.other_outputs(run.place).union(record.seen_outputs if record else ())
     commands = {} if run.is_anew else turns.taken(found, text, seen)
     left = turns.left_alone(run, record, commands, log)
     if not commands and before is None:
@@ -84,6 +88,16 @@ def read_products(record: Optional[BuildRecord], found: Asked) -> FrozenSet[str]
     before, now = record.dependencies.files, found.dependencies.files
     return frozenset(name for name in set(opened).intersection(record.outputs).difference(record.made_includes)
                      if stale.is_other(before.get(name), now.get(name), False))
+
+
+def next_makefiles(record: Optional[BuildRecord], found: Asked) -> FrozenSet[str]:
+    """The makefiles that the build has written, and that make does not remake before it builds. make sees what they
+    say in its next run, and so does Ninja."""
+    if record is None:
+        return frozenset()
+    before, now = record.dependencies.files, found.dependencies.files
+    return frozenset(name for name in set(map(ninja_name, found.answer.makefiles)).difference(record.made_includes)
+                     if name in now and stale.is_other(before.get(name), now[name], False))
 
 
 def is_late(record: Optional[BuildRecord], found: Asked, text: NinjaText) -> Callable[[str], bool]:
@@ -126,7 +140,9 @@ def without_effect(new: BuildRecord, record: BuildRecord, changes: Changes) -> B
 def with_blocks(found: Asked, text: NinjaText, renewing: Mapping[str, str], left: FrozenSet[str]) -> bytes:
     """The statements with depfiles, `restat`, descriptions and the like; a check holds them against kati's text."""
     depfiles = {output: path for path, output in found.hidden.items()}
-    more = blocks.added(text, found.graph, depfiles, os.path.isfile, renewing, left)
+    there = files.present({name for one in text.statements for name in one.outputs})
+    more = blocks.added(text, found.graph, depfiles, lambda name: name in there and os.path.isfile(name), renewing,
+                        left)
     return blocks.with_blocks(text, more, found.hidden)
 
 

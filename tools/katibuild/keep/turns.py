@@ -25,7 +25,9 @@ from .request import Place, Run
 if TYPE_CHECKING:
     from .asked import Asked
 
-CALL = re.compile(r"\$[({](?:shell|wildcard|file|realpath)\b")
+# A call that asks the clock or the system alone says nothing of what a build has made.
+CALL = re.compile(r"\$[({](?:shell\b(?!\s+(?:date|hostname|id|nproc|uname|whoami)\b(?!.*-r)[^|;&<`$(){}]*[)}])"
+                  r"|wildcard\b|file\b|realpath\b)")
 PLAIN = re.compile(r"[\w./+-]+", re.ASCII)   # a name that a depfile has as it is
 
 
@@ -46,7 +48,7 @@ def taken(found: Asked, text: NinjaText, seen: FrozenSet[str]) -> Dict[str, str]
     depfiles = frozenset(found.hidden.values())
     outputs = {name for one in text.statements if not one.is_phony for name in one.outputs
                if not one.is_bare or name in depfiles}
-    present = {name for name in outputs - seen if os.path.isfile(name) and name not in found.answer.made}
+    present = {name for name in files.present(outputs - seen) if os.path.isfile(name) and name not in found.answer.made}
     if not present:
         return {}
     return as_made.to_log(text, present, remade(found))
@@ -70,11 +72,6 @@ def left_alone(run: Run, record: Optional[BuildRecord], now_taken: Iterable[str]
     before = [one.left_alone for one in (record, *folder.records(run.place.room)) if one and not run.is_anew]
     texts = [name for name in now_taken if b"\0" not in (files.read(name) or b"\0")]
     return frozenset(name for some in (*before, texts) for name in some if name not in found.entries)
-
-
-def seen_before(record: Optional[BuildRecord], others: FrozenSet[str]) -> FrozenSet[str]:
-    """The outputs that a reading of this folder has had, of these goals or of others."""
-    return others.union(record.seen_outputs if record else ())
 
 
 # -- recipes that call `shell` or the like -----------------------------------------------------------------------------

@@ -11,8 +11,8 @@ from ..graph.writer import by_output
 from . import headers, inner_makes
 from .text import ALWAYS, Block, NinjaText, escaped_value
 
-# No line of kati's begins as these.
-ADDED = re.compile(rb"^ (?:depfile|description|generator|pool|restat) = .*\n", re.MULTILINE)
+# No line of kati's begins as these. A first letter is found faster than `^`.
+ADDED = re.compile(rb"\n (?:depfile|description|generator|pool|restat) = .*")
 DEPFILE = re.compile(rb"^ depfile = (.*)$", re.MULTILINE)
 LONGEST = 2_000                  # letters of a description
 
@@ -29,7 +29,8 @@ def generators(text: NinjaText, depfiles: Container[str], left_alone: Collection
     is absent. By `generator` neither another command nor a lost log makes the file stale, which the user may have
     edited, and `ninja -t clean` leaves the file alone. So it is for `left_alone`, too."""
     for one in text.statements:
-        if (one.is_bare or all(name in left_alone for name in one.outputs)) and one.outputs[0] not in depfiles:
+        is_left = bool(left_alone) and all(name in left_alone for name in one.outputs)
+        if (one.is_bare or is_left) and one.outputs[0] not in depfiles:
             yield Block(one.line, (("generator", "1"),))
 
 
@@ -40,14 +41,14 @@ def restats(text: NinjaText, is_file: Callable[[str], bool]) -> Iterator[Block]:
     depends on it would go stale. Not for phony targets either: make rebuilds what needs them each time.
     """
     for one in text.statements:
-        if not one.is_phony and ALWAYS not in one.inputs and all(map(is_file, one.outputs)):
+        if not one.is_phony and all(map(is_file, one.outputs)) and ALWAYS not in one.inputs:
             yield Block(one.line, (("restat", "1"),))
 
 
 def description(node: Node) -> str:
     """The lines that make would echo, as one; a silent recipe shows its target."""
-    echoed = [command.text for command in node.commands if command.is_echoed and command.text.strip()]
-    text = " && ".join(" ".join(text.replace("\\\n", " ").split()) for text in echoed)
+    echoed = [" ".join(one.text.replace("\\\n", " ").split()) for one in node.commands if one.is_echoed]
+    text = " && ".join([one for one in echoed if one])
     return text[:LONGEST] or f"making {node.outputs[0]}"
 
 
@@ -63,15 +64,14 @@ def descriptions(text: NinjaText, graph: Graph) -> Iterator[Block]:
 def with_blocks(text: NinjaText, blocks: Iterable[Block], hidden: Collection[str] = ()) -> bytes:
     """The text with these blocks. Stops if the text without them is not kati's, byte for byte, or if a file that is
     hidden from make is the depfile of no statement."""
-    more: Dict[int, Dict[str, str]] = {}
+    more: Dict[int, str] = {}
     for block in blocks:
-        more.setdefault(block.line, {}).update(block.pairs)
-    lines, found, at = text.data.split(b"\n"), [], 0
-    for number in sorted(more):
-        found += lines[at:number]
-        found += [bytes_of(f" {key} = {escaped_value(value)}") for key, value in more[number].items()]
-        at = number
-    data = b"\n".join(found + lines[at:])
+        for key, value in block.pairs:
+            more[block.line] = f"{more.get(block.line, '')}\n {key} = {escaped_value(value)}"
+    lines = text.data.split(b"\n")
+    for number, added_text in more.items():
+        lines[number - 1] += bytes_of(added_text)
+    data = b"\n".join(lines)
     check(data, text, hidden)
     return data
 

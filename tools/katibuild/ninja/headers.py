@@ -2,7 +2,7 @@
 from __future__ import annotations
 
 import re
-from typing import Callable, Dict, Iterable, Iterator, Mapping, Optional
+from typing import Iterator, Mapping, Optional
 
 from ..base.files import ninja_name, text_of
 from .text import Block, NinjaText
@@ -26,20 +26,6 @@ def target_of(data: bytes) -> Optional[str]:
         if found.group(2).strip():
             target = found.group(1)
     return None if target is None else ninja_name(target)
-
-
-def depfiles(includes: Iterable[str], text: NinjaText, read: Callable[[str], Optional[bytes]]) -> Dict[str, str]:
-    """The depfile of each output that has one, among includes that no rule makes.
-
-    Ninja reads the dependencies of a statement's first output alone. A file that two includes claim has none.
-    """
-    first = {one.outputs[0] for one in text.statements if not one.is_phony}
-    found: Dict[str, str] = {}
-    for path in includes:
-        output = target_of(read(path) or b"")
-        if output in first:
-            found.setdefault(output, ninja_name(path))
-    return found
 
 
 def blocks(text: NinjaText, found: Mapping[str, str]) -> Iterator[Block]:

@@ -6,7 +6,7 @@ from typing import Iterator
 
 from ..ask.question import runs_make
 from ..graph import scripts
-from ..graph.node import Command, Graph, Node
+from ..graph.node import Command, Graph
 from .text import Block, NinjaText
 
 POOL = "kati_not_parallel"
@@ -44,15 +44,11 @@ def with_tokens(graph: Graph) -> Graph:
     """The graph whose commands that run make wait for a job, and share jobs."""
     name, data = script = scripts.named(TOKENS)
     path = scripts.path_of(script)
-    nodes = {output: wrapped(node, path) for output, node in graph.nodes.items()}
-    return replace(graph, nodes=nodes, scripts={**graph.scripts, name: data}) if nodes != graph.nodes else graph
-
-
-def wrapped(node: Node, path: str) -> Node:
-    """The node with the script before the shell of each command that runs make."""
-    if node.is_left or not any(runs_make(command.text) for command in node.commands):
-        return node
-    return replace(node, commands=tuple(with_script(command, path) for command in node.commands))
+    callers = {output: node._replace(commands=tuple(with_script(one, path) for one in node.commands))
+               for output, node in graph.nodes.items() if not node.is_left
+               for command in node.commands if runs_make(command.text)}
+    return replace(graph, nodes={**graph.nodes, **callers},
+                   scripts={**graph.scripts, name: data}) if callers else graph
 
 
 def with_script(command: Command, path: str) -> Command:

@@ -83,12 +83,12 @@ def statement_of(number: int, line: str, command: str) -> Statement:
     if "$" not in line and "|" not in line:
         outputs, _, rest = line[len(BUILD):].partition(": ")
         rule, *inputs = rest.split(" ")
-        found = outputs.split(" "), inputs, ()
+        found = tuple(outputs.split(" ")), tuple(inputs), ()
     else:
         outputs, rule, needed, order_only = parts(line)
-        found = names(outputs), names(needed), names(order_only)
+        found = tuple(names(outputs)), tuple(names(needed)), tuple(names(order_only))
     is_phony = rule == "phony"
-    return Statement(number, number + 1, *map(tuple, found), "" if is_phony else command, is_phony)
+    return Statement(number, number + 1, *found, "" if is_phony else command, is_phony)
 
 
 def parse(data: bytes) -> NinjaText:
