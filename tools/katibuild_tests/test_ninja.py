@@ -11,7 +11,7 @@ from answers import answer, graph_of, ninja, rule, translated
 from katibuild.base import programs
 from katibuild.base.message import Stop
 from katibuild.graph.writer import GraphFile
-from katibuild.ninja import as_made, blocks, compile_commands, headers, inner_makes, kati, log, text, top
+from katibuild.ninja import as_made, blocks, headers, inner_makes, kati, log, text, top
 from katibuild.ninja.text import Block, NinjaText, Statement
 from test_graph import Room as Folder
 
@@ -253,12 +253,6 @@ class Blocks(Folder):
             self.assertEqual(0, status, said)
         read = [Path(self.top, name).read_text() for name in ("install", "log", "c")]
         self.assertEqual(["read me", "run\nrun\n", f"{os.environ['HOME']}\n"], read)
-
-    def test_compile_commands(self):
-        asked = answer("all", [], [("m.o", "cc -DA='b c' -c m.c -o m.o"), ("x", "cd s && gcc -c \\\n a.cpp; echo"),
-                                   ("p", "cc -o p m.o"), ("bad", "cc -c 'm.c"), ("two", "cc -c a.c b.c")])
-        self.assertEqual([("m.c", ["cc", "-DA=b c", "-c", "m.c", "-o", "m.o"]), ("a.cpp", ["gcc", "-c", "a.cpp"])],
-                         [(one["file"], one["arguments"]) for one in compile_commands.entries(asked, "/x")])
 
 
 if __name__ == "__main__":

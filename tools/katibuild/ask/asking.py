@@ -10,7 +10,7 @@ from typing import Dict, FrozenSet, Iterable, List, Mapping, NamedTuple, Optiona
 from ..base.files import bytes_of, replace, text_of
 from ..base.interrupt import scratch_folder
 from ..base.message import Place, Stop
-from ..base.programs import run
+from ..base.programs import Finished, run
 from . import database, dependency_includes, extra_makefiles, marks, printed, recorded, shells
 from .answer import Answer, Line, Reading, Rule
 from .database import Database
@@ -18,10 +18,9 @@ from .left import Finder, Left
 from .opened import Watch
 from .printed import Recipe
 from .question import Question, arguments, make_environment, makefile_of, program
-from .reading import failure, texts_of
+from .reading import failure, named_elsewhere, texts_of
 from .recorder import ENVIRONMENT, Recorder, install, only
 
-NO_RULE = re.compile(r"No rule to make target '([^']*)', needed by '([^']*)'")
 PRINTED, RECORDED, NOW = ("-n", "-B", "--trace"), ("-B", "--trace"), ("-n", "--trace")
 MOST_ABSENT = 30              # files that no rule makes, and that another recipe leaves
 
@@ -84,13 +83,21 @@ def ask(question: Question, reading: Reading, watch: Optional[Watch] = None, bui
                   frozenset(name for name, one in done.found.variables.items() if one.is_deferred))
 
 
-def remade(question: Question, reading: Reading, built: Iterable[str] = ()) -> FrozenSet[str]:
-    """The targets whose recipes make would run now, without `-B`."""
-    shells.refuse_foreign(question, reading)
+def remade(question: Question, reading: Reading, answer: Answer) -> FrozenSet[str]:
+    """The targets of the answer whose recipes make would run now, without `-B`: it prints a head for each.
+
+    The answer vouches for the shells.
+    """
     with scratch_folder() as room:
-        left = Finder(reading.database, built).left()
-        done = traced(Setting(question, reading, install(room, shells.all_of(reading)), left), NOW)
-    return frozenset(one.target for one in done.recipes if one.target != ENVIRONMENT)
+        recorder = install(room, shells.all_of(reading))
+        setting = Setting(question, reading, recorder, Finder(reading.database, ()).left())
+        finished = made_by(setting, NOW, answer.unmade)
+        if finished.status:
+            raise failure(finished, room)
+        said = recorder.real_text(text_of(finished.output))
+    known = {one.targets[0] for one in answer.rules}
+    heads = filter(None, map(printed.parts_of_head, said.split("\n")))
+    return frozenset(name for _, _, name in heads if name in known or name.endswith(")"))
 
 
 def traced(setting: Setting, options: Iterable[str], absent: Tuple[str, ...] = (), kept: Iterable[str] = ()) -> Run:
@@ -98,24 +105,30 @@ def traced(setting: Setting, options: Iterable[str], absent: Tuple[str, ...] = (
 
     A file that no rule makes, but whose name another recipe has, gets an empty rule, and make runs once more.
     """
-    question, recorder, watch = setting.question, setting.recorder, setting.watch
-    last, environment = os.path.join(recorder.room, "last"), make_environment(question)
-    argv = [program(question), *options, "-p", "-f", makefile_of(question), "-f", last, *arguments(question)]
+    recorder, folder = setting.recorder, setting.question.folder
     for _ in range(MOST_ABSENT):
-        replace(last, bytes_of(last_of(setting, absent, kept)))
-        recorder.clear()
-        finished = run(argv, question.folder, environment, watch if watch and watch.fileno() >= 0 else None)
+        finished = made_by(setting, (*options, "-p"), absent, kept)
         said, text = database.split(recorder.real_text(text_of(finished.output)))
         found = database.parse(text)
-        more = named_elsewhere(text_of(finished.errors), found, question.folder) if finished.status else ""
+        more = named_elsewhere(text_of(finished.errors), found, folder) if finished.status else ""
         if not more or more in absent:
             break
         absent = (*absent, more)
     if finished.status:
         raise failure(finished, recorder.room)
-    wrote = recorded.parse(recorder.data(), environment, recorder)
+    wrote = recorded.parse(recorder.data(), make_environment(setting.question), recorder)
     recipes = printed.recipes(said, found.rules, ".ONESHELL" in found.rules, wrote.usual.shell[0])
     return Run(tuple(recipes), found, wrote, absent)
+
+
+def made_by(setting: Setting, options: Iterable[str], absent: Iterable[str], kept: Iterable[str] = ()) -> Finished:
+    """One run of make with the recorder as its shell."""
+    question, recorder, watch = setting.question, setting.recorder, setting.watch
+    last = os.path.join(recorder.room, "last")
+    replace(last, bytes_of(last_of(setting, absent, kept)))
+    recorder.clear()
+    argv = [program(question), *options, "-f", makefile_of(question), "-f", last, *arguments(question)]
+    return run(argv, question.folder, make_environment(question), watch if watch and watch.fileno() >= 0 else None)
 
 
 def last_of(setting: Setting, absent: Iterable[str] = (), kept: Iterable[str] = ()) -> str:
@@ -154,27 +167,6 @@ def as_left(line: Line, setting: Setting, rules: Mapping[str, Tuple[Rule, ...]],
                 [shlex.quote(program(question)), "-n", "-B", "-f", '"$kati_room/first"', "-f", given[0],
                  "-f", '"$kati_room/last"', *given[1:]])
     return line._replace(text=text, shell=("/bin/sh", "-c"), environment=(), is_echoed=False, place=own.place)
-
-
-def named_elsewhere(errors: str, found: Database, folder: str) -> str:
-    """The file that make finds no rule for, if the recipe of another prerequisite has its name; else ''."""
-    said = NO_RULE.search(errors)
-    if not said or said.group(1).startswith("-l") or os.path.lexists(os.path.join(folder, said.group(1))):
-        return ""
-    name, needer = said.groups()
-    beside = [one for rule in found.rules.get(needer, ()) for one in rule.inputs if one != name]
-    return name if any(names(line, one, stem_of(name)) for one in beside for rule in found.rules.get(one, ())
-                       for line in rule.recipe) else ""
-
-
-def names(text: str, target: str, stem: str) -> bool:
-    """Whether the unexpanded line of a target's recipe has the stem of a file, as `$@` or `$*` may have, too."""
-    return stem in text or stem == stem_of(target) and ("$@" in text or "$*" in text or "$(@" in text)
-
-
-def stem_of(name: str) -> str:
-    """The file's name without its folder and its suffix."""
-    return os.path.splitext(os.path.basename(name))[0]
 
 
 def names_in(folder: str) -> Set[str]:

@@ -78,22 +78,28 @@ def printed_lines(output: str, rules: Mapping[str, Tuple[Rule, ...]]) -> List[st
 
 def head_of(line: str, rules: Mapping[str, Tuple[Rule, ...]]) -> Optional[Recipe]:
     """The recipe that a head begins; a line that looks like a head, but names no rule of the database, is none."""
-    is_absent = line.endswith(ABSENT)
-    if not is_absent and "' due to: " not in line:
+    found = parts_of_head(line)
+    if not found:
         return None
-    head, _, target = line[:-len(ABSENT)].rpartition(": target '") if is_absent else ("", "", "")
-    file, _, number = head.rpartition(":")
-    if not (file and number.isdecimal()):        # most lines need no regular expression
-        found = TRACED.match(line)
-        if not found:
-            return None
-        file, number, absent, updated = found.groups()
-        target = absent if absent is not None else updated
+    file, number, target = found
     at = (file, int(number)) if file else None
     for rule in rules.get(target, ()):
         if rule.place == at:
             return Recipe(target, rule.place, [])
     return Recipe(target, Place(*at) if at else None, []) if "(" in target else None
+
+
+def parts_of_head(line: str) -> Optional[Tuple[Optional[str], Optional[str], str]]:
+    """The file, the line number and the target that a line names if it looks like a head."""
+    is_absent = line.endswith(ABSENT)
+    if not is_absent and "' due to: " not in line:
+        return None
+    head, _, target = line[:-len(ABSENT)].rpartition(": target '") if is_absent else ("", "", "")
+    file, _, number = head.rpartition(":")
+    if file and number.isdecimal():              # most lines need no regular expression
+        return file, number, target
+    found = TRACED.match(line)
+    return found and (found[1], found[2], found[4] if found[3] is None else found[3])
 
 
 def ends_open(line: str) -> bool:

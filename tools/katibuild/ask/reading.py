@@ -11,10 +11,12 @@ from ..base.message import Place, Stop
 from ..base.programs import Finished, run
 from . import database, extra_makefiles
 from .answer import Reading
+from .database import Database
 from .question import Question, make_environment, makefile_of, program
 
 NAMES = re.compile(r"(?m)^ *Reading makefile '([^']+)'")
 FAILED = re.compile(r"(.+?):(\d+): (\*\*\* .*)$")
+NO_RULE = re.compile(r"No rule to make target '([^']*)', needed by '([^']*)'")
 
 
 def read(question: Question, keep: bool = False) -> Reading:
@@ -90,3 +92,24 @@ def failure(finished: Finished, room: str) -> Stop:
     if found and not found.group(1).startswith("make"):
         return Stop(found.group(3), place=Place(found.group(1), int(found.group(2))))
     return Stop(words)
+
+
+def named_elsewhere(errors: str, found: Database, folder: str) -> str:
+    """The file that make finds no rule for, if the recipe of another prerequisite has its name; else ''."""
+    said = NO_RULE.search(errors)
+    if not said or said.group(1).startswith("-l") or os.path.lexists(os.path.join(folder, said.group(1))):
+        return ""
+    name, needer = said.groups()
+    beside = [one for rule in found.rules.get(needer, ()) for one in rule.inputs if one != name]
+    return name if any(names(line, one, stem_of(name)) for one in beside for rule in found.rules.get(one, ())
+                       for line in rule.recipe) else ""
+
+
+def names(text: str, target: str, stem: str) -> bool:
+    """Whether the unexpanded line of a target's recipe has the stem of a file, as `$@` or `$*` may have, too."""
+    return stem in text or stem == stem_of(target) and ("$@" in text or "$*" in text or "$(@" in text)
+
+
+def stem_of(name: str) -> str:
+    """The file's name without its folder and its suffix."""
+    return os.path.splitext(os.path.basename(name))[0]

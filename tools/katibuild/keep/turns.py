@@ -58,7 +58,7 @@ def remade(found: Asked) -> FrozenSet[str]:
     """The names that make would make now, as Ninja spells them."""
     # loaded here alone: most runs ask nothing of make
     from ..ask import asking
-    return frozenset(archive_of(name) for name in asking.remade(found.question, found.reading))
+    return frozenset(archive_of(name) for name in asking.remade(found.question, found.reading, found.answer))
 
 
 def archive_of(name: str) -> str:
