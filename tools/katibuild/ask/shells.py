@@ -82,12 +82,13 @@ def refuse_evals(found: Database) -> None:
         return
     values = values_of(found, texts)
     mentions = {name: mentioned(text) for name, text in values.items()}
+    late = [(text, place, mentioned(text)) for text, place in texts.items()]
     for is_eval, is_shell in MEETINGS:
         evals = {name for name, text in values.items() if "eval" in text and is_eval.search(text)}
         shells = {name for name, text in values.items() if "SHELL" in text and is_shell.search(text)}
         evals, shells = naming(mentions, evals), naming(mentions, shells)
-        for text, place in texts.items():
-            own, said = "eval" in text and is_eval.search(text), mentioned(text)
+        for text, place, said in late:
+            own = "eval" in text and is_eval.search(text)
             if ("SHELL" in text and is_shell.search(text) or names_one(said, shells)) \
                     and (own or names_one(said, evals)):
                 led = (one.place for one in (*found.variables.values(), *found.of_targets)
@@ -129,10 +130,12 @@ def names_one(said: Mentions, names: AbstractSet[str]) -> bool:
 def late_texts(found: Database) -> Iterator[Tuple[str, Optional[Place]]]:
     """What make expands after it has read the makefiles: recipes, deferred variables, prerequisites expanded twice."""
     rules: Iterable = (rule for some in (*found.rules.values(), found.patterns) for rule in some)
+    is_twice = ".SECONDEXPANSION" in found.rules
     for rule in rules:
         for line in rule.recipe:
             yield line, rule.place
-        yield " ".join((*rule.inputs, *rule.order_only)), rule.place
+        if is_twice:
+            yield " ".join((*rule.inputs, *rule.order_only)), rule.place
     for one in (*found.variables.values(), *found.of_targets):
         if one.is_deferred and one.origin not in ("default", "environment"):
             yield one.value, one.place
